@@ -1,7 +1,7 @@
 -- Paper 01, "The array": the shape.
-use Prim.Native.Nat.{ℕ, _*_, _-_}
+use Prim.Native.Nat.{ℕ, suc, _*_, _-_}
 use mathlib.Core.List.{List, [], _∷_, _++_}
-use mathlib.Core.Bool.{Bool, true, false, _&&_}
+use mathlib.Core.Bool.{Bool, true, false, cond, _&&_}
 use lib.ListN.{length, take, replicate}
 use lib.Dec.{leb}
 use Rattle.shape.specs.declared.Shape.{Shape}
@@ -33,6 +33,10 @@ shapeRule rank ns = leb rank maxRank && (small ns && leb (count ns) maxCount)
 
 abbrev pub goodShape : Shape → Bool
 goodShape s = shapeRule (s .rank) (counted s)
+
+-- The count of a good shape, and one more than the largest count for a bad one.
+unfoldable pub countOf : Shape → ℕ
+countOf s = cond (goodShape s) (count (counted s)) (suc maxCount)
 
 -- In a result the lengths past the rank are 0.
 abbrev pub shapeOf : List ℕ → Shape
