@@ -1,1 +1,4 @@
 pub mod Exercises
+pub mod Tab
+pub mod Arrays
+pub mod Replies

@@ -83,9 +83,13 @@ settle zero m out = record {
 }
 settle (suc n) m out = record { number = suc n; shape = scalar; out = out }
 
+-- What the primitive of number n gives for a call's operands.
+abbrev pub meaningOf : ℤ → ℤ → ℤ → Operand → Operand → Meaning
+meaningOf n G K L R = named n primitives .meaning G K (arrayOf L) (arrayOf R)
+
 -- The reply to a call: primitive number, origin G, axis number K, operands L and R, output buffer.
 unfoldable pub reply : ℤ → ℤ → ℤ → Operand → Operand → List ℤ → Reply
 reply n G K L R out =
     let p : Primitive = named n primitives in
-    let m : Meaning = p .meaning G K (arrayOf L) (arrayOf R) in
+    let m : Meaning = meaningOf n G K L R in
     settle (winner (precedence (p .number)) (refusals p G L R m (length out))) m out

@@ -1,0 +1,116 @@
+-- Calls that succeed, and calls that follow them, with the primitive open.
+use mathlib.Core.Path.{_≡_, refl, sym, ap, ap₂, subst₂, _∙_}
+use mathlib.Core.List.{List, [], _∷_, _++_}
+use mathlib.Core.Bool.{Bool, true, false, not, _&&_, _||_}
+use Prim.Native.Nat.{ℕ, suc, _+_, _-_, _≤_}
+use native.Mathlib.Omega.{arith}
+use borrow.Author.Tests.{le-leb, leb-true}
+use lib.ListN.{length, take, drop, replicate, length-append, length-replicate, length-drop}
+use lib.Seq.{take-at, length-take-le, length-front}
+use lib.Dec.{leb}
+use lib.IntN.{ℤ}
+use Rattle.shape.specs.Shape.{maxRank, maxCount, counted, count, small, shapeRule, goodShape, shapeOf}
+use Rattle.shape.proofs.Bools.{both, and-true, or-right}
+use Rattle.meaning.specs.Array.{Operand, Array, arrayOf, goodForm, build}
+use Rattle.meaning.specs.Terms.{rank}
+use Rattle.meaning.specs.Primitives.{Meaning}
+use Rattle.meaning.specs.Reply.{Reply, Primitive, primitives, named, isOrigin, meaningOf, settle, reply}
+use Rattle.meaning.proofs.Arrays.{Whole, build-lengths, build-whole}
+use Rattle.meaning.proofs.Replies.{NoneMet, Fits, success}
+use Rattle.laws.specs.Words.{IsArray, IsOrigin, given, Succeeds, Same}
+
+-- The result of a meaning.
+abbrev pub result : Meaning → Array
+result m = build (m .lengths) (m .element)
+
+-- The lengths of a shape that is made for a result.
+pub counted-of : (ns : List ℕ) → counted (shapeOf ns) ≡ ns
+counted-of ns = take-at ns _ (length ns) refl
+
+pub rule-rank : (r : ℕ) (ns : List ℕ) → shapeRule r ns ≡ true → r ≤ maxRank
+unfolding shapeRule
+rule-rank r ns h = leb-true r maxRank (both (leb r maxRank) (small ns && leb (count ns) maxCount) h .0)
+
+-- What is known of an operand of good form.
+pub form-shape : (r : Operand) → goodForm r ≡ true → goodShape (r .shape) ≡ true
+unfolding goodForm
+form-shape r h = both (goodShape (r .shape)) (leb (count (counted (r .shape))) (length (r .buffer))) h .0
+
+pub form-room : (r : Operand) → goodForm r ≡ true → count (counted (r .shape)) ≤ length (r .buffer)
+unfolding goodForm
+form-room r h =
+    leb-true (count (counted (r .shape))) (length (r .buffer)) (both (goodShape (r .shape)) (leb (count (counted (r .shape))) (length (r .buffer))) h .1)
+
+pub form-whole : (r : Operand) → goodForm r ≡ true → Whole (arrayOf r)
+form-whole r h = length-take-le _ (r .buffer) (form-room r h)
+
+-- An array has as many lengths as its rank says.
+pub array-rank : (r : Operand) → IsArray r → rank (arrayOf r) ≡ r .shape .rank
+array-rank r h = length-take-le _ (r .shape .lens) (omega (arith, h .lengths, rule-rank _ _ (form-shape r (h .form))))
+
+-- So its lengths keep the shape rule.
+pub array-rule : (r : Operand) → IsArray r → shapeRule (rank (arrayOf r)) (arrayOf r .lengths) ≡ true
+array-rule r h = rw (array-rank r h) (form-shape r (h .form))
+
+-- A reply that gives the array a.
+pub record Gives (y : Reply) (a : Array) : Type 0 where
+  pub number : Succeeds y
+  pub rank : y .shape .rank ≡ length (a .lengths)
+  pub array : arrayOf (given y) ≡ a
+  pub good : IsArray (given y)
+
+module _ (y : Reply) (ns : List ℕ) (xs out : List ℤ) (e : y ≡ record { number = 0; shape = shapeOf ns; out = xs ++ drop (count ns) out })
+    (w : length xs ≡ count ns) (h : shapeRule (length ns) ns ≡ true) where
+  given-array : arrayOf (given y) ≡ record { lengths = ns; elements = xs }
+  given-array =
+      ap (λ a. arrayOf (given a)) e
+      ∙ ap₂ (λ l c. record { lengths = l; elements = take c (xs ++ drop (count ns) out) }) (counted-of ns) (ap count (counted-of ns))
+      ∙ ap (λ v. record { lengths = ns; elements = v }) (take-at xs (drop (count ns) out) (count ns) w)
+
+  long : length (ns ++ replicate {A = ℕ} (maxRank - length ns) 0) ≡ maxRank
+  long = length-append ns _ ∙ (rw length-replicate (omega (arith, rule-rank _ ns h)))
+
+  given-good : IsArray (given y)
+  unfolding goodForm
+  given-good = rw e (record {
+    lengths = long;
+    form =
+      rw (counted-of ns, h)
+      (le-leb (count ns) (length (xs ++ drop (count ns) out)) (rw (length-append xs (drop (count ns) out)) (omega (arith, w))))
+  })
+
+  settled : Gives y (record { lengths = ns; elements = xs })
+  settled = record { number = ap (λ a. a .number) e; rank = ap (λ a. a .shape .rank) e; array = given-array; good = given-good }
+
+-- A call gives the primitive's result where nothing is met.
+gives-own : (n G K : ℤ) (L R : Operand) (out : List ℤ) → Fits (named n primitives) G L R (meaningOf n G K L R) (length out)
+    → Gives (reply n G K L R out) (result (meaningOf n G K L R))
+unfolding settle build
+gives-own n G K L R out f =
+    let m : Meaning = meaningOf n G K L R in
+    settled (reply n G K L R out) (m .lengths) (result m .elements) out (success n G K L R out f) (build-whole (m .lengths) (m .element)) (f .limit)
+
+-- The same for operands that hold the arrays A and B.
+pub gives : (n G K : ℤ) (L R : Operand) (A B : Array) (out : List ℤ) → arrayOf L ≡ A → arrayOf R ≡ B
+    → Fits (named n primitives) G L R (named n primitives .meaning G K A B) (length out)
+    → Gives (reply n G K L R out) (result (named n primitives .meaning G K A B))
+gives n G K L R A B out a b =
+    subst₂
+    (λ X Y.
+      Fits (named n primitives) G L R (named n primitives .meaning G K X Y) (length out)
+      → Gives (reply n G K L R out) (result (named n primitives .meaning G K X Y)))
+    a
+    b
+    (gives-own n G K L R out)
+
+-- Two replies that give one array are the same.
+pub same-arrays : {y z : Reply} {a b : Array} → Gives y a → Gives z b → a ≡ b → Same (given y) (given z)
+same-arrays {y} {z} {a} {b} g h e =
+    let q : arrayOf (given y) ≡ arrayOf (given z) = g .array ∙ e ∙ sym (h .array) in
+    record { rank = g .rank ∙ ap (λ c. length (c .lengths)) e ∙ sym (h .rank); lengths = ap (λ c. c .lengths) q; elements = ap (λ c. c .elements) q }
+
+-- A reply that gives the array of r.
+pub same-array : {y : Reply} {a : Array} (r : Operand) → IsArray r → Gives y a → a ≡ arrayOf r → Same (given y) r
+same-array {y} {a} r h g e =
+    let q : arrayOf (given y) ≡ arrayOf r = g .array ∙ e in
+    record { rank = g .rank ∙ ap (λ c. length (c .lengths)) e ∙ array-rank r h; lengths = ap (λ c. c .lengths) q; elements = ap (λ c. c .elements) q }

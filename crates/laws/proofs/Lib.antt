@@ -1,0 +1,6 @@
+pub mod Calls
+pub mod Moves
+pub mod Modulo
+pub mod Sum
+pub mod Occurs
+pub mod Permuted
