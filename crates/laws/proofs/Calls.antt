@@ -17,7 +17,7 @@ use Rattle.meaning.specs.Primitives.{Meaning}
 use Rattle.meaning.specs.Reply.{Reply, Primitive, primitives, named, isOrigin, meaningOf, settle, reply}
 use Rattle.meaning.proofs.Arrays.{Whole, build-lengths, build-whole}
 use Rattle.meaning.proofs.Replies.{NoneMet, Fits, success}
-use Rattle.laws.specs.Words.{IsArray, IsOrigin, given, Succeeds, Same}
+use Rattle.laws.specs.Words.{IsArray, IsOrigin, given, Succeeds, Same, Lists, occurs, AsOften}
 
 -- The result of a meaning.
 abbrev pub result : Meaning → Array
@@ -114,3 +114,14 @@ pub same-array : {y : Reply} {a : Array} (r : Operand) → IsArray r → Gives y
 same-array {y} {a} r h g e =
     let q : arrayOf (given y) ≡ arrayOf r = g .array ∙ e in
     record { rank = g .rank ∙ ap (λ c. length (c .lengths)) e ∙ array-rank r h; lengths = ap (λ c. c .lengths) q; elements = ap (λ c. c .elements) q }
+
+-- What a reply gives holds each number as often as r.
+pub as-often : {y : Reply} {b : Array} (r : Operand) → Gives y b → ((x : ℤ) → occurs x (b .elements) ≡ occurs x (arrayOf r .elements)) → AsOften (given y) r
+as-often r g f x = ap (λ c. occurs x (c .elements)) (g .array) ∙ f x
+
+-- The array of an operand that lists xs.
+abbrev pub listed : Operand → List ℤ → Array
+listed l xs = record { lengths = arrayOf l .lengths; elements = xs }
+
+pub lists-array : (l : Operand) (xs : List ℤ) → Lists l xs → arrayOf l ≡ listed l xs
+lists-array l xs s = ap (λ v. record { lengths = arrayOf l .lengths; elements = v }) (s .elements)

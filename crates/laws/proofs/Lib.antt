@@ -4,3 +4,4 @@ pub mod Modulo
 pub mod Sum
 pub mod Occurs
 pub mod Permuted
+pub mod Turns
