@@ -10,14 +10,15 @@ use lib.Seq.{take-at, length-take-le, length-front}
 use lib.Dec.{leb}
 use lib.IntN.{ℤ}
 use Rattle.shape.specs.Shape.{maxRank, maxCount, counted, count, small, shapeRule, goodShape, shapeOf}
-use Rattle.shape.proofs.Bools.{both, and-true, or-right}
+use Rattle.shape.proofs.Bools.{both}
+use Rattle.shape.proofs.Rule.{rule-rank}
 use Rattle.meaning.specs.Array.{Operand, Array, arrayOf, goodForm, build}
 use Rattle.meaning.specs.Terms.{rank}
 use Rattle.meaning.specs.Primitives.{Meaning}
 use Rattle.meaning.specs.Reply.{Reply, Primitive, primitives, named, isOrigin, meaningOf, settle, reply}
 use Rattle.meaning.proofs.Arrays.{Whole, build-lengths, build-whole}
 use Rattle.meaning.proofs.Replies.{NoneMet, Fits, success}
-use Rattle.laws.specs.Words.{IsArray, IsOrigin, given, Succeeds, Same, Lists, occurs, AsOften}
+use Rattle.laws.specs.Words.{IsArray, IsOrigin, IsLong, given, Succeeds, Same, Lists, occurs, AsOften}
 
 -- The result of a meaning.
 abbrev pub result : Meaning → Array
@@ -26,10 +27,6 @@ result m = build (m .lengths) (m .element)
 -- The lengths of a shape that is made for a result.
 pub counted-of : (ns : List ℕ) → counted (shapeOf ns) ≡ ns
 counted-of ns = take-at ns _ (length ns) refl
-
-pub rule-rank : (r : ℕ) (ns : List ℕ) → shapeRule r ns ≡ true → r ≤ maxRank
-unfolding shapeRule
-rule-rank r ns h = leb-true r maxRank (both (leb r maxRank) (small ns && leb (count ns) maxCount) h .0)
 
 -- What is known of an operand of good form.
 pub form-shape : (r : Operand) → goodForm r ≡ true → goodShape (r .shape) ≡ true
@@ -90,18 +87,28 @@ gives-own n G K L R out f =
     let m : Meaning = meaningOf n G K L R in
     settled (reply n G K L R out) (m .lengths) (result m .elements) out (success n G K L R out f) (build-whole (m .lengths) (m .element)) (f .limit)
 
--- The same for operands that hold the arrays A and B.
-pub gives : (n G K : ℤ) (L R : Operand) (A B : Array) (out : List ℤ) → arrayOf L ≡ A → arrayOf R ≡ B
-    → Fits (named n primitives) G L R (named n primitives .meaning G K A B) (length out)
+-- What a call asks beside room in its output buffer.
+pub record Passes (p : Primitive) (G : ℤ) (L R : Operand) (m : Meaning) : Type 0 where
+  pub left : (leb (p .operands) 1 || goodForm L) ≡ true
+  pub right : goodForm R ≡ true
+  pub origin : isOrigin G ≡ true
+  pub limit : shapeRule (length (m .lengths)) (m .lengths) ≡ true
+  pub own : NoneMet (m .refusals)
+
+-- A call whose operands hold the arrays A and B gives the primitive's result for them.
+pub gives : (n G K : ℤ) (L R : Operand) (A B : Array) (out : List ℤ) → arrayOf L ≡ A → arrayOf R ≡ B → IsLong n G K L R out
+    → Passes (named n primitives) G L R (named n primitives .meaning G K A B)
     → Gives (reply n G K L R out) (result (named n primitives .meaning G K A B))
-gives n G K L R A B out a b =
+gives n G K L R A B out a b room =
     subst₂
     (λ X Y.
-      Fits (named n primitives) G L R (named n primitives .meaning G K X Y) (length out)
+      Passes (named n primitives) G L R (named n primitives .meaning G K X Y)
       → Gives (reply n G K L R out) (result (named n primitives .meaning G K X Y)))
     a
     b
-    (gives-own n G K L R out)
+    (λ f.
+      gives-own n G K L R out
+      (record { left = f .left; right = f .right; origin = f .origin; limit = f .limit; space = le-leb _ _ room; own = f .own }))
 
 -- Two replies that give one array are the same.
 pub same-arrays : {y z : Reply} {a b : Array} → Gives y a → Gives z b → a ≡ b → Same (given y) (given z)

@@ -5,3 +5,4 @@ pub mod Sum
 pub mod Occurs
 pub mod Permuted
 pub mod Turns
+pub mod Ravel

@@ -33,15 +33,15 @@ module _ (G K : ℤ) (r : Operand) (out : List ℤ) (o : IsOrigin G) (h : IsArra
   reverse-gives : (l : Operand) → IsLong (pos 14) G K l r out → Gives (reply (pos 14) G K l r out) (turned G K (arrayOf r))
   unfolding named primitives eqZ reverse moved
   reverse-gives l room =
-      gives (pos 14) G K l r (arrayOf l) (arrayOf r) out refl refl
-      (record { left = refl; right = h .form; origin = o; limit = array-rule r h; space = le-leb _ _ room; own = (ap not t, tt) })
+      gives (pos 14) G K l r (arrayOf l) (arrayOf r) out refl refl room
+      (record { left = refl; right = h .form; origin = o; limit = array-rule r h; own = (ap not t, tt) })
 
   rotate-gives : (l : Operand) (z : ℤ) → IsSingle l z → IsLong (pos 25) G K l r out → Gives (reply (pos 25) G K l r out) (rotated G K z (arrayOf r))
   unfolding named primitives eqZ rotate moved
   rotate-gives l z s room =
-      gives (pos 25) G K l r (listed l (z ∷ [])) (arrayOf r) out (lists-array l (z ∷ []) s) refl
+      gives (pos 25) G K l r (listed l (z ∷ [])) (arrayOf r) out (lists-array l (z ∷ []) s) refl room
       (record {
-        left = s .form; right = h .form; origin = o; limit = array-rule r h; space = le-leb _ _ room; own = (ap not (s .list), (ap not t, (refl, tt)))
+        left = s .form; right = h .form; origin = o; limit = array-rule r h; own = (ap not (s .list), (ap not t, (refl, tt)))
       })
 
 -- A moved array has the axes of the array that it was made of.
