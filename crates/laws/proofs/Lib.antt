@@ -6,3 +6,5 @@ pub mod Occurs
 pub mod Permuted
 pub mod Turns
 pub mod Ravel
+pub mod Transposed
+pub mod Transposes
