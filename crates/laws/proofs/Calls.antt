@@ -72,8 +72,8 @@ module _ (y : Reply) (ns : List ℕ) (xs out : List ℤ) (e : y ≡ record { num
   given-good = rw e (record {
     lengths = long;
     form =
-      rw (counted-of ns, h)
-      (le-leb (count ns) (length (xs ++ drop (count ns) out)) (rw (length-append xs (drop (count ns) out)) (omega (arith, w))))
+        rw (counted-of ns, h)
+        (le-leb (count ns) (length (xs ++ drop (count ns) out)) (rw (length-append xs (drop (count ns) out)) (omega (arith, w))));
   })
 
   settled : Gives y (record { lengths = ns; elements = xs })
@@ -102,13 +102,13 @@ pub gives : (n G K : ℤ) (L R : Operand) (A B : Array) (out : List ℤ) → arr
 gives n G K L R A B out a b room =
     subst₂
     (λ X Y.
-      Passes (named n primitives) G L R (named n primitives .meaning G K X Y)
-      → Gives (reply n G K L R out) (result (named n primitives .meaning G K X Y)))
+    Passes (named n primitives) G L R (named n primitives .meaning G K X Y)
+    → Gives (reply n G K L R out) (result (named n primitives .meaning G K X Y)))
     a
     b
     (λ f.
-      gives-own n G K L R out
-      (record { left = f .left; right = f .right; origin = f .origin; limit = f .limit; space = le-leb _ _ room; own = f .own }))
+    gives-own n G K L R out
+    (record { left = f .left; right = f .right; origin = f .origin; limit = f .limit; space = le-leb _ _ room; own = f .own }))
 
 -- Two replies that give one array are the same.
 pub same-arrays : {y z : Reply} {a b : Array} → Gives y a → Gives z b → a ≡ b → Same (given y) (given z)

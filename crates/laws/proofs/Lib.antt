@@ -8,3 +8,5 @@ pub mod Turns
 pub mod Ravel
 pub mod Transposed
 pub mod Transposes
+pub mod Cut
+pub mod Join

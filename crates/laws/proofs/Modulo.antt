@@ -57,7 +57,7 @@ modulo-sum (pos m) b n h =
 modulo-sum (negsuc m) b n h =
     let l : suc (m % n) ≤ n = mod-lt m h in
     let e : negsuc m +ℤ pos (suc (m / n) * n) ≡ pos (n - suc (m % n)) =
-      subℕ-pos (suc (m / n) * n) (suc m) (omega (arith, div-add-mod' m n)) ∙ ap pos (omega (arith, div-add-mod' m n)) in
+    subℕ-pos (suc (m / n) * n) (suc m) (omega (arith, div-add-mod' m n)) ∙ ap pos (omega (arith, div-add-mod' m n)) in
     sym (ap (λ x. modulo (x +ℤ b) n) e) ∙ swapped (negsuc m) b (suc (m / n)) n
 
 -- A number below n is its own remainder.

@@ -39,16 +39,18 @@ module _ (t s : List ℕ) (σ τ : List ℕ → List ℕ) (h : OneToOne t s σ �
   to-ok : (i : ℕ) → i < count t → (to i < count s) × (from (to i) ≡ i)
   unfolding to from
   to-ok i l =
-      let p : In t (place t i) = place-in t i l in
-      (index-lt s _ (h .there _ p),
-        ap (λ q. index t (τ q)) (place-index s _ (h .there _ p)) ∙ ap (index t) (h .there-back _ p) ∙ index-place t i l)
+      let p : In t (place t i) = place-in t i l in (
+        index-lt s _ (h .there _ p),
+        ap (λ q. index t (τ q)) (place-index s _ (h .there _ p)) ∙ ap (index t) (h .there-back _ p) ∙ index-place t i l,
+      )
 
   from-ok : (j : ℕ) → j < count s → (from j < count t) × (to (from j) ≡ j)
   unfolding to from
   from-ok j l =
-      let q : In s (place s j) = place-in s j l in
-      (index-lt t _ (h .back _ q),
-        ap (λ p. index s (σ p)) (place-index t _ (h .back _ q)) ∙ ap (index s) (h .back-there _ q) ∙ index-place s j l)
+      let q : In s (place s j) = place-in s j l in (
+        index-lt t _ (h .back _ q),
+        ap (λ p. index s (σ p)) (place-index t _ (h .back _ q)) ∙ ap (index s) (h .back-there _ q) ∙ index-place s j l,
+      )
 
   pub permuted-occurs : (x : ℤ) (xs : List ℤ) → length xs ≡ count s
       → occurs x (build t (λ p. at (record { lengths = s; elements = xs }) (σ p)) .elements) ≡ occurs x xs
@@ -85,10 +87,11 @@ moved-occurs a k f g w p q x = by (decLt k (rank a))
           there = λ r i. stays a k (f (getD r k 0)) r (p _ (under r i) .0) i;
           back = λ r i. stays a k (g (getD r k 0)) r (q _ (under r i) .0) i;
           there-back = λ r i.
-            set-set r k _ _ ∙ ap (λ y. set r k (g y)) (getD-set-same r k _ 0 (has r i)) ∙ ap (set r k) (p _ (under r i) .1) ∙ set-getD r k 0;
+              set-set r k _ _ ∙ ap (λ y. set r k (g y)) (getD-set-same r k _ 0 (has r i)) ∙ ap (set r k) (p _ (under r i) .1) ∙ set-getD r k 0;
           back-there = λ r i.
-            set-set r k _ _ ∙ ap (λ y. set r k (f y)) (getD-set-same r k _ 0 (has r i)) ∙ ap (set r k) (q _ (under r i) .1) ∙ set-getD r k 0
+              set-set r k _ _ ∙ ap (λ y. set r k (f y)) (getD-set-same r k _ 0 (has r i)) ∙ ap (set r k) (q _ (under r i) .1) ∙ set-getD r k 0;
         }
+
     by : Dec (k < rank a) → occurs x (moved a k f .elements) ≡ occurs x (a .elements)
     by (yes l) = permuted-occurs (a .lengths) (a .lengths) _ _ (one l) x (a .elements) w
     by (no l) = ap (λ b. occurs x (b .elements)) (build-ext (a .lengths) _ _ (λ r i. along-out a k f r (omega arith) i) ∙ build-at a w)

@@ -114,12 +114,17 @@ pub broughtBack-in : (ts s q : List ℕ) → length ts ≡ length s → In (sent
 broughtBack-in ts s q e h =
     in-from s (broughtBack ts q) (length-back ts q ∙ e)
     (λ i l.
-      let l′ : i < length ts = omega arith in
-      let j : ℕ = getD ts i 0 in
-      let r = sent-has ts s i e l′ in
-      omega
-      (arith, getD-back ts q i l′, in-at (sentLengths ts s) q j h (rw (length-shape ts s) (axes-lt ts i l′)), getD-shape ts s j (axes-lt ts i l′),
-        smallest-le (sentTo j ts s) (r .0) (r .1), r .2))
+    let l′ : i < length ts = omega arith in
+    let j : ℕ = getD ts i 0 in
+    let r = sent-has ts s i e l′ in
+    omega (
+      arith,
+      getD-back ts q i l′,
+      in-at (sentLengths ts s) q j h (rw (length-shape ts s) (axes-lt ts i l′)),
+      getD-shape ts s j (axes-lt ts i l′),
+      smallest-le (sentTo j ts s) (r .0) (r .1),
+      r .2,
+    ))
 
 -- The first position of j in ts, its length where there is none.
 unfoldable pub find : ℕ → List ℕ → ℕ
@@ -168,19 +173,19 @@ module _ (ts : List ℕ) (P : Permutes (length ts) ts) where
   broughtBack-back p e =
       ext-getD 0 (broughtBack ts (broughtBack (inverse ts) p)) p (length-back ts _ ∙ sym e)
       (λ i h.
-        let h′ : i < length ts = omega (arith, length-back ts (broughtBack (inverse ts) p)) in
-        getD-back ts _ i h′
-        ∙ getD-back (inverse ts) p (getD ts i 0) (rw (length-inverse ts) (P .below i h′))
-        ∙ ap (λ l. getD p l 0) (back i h′))
+      let h′ : i < length ts = omega (arith, length-back ts (broughtBack (inverse ts) p)) in
+      getD-back ts _ i h′
+      ∙ getD-back (inverse ts) p (getD ts i 0) (rw (length-inverse ts) (P .below i h′))
+      ∙ ap (λ l. getD p l 0) (back i h′))
 
   pub broughtBack-forth : (q : List ℕ) → length q ≡ length ts → broughtBack (inverse ts) (broughtBack ts q) ≡ q
   broughtBack-forth q e =
       ext-getD 0 (broughtBack (inverse ts) (broughtBack ts q)) q (length-back (inverse ts) _ ∙ length-inverse ts ∙ sym e)
       (λ i h.
-        let h′ : i < length ts = omega (arith, length-back (inverse ts) (broughtBack ts q), length-inverse ts) in
-        getD-back (inverse ts) _ i (rw (length-inverse ts) h′)
-        ∙ getD-back ts q (getD (inverse ts) i 0) (there i h′ .0)
-        ∙ ap (λ l. getD q l 0) (there i h′ .1))
+      let h′ : i < length ts = omega (arith, length-back (inverse ts) (broughtBack ts q), length-inverse ts) in
+      getD-back (inverse ts) _ i (rw (length-inverse ts) h′)
+      ∙ getD-back ts q (getD (inverse ts) i 0) (there i h′ .0)
+      ∙ ap (λ l. getD q l 0) (there i h′ .1))
 
   pub axes-is : axesTo ts ≡ length ts
   axes-is = by (length ts) refl
@@ -205,15 +210,19 @@ module _ (ts : List ℕ) (P : Permutes (length ts) ts) where
     broughtBack-one = record {
       there = λ q h. broughtBack-in ts s q e h;
       back = λ p h.
-        in-from (sentLengths ts s) (broughtBack (inverse ts) p) (length-back (inverse ts) p ∙ length-inverse ts ∙ sym axes-is ∙ sym (length-shape ts s))
-        (λ j l.
+          in-from (sentLengths ts s) (broughtBack (inverse ts) p) (length-back (inverse ts) p ∙ length-inverse ts ∙ sym axes-is ∙ sym (length-shape ts s))
+          (λ j l.
           let l′ : j < length ts = omega (arith, length-shape ts s, axes-is) in
           let w = there j l′ in
-          omega
-          (arith, getD-back (inverse ts) p j (rw (length-inverse ts) l′), in-at s p (getD (inverse ts) j 0) h (rw e at (w .0)), shape-at (getD (inverse ts) j 0) (w .0),
-            ap (λ k. getD (sentLengths ts s) k 0) (w .1)));
+          omega (
+            arith,
+            getD-back (inverse ts) p j (rw (length-inverse ts) l′),
+            in-at s p (getD (inverse ts) j 0) h (rw e at (w .0)),
+            shape-at (getD (inverse ts) j 0) (w .0),
+            ap (λ k. getD (sentLengths ts s) k 0) (w .1),
+          ));
       there-back = λ q h. broughtBack-forth q (in-length (sentLengths ts s) q h ∙ length-shape ts s ∙ axes-is);
-      back-there = λ p h. broughtBack-back p (in-length s p h ∙ sym e)
+      back-there = λ p h. broughtBack-back p (in-length s p h ∙ sym e);
     }
 
 -- A permuting transposition keeps each number as often as it is.
@@ -228,16 +237,16 @@ pub permutes-broughtBack : (ts us : List ℕ) → Permutes (length ts) ts → Pe
 permutes-broughtBack ts us P Q e = record {
   size = refl;
   below = λ i h. let h′ : i < length ts = rw (length-back ts us) at h in
-    omega (arith, getD-back ts us i h′, Q .below (getD ts i 0) (rw e (P .below i h′)), length-back ts us);
+      omega (arith, getD-back ts us i h′, Q .below (getD ts i 0) (rw e (P .below i h′)), length-back ts us);
   each = λ j h.
-    let a = Q .each j (omega (arith, length-back ts us)) in
-    let b = P .each (a .0) (omega (arith, a .1)) in
-    (b .0, omega (arith, length-back ts us, b .1), getD-back ts us (b .0) (b .1) ∙ ap (λ k. getD us k 0) (b .2) ∙ a .2);
+      let a = Q .each j (omega (arith, length-back ts us)) in
+      let b = P .each (a .0) (omega (arith, a .1)) in
+      (b .0, omega (arith, length-back ts us, b .1), getD-back ts us (b .0) (b .1) ∙ ap (λ k. getD us k 0) (b .2) ∙ a .2);
   once = λ i l h k q.
-    let h′ : i < length ts = rw (length-back ts us) at h in
-    let k′ : l < length ts = rw (length-back ts us) at k in
-    P .once i l h′ k′
-    (Q .once (getD ts i 0) (getD ts l 0) (rw e (P .below i h′)) (rw e (P .below l k′)) (sym (getD-back ts us i h′) ∙ q ∙ getD-back ts us l k′))
+      let h′ : i < length ts = rw (length-back ts us) at h in
+      let k′ : l < length ts = rw (length-back ts us) at k in
+      P .once i l h′ k′
+      (Q .once (getD ts i 0) (getD ts l 0) (rw e (P .below i h′)) (rw e (P .below l k′)) (sym (getD-back ts us i h′) ∙ q ∙ getD-back ts us l k′));
 }
 
 module _ (ts us : List ℕ) (P : Permutes (length ts) ts) (Q : Permutes (length us) us) (e : length us ≡ length ts) (s : List ℕ) (f : length ts ≡ length s) where
@@ -252,16 +261,16 @@ module _ (ts us : List ℕ) (P : Permutes (length ts) ts) (Q : Permutes (length 
       ext-getD 0 _ _
       (length-shape us _ ∙ axes-is us Q ∙ e ∙ sym (length-back ts us) ∙ sym (axes-is (broughtBack ts us) R) ∙ sym (length-shape (broughtBack ts us) s))
       (λ j h.
-        let a = Q .each j (omega (arith, length-shape us (sentLengths ts s), axes-is us Q)) in
-        let b = P .each (a .0) (omega (arith, a .1)) in
-        let i : ℕ = a .0 in
-        let l : ℕ = b .0 in
-        let u : getD (sentLengths us (sentLengths ts s)) (getD us i 0) 0 ≡ getD (sentLengths ts s) i 0 = shape-at us Q (sentLengths ts s) shape-length i (a .1) in
-        let v : getD (sentLengths ts s) (getD ts l 0) 0 ≡ getD s l 0 = shape-at ts P s f l (b .1) in
-        let w : getD (sentLengths (broughtBack ts us) s) (getD (broughtBack ts us) l 0) 0 ≡ getD s l 0 =
-          shape-at (broughtBack ts us) R s (length-back ts us ∙ f) l (rw (length-back ts us) (b .1)) in
-        let g : getD (broughtBack ts us) l 0 ≡ getD us (getD ts l 0) 0 = getD-back ts us l (b .1) in
-        cc (a .2, b .2))
+      let a = Q .each j (omega (arith, length-shape us (sentLengths ts s), axes-is us Q)) in
+      let b = P .each (a .0) (omega (arith, a .1)) in
+      let i : ℕ = a .0 in
+      let l : ℕ = b .0 in
+      let u : getD (sentLengths us (sentLengths ts s)) (getD us i 0) 0 ≡ getD (sentLengths ts s) i 0 = shape-at us Q (sentLengths ts s) shape-length i (a .1) in
+      let v : getD (sentLengths ts s) (getD ts l 0) 0 ≡ getD s l 0 = shape-at ts P s f l (b .1) in
+      let w : getD (sentLengths (broughtBack ts us) s) (getD (broughtBack ts us) l 0) 0 ≡ getD s l 0 =
+      shape-at (broughtBack ts us) R s (length-back ts us ∙ f) l (rw (length-back ts us) (b .1)) in
+      let g : getD (broughtBack ts us) l 0 ≡ getD us (getD ts l 0) 0 = getD-back ts us l (b .1) in
+      cc (a .2, b .2))
 
 pub transposed-transposed : (ts us : List ℕ) (a : Array) → Permutes (length ts) ts → Permutes (length us) us → length us ≡ length ts → length ts ≡ length (a .lengths)
     → transposed us (transposed ts a) ≡ transposed (broughtBack ts us) a
@@ -271,9 +280,9 @@ transposed-transposed ts us a P Q e f =
     ap (λ t. build t (λ q. at (transposed ts a) (broughtBack us q))) (ap (sentLengths us) (build-lengths _ _) ∙ shapes ts us P Q e s f)
     ∙ build-ext (sentLengths (broughtBack ts us) s) _ _
     (λ q i.
-      at-build (sentLengths ts s) (λ p. at a (broughtBack ts p)) (broughtBack us q)
-      (broughtBack-in us (sentLengths ts s) q (shape-length ts us P Q e s f) (rw (shapes ts us P Q e s f) i))
-      ∙ ap (at a) (back-back ts us q (λ k h. rw e (P .below k h))))
+    at-build (sentLengths ts s) (λ p. at a (broughtBack ts p)) (broughtBack us q)
+    (broughtBack-in us (sentLengths ts s) q (shape-length ts us P Q e s f) (rw (shapes ts us P Q e s f) i))
+    ∙ ap (at a) (back-back ts us q (λ k h. rw e (P .below k h))))
 
 pub permutes-backwards : (r : ℕ) → Permutes (length (backwards r)) (backwards r)
 unfolding backwards
@@ -281,9 +290,9 @@ permutes-backwards r = record {
   size = refl;
   below = λ i h. let h′ : i < r = rw length-tab at h in rw (getD-tab r (λ i. r - 1 - i) i 0 h′, length-tab) (omega arith);
   each = λ j h. let h′ : j < r = rw length-tab at h in
-    (r - 1 - j, rw length-tab (omega arith), getD-tab r (λ i. r - 1 - i) (r - 1 - j) 0 (omega arith) ∙ omega arith);
+      (r - 1 - j, rw length-tab (omega arith), getD-tab r (λ i. r - 1 - i) (r - 1 - j) 0 (omega arith) ∙ omega arith);
   once = λ i l h k q.
-    let h′ : i < r = rw length-tab at h in
-    let k′ : l < r = rw length-tab at k in
-    omega (arith, getD-tab r (λ i. r - 1 - i) i 0 h′, getD-tab r (λ i. r - 1 - i) l 0 k′)
+      let h′ : i < r = rw length-tab at h in
+      let k′ : l < r = rw length-tab at k in
+      omega (arith, getD-tab r (λ i. r - 1 - i) i 0 h′, getD-tab r (λ i. r - 1 - i) l 0 k′);
 }

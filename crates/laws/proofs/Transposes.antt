@@ -54,11 +54,11 @@ module _ (ts : List ℕ) (P : Permutes (length ts) ts) where
   occur =
       every-from _ (tab (axesTo ts) (λ j. j)) 0
       (λ j l.
-        let j< : j < axesTo ts = rw (length-tab (axesTo ts) (λ (j : ℕ). j)) at l in
-        let w = P .each j (omega (arith, axes-is ts P)) in
-        let s = sent-has ts ts (w .0) refl (w .1) in
-        let e : getD (tab (axesTo ts) (λ j. j)) j 0 ≡ getD ts (w .0) 0 = getD-tab (axesTo ts) (λ j. j) j 0 j< ∙ sym (w .2) in
-        rw (e, ne-eqb (length (sentTo (getD ts (w .0) 0) ts ts)) 0 (λ z. omega (arith, s .1))))
+      let j< : j < axesTo ts = rw (length-tab (axesTo ts) (λ (j : ℕ). j)) at l in
+      let w = P .each j (omega (arith, axes-is ts P)) in
+      let s = sent-has ts ts (w .0) refl (w .1) in
+      let e : getD (tab (axesTo ts) (λ j. j)) j 0 ≡ getD ts (w .0) 0 = getD-tab (axesTo ts) (λ j. j) j 0 j< ∙ sym (w .2) in
+      rw (e, ne-eqb (length (sentTo (getD ts (w .0) 0) ts ts)) 0 (λ z. omega (arith, s .1))))
 
   module _ (ns : List ℕ) (e : length ts ≡ length ns) where
     -- The lengths of the result keep the shape rule.
@@ -68,10 +68,10 @@ module _ (ts : List ℕ) (P : Permutes (length ts) ts) where
         rule _ (sentLengths ts ns) (omega (arith, rule-rank (length ns) ns h))
         (small-from (sentLengths ts ns)
         (λ j l.
-          let w = P .each j (omega arith) in
-          let b : getD ns (w .0) 0 ≤ maxCount = small-at ns (w .0) (rule-small (length ns) ns h) (omega (arith, w .1)) in
-          let q : getD (sentLengths ts ns) j 0 ≡ getD ns (w .0) 0 = ap (λ i. getD (sentLengths ts ns) i 0) (sym (w .2)) ∙ shape-at ts P ns e (w .0) (w .1) in
-          omega arith))
+        let w = P .each j (omega arith) in
+        let b : getD ns (w .0) 0 ≤ maxCount = small-at ns (w .0) (rule-small (length ns) ns h) (omega (arith, w .1)) in
+        let q : getD (sentLengths ts ns) j 0 ≡ getD ns (w .0) 0 = ap (λ i. getD (sentLengths ts ns) i 0) (sym (w .2)) ∙ shape-at ts P ns e (w .0) (w .1) in
+        omega arith))
         (omega (arith, permuted-count (sentLengths ts ns) ns _ _ (broughtBack-one ts P ns e), rule-count (length ns) ns h))
 
 -- A permutation of r axes, by its own length.
@@ -95,7 +95,11 @@ module _ (G K : ℤ) (l r : Operand) (out : List ℤ) (o : IsOrigin G) (h : IsAr
       let p = backwards-permute (rank (arrayOf r)) in
       gives (pos 15) G K l r (arrayOf l) (arrayOf r) out refl refl room
       (record {
-        left = refl; right = h .form; origin = o; limit = sent-rule _ (own p) (arrayOf r .lengths) (p .size) (array-rule r h); own = tt
+        left = refl;
+        right = h .form;
+        origin = o;
+        limit = sent-rule _ (own p) (arrayOf r .lengths) (p .size) (array-rule r h);
+        own = tt;
       })
 
   sent-axes : (ts : List ℕ) → Sends G l ts → Permutes (rank (arrayOf r)) ts → IsLong (pos 26) G K l r out
@@ -111,14 +115,19 @@ module _ (G K : ℤ) (l r : Operand) (out : List ℤ) (o : IsOrigin G) (h : IsAr
         right = h .form;
         origin = o;
         limit =
-          subst (λ us. shapeRule (length (sentLengths us (a .lengths))) (sentLengths us (a .lengths)) ≡ true) (sym (axes-of G ts))
-          (sent-rule ts (own p) (a .lengths) (p .size) (array-rule r h));
-        own =
-          ( ap not (s .list)
-          , ( ap not (eq-eqb (length xs) (rank a) (length-map ts _ ∙ p .size))
-            , ( ap not
-                (ap₂ _&&_ (axes-within G ts (rank a) (λ i b. p .below i (omega (arith, p .size)))) (ap allOccur (axes-of G ts) ∙ occur ts (own p)))
-              , tt ) ) )
+            subst (λ us. shapeRule (length (sentLengths us (a .lengths))) (sentLengths us (a .lengths)) ≡ true) (sym (axes-of G ts))
+            (sent-rule ts (own p) (a .lengths) (p .size) (array-rule r h));
+        own = (
+          ap not (s .list),
+          (
+            ap not (eq-eqb (length xs) (rank a) (length-map ts _ ∙ p .size)),
+            (
+              ap not
+                  (ap₂ _&&_ (axes-within G ts (rank a) (λ i b. p .below i (omega (arith, p .size)))) (ap allOccur (axes-of G ts) ∙ occur ts (own p))),
+              tt,
+            ),
+          ),
+        );
       }))
 
 -- A transposition that permutes all n axes gives the array transposed.
@@ -151,12 +160,13 @@ two-transpositions G K₁ K₂ K r l t u out₁ out₂ out o h s room₁ room₂
     let same : rank (arrayOf once) ≡ rank a = ap rank (first .array) ∙ transposed-rank ts a (own p) (p .size) in
     let second = transposition-gives G K₂ (rank a) u once out₂ o (first .good) same room₂ in
     let both : Permutes (rank a) (sentOn ts us) =
-      subst₂ Permutes (length-back ts us ∙ p .size) (sym (sent-on ts us)) (permutes-broughtBack ts us (own p) (own q) (q .size ∙ sym (p .size))) in
-    let one = sent-axes G K l r out o h (sentOn ts us) s both room in
-    ( first .number
-    , second .number
-    , one .number
-    , same-arrays second one
-      (ap (transposed us) (first .array)
-      ∙ transposed-transposed ts us a (own p) (own q) (q .size ∙ sym (p .size)) (p .size)
-      ∙ ap (λ v. transposed v a) (sym (sent-on ts us))) )
+    subst₂ Permutes (length-back ts us ∙ p .size) (sym (sent-on ts us)) (permutes-broughtBack ts us (own p) (own q) (q .size ∙ sym (p .size))) in
+    let one = sent-axes G K l r out o h (sentOn ts us) s both room in (
+      first .number,
+      second .number,
+      one .number,
+      same-arrays second one
+          (ap (transposed us) (first .array)
+          ∙ transposed-transposed ts us a (own p) (own q) (q .size ∙ sym (p .size)) (p .size)
+          ∙ ap (λ v. transposed v a) (sym (sent-on ts us))),
+    )

@@ -41,7 +41,11 @@ module _ (G K : ℤ) (r : Operand) (out : List ℤ) (o : IsOrigin G) (h : IsArra
   rotate-gives l z s room =
       gives (pos 25) G K l r (listed l (z ∷ [])) (arrayOf r) out (lists-array l (z ∷ []) s) refl room
       (record {
-        left = s .form; right = h .form; origin = o; limit = array-rule r h; own = (ap not (s .list), (ap not t, (refl, tt)))
+        left = s .form;
+        right = h .form;
+        origin = o;
+        limit = array-rule r h;
+        own = (ap not (s .list), (ap not t, (refl, tt)));
       })
 
 -- A moved array has the axes of the array that it was made of.
@@ -63,10 +67,11 @@ two-reversals G K l₁ l₂ r out₁ out₂ o h t room₁ room₂ =
     let once : Operand = given (reply (pos 14) G K l₁ r out₁) in
     let first = reverse-gives G K r out₁ o h t l₁ room₁ in
     let second = reverse-gives G K once out₂ o (first .good) (turn-axis G K r once k _ (first .array) t) l₂ room₂ in
-    let same : axis (arrayOf once) k ≡ axis a k = ap (λ b. axis b k) (first .array) ∙ ap (λ ns. getD ns k 0) (moved-lengths a k _) in
-    ( first .number
-    , second .number
-    , same-array r h second (ap (λ b. moved b k (λ i. axis (arrayOf once) k - 1 - i)) (first .array) ∙ reversed-twice a k (form-whole r (h .form)) _ same) )
+    let same : axis (arrayOf once) k ≡ axis a k = ap (λ b. axis b k) (first .array) ∙ ap (λ ns. getD ns k 0) (moved-lengths a k _) in (
+      first .number,
+      second .number,
+      same-array r h second (ap (λ b. moved b k (λ i. axis (arrayOf once) k - 1 - i)) (first .array) ∙ reversed-twice a k (form-whole r (h .form)) _ same),
+    )
 
 rotated-twice : (a : Array) (k : ℕ) (y z : ℤ) (n : ℕ) → n ≡ axis a k
     → moved (moved a k (λ i. modulo (pos i +ℤ y) (axis a k))) k (λ i. modulo (pos i +ℤ z) n) ≡ moved a k (λ i. modulo (pos i +ℤ (y +ℤ z)) (axis a k))
@@ -75,8 +80,8 @@ rotated-twice a k y z n e =
     ∙ moved-moved a k _ _ (λ i h. modulo-lt _ (axis a k) (omega arith))
     ∙ moved-ext a k _ _
     (λ i h.
-      modulo-sum (pos i +ℤ z) y (axis a k) (omega arith)
-      ∙ ap (λ v. modulo v (axis a k)) (+ℤ-assoc (pos i) z y ∙ ap (λ v. pos i +ℤ v) (+ℤ-comm z y)))
+    modulo-sum (pos i +ℤ z) y (axis a k) (omega arith)
+    ∙ ap (λ v. modulo v (axis a k)) (+ℤ-assoc (pos i) z y ∙ ap (λ v. pos i +ℤ v) (+ℤ-comm z y)))
 
 pub two-rotations : TwoRotations
 two-rotations G K y z ly lz lyz r out₁ out₂ out o h t sy sz syz room₁ room₂ room =
@@ -86,11 +91,12 @@ two-rotations G K y z ly lz lyz r out₁ out₂ out o h t sy sz syz room₁ room
     let first = rotate-gives G K r out₁ o h t ly y sy room₁ in
     let second = rotate-gives G K once out₂ o (first .good) (turn-axis G K r once k _ (first .array) t) lz z sz room₂ in
     let one = rotate-gives G K r out o h t lyz (y +ℤ z) syz room in
-    let same : axis (arrayOf once) k ≡ axis a k = ap (λ b. axis b k) (first .array) ∙ ap (λ ns. getD ns k 0) (moved-lengths a k _) in
-    ( first .number
-    , second .number
-    , one .number
-    , same-arrays second one (ap (λ b. moved b k (λ i. modulo (pos i +ℤ z) (axis (arrayOf once) k))) (first .array) ∙ rotated-twice a k y z _ same) )
+    let same : axis (arrayOf once) k ≡ axis a k = ap (λ b. axis b k) (first .array) ∙ ap (λ ns. getD ns k 0) (moved-lengths a k _) in (
+      first .number,
+      second .number,
+      one .number,
+      same-arrays second one (ap (λ b. moved b k (λ i. modulo (pos i +ℤ z) (axis (arrayOf once) k))) (first .array) ∙ rotated-twice a k y z _ same),
+    )
 
 pub reversal-keeps : ReversalKeeps
 reversal-keeps G K l r out o h t room =
@@ -102,9 +108,10 @@ reversal-keeps G K l r out o h t room =
 pub rotation-keeps : RotationKeeps
 rotation-keeps G K z l r out o h t s room =
     let g = rotate-gives G K r out o h t l z s room in
-    let n : ℕ = axis (arrayOf r) (natAbs (K -ℤ G)) in
-    ( g .number
-    , as-often r g
-      (moved-occurs (arrayOf r) (natAbs (K -ℤ G)) _ (λ i. modulo (pos i +ℤ negℤ z) n) (form-whole r (h .form))
-      (λ i l. (modulo-lt _ n (omega arith), modulo-back i n z l))
-      (λ i l. (modulo-lt _ n (omega arith), modulo-forth i n z l))) )
+    let n : ℕ = axis (arrayOf r) (natAbs (K -ℤ G)) in (
+      g .number,
+      as-often r g
+          (moved-occurs (arrayOf r) (natAbs (K -ℤ G)) _ (λ i. modulo (pos i +ℤ negℤ z) n) (form-whole r (h .form))
+          (λ i l. (modulo-lt _ n (omega arith), modulo-back i n z l))
+          (λ i l. (modulo-lt _ n (omega arith), modulo-forth i n z l))),
+    )

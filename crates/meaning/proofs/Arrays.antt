@@ -42,8 +42,6 @@ build-at a w =
     (tab-ext (count (a .lengths)) _ (λ j. getD (a .elements) j (pos 0)) (λ j l. ap (λ i. getD (a .elements) i (pos 0)) (index-place (a .lengths) j l))
     ∙ (rw (← w) (tab-getD (a .elements) (pos 0))))
 
-
-
 -- Two arrays are equal if their shapes are, and their elements at each place.
 pub array-ext : (a b : Array) → Whole a → Whole b → a .lengths ≡ b .lengths → ((p : List ℕ) → In (a .lengths) p → at a p ≡ at b p) → a ≡ b
 array-ext a b v w e h = sym (build-at a v) ∙ build-ext (a .lengths) (at a) (at b) h ∙ ap (λ t. build t (at b)) e ∙ build-at b w

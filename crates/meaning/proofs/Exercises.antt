@@ -56,7 +56,7 @@ gives n G K L R ns xs = record {
   L = L;
   R = R;
   out = room (suc (length xs));
-  solution = record { number = 0; shape = shapeOf ns; out = xs ++ room 1 }
+  solution = record { number = 0; shape = shapeOf ns; out = xs ++ room 1 };
 }
 
 -- Refused.
@@ -68,7 +68,7 @@ refused n G K L R size why = record {
   L = L;
   R = R;
   out = room size;
-  solution = record { number = why; shape = scalar; out = room size }
+  solution = record { number = why; shape = scalar; out = room size };
 }
 
 -- Lengths 2 3, elements 1 to 6.

@@ -58,5 +58,5 @@ module _ {ℓ} {A : Type ℓ} where
       (tab n (λ i. getD xs (at + i) d))
       (simp (length-take, length-drop, length-tab) (omega arith))
       (λ i l.
-        let l′ : i < n = omega (arith, simp (length-take, length-drop) at l) in
-        getD-take n (drop at xs) i d l′ ∙ getD-drop at xs i d ∙ sym (getD-tab n (λ j. getD xs (at + j) d) i d l′))
+      let l′ : i < n = omega (arith, simp (length-take, length-drop) at l) in
+      getD-take n (drop at xs) i d l′ ∙ getD-drop at xs i d ∙ sym (getD-tab n (λ j. getD xs (at + j) d) i d l′))

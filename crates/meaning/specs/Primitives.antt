@@ -3,7 +3,7 @@
 use Prim.Native.Nat.{ℕ, zero, suc, _+_, _-_, _%_, min, max}
 use mathlib.Core.List.{List, [], _∷_, map}
 use mathlib.Core.Bool.{Bool, true, false, not, cond, _&&_, _||_}
-use lib.ListN.{length, getD, set, replicate} 
+use lib.ListN.{length, getD, set, replicate}
 use lib.ListN.{take as front}
 use lib.Dec.{eqb, leb, ltb}
 use lib.IntN.{ℤ, pos, natAbs, _+ℤ_, _-ℤ_}
@@ -24,7 +24,7 @@ unfoldable pub lengthsOf : Array → Meaning
 lengthsOf R = record {
   refusals = [];
   lengths = rank R ∷ [];
-  element = λ p. pos (axis R (getD p 0 0))
+  element = λ p. pos (axis R (getD p 0 0));
 }
 
 -- 12 ravel: R's elements as a vector.
@@ -32,7 +32,7 @@ unfoldable pub ravel : Array → Meaning
 ravel R = record {
   refusals = [];
   lengths = length (R .elements) ∷ [];
-  element = λ p. getD (R .elements) (getD p 0 0) (pos 0)
+  element = λ p. getD (R .elements) (getD p 0 0) (pos 0);
 }
 
 -- 13 interval: R is a list (else RANK) of one element (else LENGTH); N below 0 is DOMAIN; result G to G + N - 1.
@@ -42,7 +42,7 @@ interval G R =
     record {
       refusals = RANK unless isList R ∷ LENGTH unless eqb (length (R .elements)) 1 ∷ DOMAIN when negative N ∷ [];
       lengths = natAbs N ∷ [];
-      element = λ p. G +ℤ pos (getD p 0 0)
+      element = λ p. G +ℤ pos (getD p 0 0);
     }
 
 -- 14 reverse: position i on axis k takes n - 1 - i, n its length. A scalar returns as a scalar.
@@ -53,7 +53,7 @@ reverse G K R =
     record {
       refusals = AXIS unless within (K -ℤ G) (rank (asVector R)) ∷ [];
       lengths = R .lengths;
-      element = along R k (λ i. n - 1 - i)
+      element = along R k (λ i. n - 1 - i);
     }
 
 -- R's axis i goes to result axis t, the element i of ts. The lengths of the axes sent to axis j:
@@ -92,7 +92,7 @@ transpose R =
     record {
       refusals = [];
       lengths = sentLengths ts (R .lengths);
-      element = λ p. at R (broughtBack ts p)
+      element = λ p. at R (broughtBack ts p);
     }
 
 -- 21 reshape: L is a list of lengths; below 0 is DOMAIN. Element i is R's element i mod count(R); from an empty R, zeros.
@@ -102,7 +102,7 @@ reshape L R =
     record {
       refusals = RANK unless isList L ∷ DOMAIN unless every (λ z. not (negative z)) (L .elements) ∷ [];
       lengths = ns;
-      element = λ p. getD (R .elements) (index ns p % length (R .elements)) (pos 0)
+      element = λ p. getD (R .elements) (index ns p % length (R .elements)) (pos 0);
     }
 
 -- 22: an operand beside lengths ns of the higher rank: its length along axis k, its other lengths, and its element at a place of that rank.
@@ -135,12 +135,12 @@ catenate G K L R =
     let r : Side = side ns k R in
     record {
       refusals =
-        RANK unless ranksFit L R
-        ∷ AXIS unless within (K -ℤ G) (length ns)
-        ∷ LENGTH unless (sameLengths (l .others) (without k ns) && sameLengths (r .others) (without k ns))
-        ∷ [];
+          RANK unless ranksFit L R
+          ∷ AXIS unless within (K -ℤ G) (length ns)
+          ∷ LENGTH unless (sameLengths (l .others) (without k ns) && sameLengths (r .others) (without k ns))
+          ∷ [];
       lengths = set ns k (l .extent + r .extent);
-      element = λ p. cond (ltb (getD p k 0) (l .extent)) (l .element p) (r .element (set p k (getD p k 0 - l .extent)))
+      element = λ p. cond (ltb (getD p k 0) (l .extent)) (l .element p) (r .element (set p k (getD p k 0 - l .extent)));
     }
 
 -- 23: positive takes from the front, negative from the end: where position i of the result stands on an axis of length n.
@@ -165,7 +165,7 @@ takes L R =
     record {
       refusals = RANK unless isList L ∷ LENGTH unless eqb (length (L .elements)) (rank r) ∷ [];
       lengths = map natAbs (L .elements);
-      element = λ p. atOrZero r (takenPlace (L .elements) (r .lengths) p)
+      element = λ p. atOrZero r (takenPlace (L .elements) (r .lengths) p);
     }
 
 -- 24: the larger of 0 and the length less the number's size (m - n is 0 where n is larger).
@@ -187,7 +187,7 @@ drops L R =
     record {
       refusals = RANK unless isList L ∷ LENGTH unless eqb (length (L .elements)) (rank r) ∷ [];
       lengths = droppedLengths (L .elements) (r .lengths);
-      element = λ p. at r (droppedPlace (L .elements) p)
+      element = λ p. at r (droppedPlace (L .elements) p);
     }
 
 -- 25 rotate: L is a list of one amount a, else LENGTH. Position i takes (i + a) mod n, never negative; a scalar returns as a scalar.
@@ -198,9 +198,9 @@ rotate G K L R =
     let a : ℤ = getD (L .elements) 0 (pos 0) in
     record {
       refusals =
-        RANK unless isList L ∷ AXIS unless within (K -ℤ G) (rank (asVector R)) ∷ LENGTH unless eqb (length (L .elements)) 1 ∷ [];
+          RANK unless isList L ∷ AXIS unless within (K -ℤ G) (rank (asVector R)) ∷ LENGTH unless eqb (length (L .elements)) 1 ∷ [];
       lengths = R .lengths;
-      element = along R k (λ i. modulo (pos i +ℤ a) n)
+      element = along R k (λ i. modulo (pos i +ℤ a) n);
     }
 
 -- All of 0 to the largest occur.
@@ -214,12 +214,12 @@ transposeBy G L R =
     let ts : List ℕ = map (λ z. natAbs (z -ℤ G)) (L .elements) in
     record {
       refusals =
-        RANK unless isList L
-        ∷ LENGTH unless eqb (length (L .elements)) (rank R)
-        ∷ DOMAIN unless (every (λ z. within (z -ℤ G) (rank R)) (L .elements) && allOccur ts)
-        ∷ [];
+          RANK unless isList L
+          ∷ LENGTH unless eqb (length (L .elements)) (rank R)
+          ∷ DOMAIN unless (every (λ z. within (z -ℤ G) (rank R)) (L .elements) && allOccur ts)
+          ∷ [];
       lengths = sentLengths ts (R .lengths);
-      element = λ p. at R (broughtBack ts p)
+      element = λ p. at R (broughtBack ts p);
     }
 
 -- 27 compress: L is a list of 0 and 1, else DOMAIN. One element in L serves the whole axis; an axis of length 1 is repeated to L's count;
@@ -233,13 +233,13 @@ compress G K L R =
     let mask : List ℤ = cond (eqb c 1) (replicate n (getD (L .elements) 0 (pos 0))) (L .elements) in
     record {
       refusals =
-        RANK unless isList L
-        ∷ AXIS unless within (K -ℤ G) (rank r)
-        ∷ LENGTH unless (eqb c 1 || eqb n 1 || eqb c n)
-        ∷ DOMAIN unless every isBit (L .elements)
-        ∷ [];
+          RANK unless isList L
+          ∷ AXIS unless within (K -ℤ G) (rank r)
+          ∷ LENGTH unless (eqb c 1 || eqb n 1 || eqb c n)
+          ∷ DOMAIN unless every isBit (L .elements)
+          ∷ [];
       lengths = set (r .lengths) k (length (ones mask));
-      element = along r k (λ i. cond (eqb n 1) 0 (getD (ones mask) i 0))
+      element = along r k (λ i. cond (eqb n 1) 0 (getD (ones mask) i 0));
     }
 
 -- 28 expand: L is a list of 0 and 1, else DOMAIN; one element is one place and is not repeated. The axis positions go in order to the ones,
@@ -251,16 +251,16 @@ expand G K L R =
     let mask : List ℤ = L .elements in
     record {
       refusals =
-        RANK unless isList L
-        ∷ AXIS unless within (K -ℤ G) (rank r)
-        ∷ LENGTH unless (isScalar R || eqb (length (ones mask)) (axis r k))
-        ∷ DOMAIN unless every isBit mask
-        ∷ [];
+          RANK unless isList L
+          ∷ AXIS unless within (K -ℤ G) (rank r)
+          ∷ LENGTH unless (isScalar R || eqb (length (ones mask)) (axis r k))
+          ∷ DOMAIN unless every isBit mask
+          ∷ [];
       lengths = set (r .lengths) k (length mask);
       element = λ p.
-        cond (eqZ (getD mask (getD p k 0) (pos 0)) (pos 1))
-        (along r k (λ i. cond (isScalar R) 0 (length (ones (front i mask)))) p)
-        (pos 0)
+          cond (eqZ (getD mask (getD p k 0) (pos 0)) (pos 1))
+          (along r k (λ i. cond (isScalar R) 0 (length (ones (front i mask)))) p)
+          (pos 0);
     }
 
 -- 29 index of: L has rank 1, else RANK. Each element of R gives G plus the first position holding it in L, or G plus L's count. R's shape.
@@ -268,7 +268,7 @@ unfoldable pub indexOf : ℤ → Array → Array → Meaning
 indexOf G L R = record {
   refusals = RANK unless eqb (rank L) 1 ∷ [];
   lengths = R .lengths;
-  element = λ p. G +ℤ pos (firstAt (at R p) (L .elements))
+  element = λ p. G +ℤ pos (firstAt (at R p) (L .elements));
 }
 
 -- 30 member: L's shape; 1 exactly where L's element occurs in R, else 0.
@@ -276,7 +276,7 @@ unfoldable pub member : Array → Array → Meaning
 member L R = record {
   refusals = [];
   lengths = L .lengths;
-  element = λ p. cond (ltb (firstAt (at L p) (R .elements)) (length (R .elements))) (pos 1) (pos 0)
+  element = λ p. cond (ltb (firstAt (at L p) (R .elements)) (length (R .elements))) (pos 1) (pos 0);
 }
 
 -- 31 select: R has an axis, else RANK; L is a list of positions, each less G within axis k, else INDEX.
@@ -287,11 +287,11 @@ select G K L R =
     let chosen : ℕ → ℕ = λ i. natAbs (getD (L .elements) i (pos 0) -ℤ G) in
     record {
       refusals =
-        RANK when isScalar R
-        ∷ RANK unless isList L
-        ∷ AXIS unless within (K -ℤ G) (rank R)
-        ∷ INDEX unless every (λ z. within (z -ℤ G) (axis R k)) (L .elements)
-        ∷ [];
+          RANK when isScalar R
+          ∷ RANK unless isList L
+          ∷ AXIS unless within (K -ℤ G) (rank R)
+          ∷ INDEX unless every (λ z. within (z -ℤ G) (axis R k)) (L .elements)
+          ∷ [];
       lengths = cond (isScalar L) (without k (R .lengths)) (set (R .lengths) k (length (L .elements)));
-      element = cond (isScalar L) (λ p. at R (putIn k (chosen 0) p)) (along R k chosen)
+      element = cond (isScalar L) (λ p. at R (putIn k (chosen 0) p)) (along R k chosen);
     }

@@ -6,7 +6,6 @@ use lib.Dec.{eqb}
 
 infix 68 _when_
 infix 68 _unless_
-
 pub data Refusal : Type 0 where
   NUMBER FORM ORIGIN RANK AXIS LENGTH DOMAIN INDEX LIMIT SPACE : Refusal
 

@@ -45,7 +45,7 @@ abbrev pub unknown : Primitive
 unknown = record {
   number = 0;
   operands = 0;
-  meaning = λ G K L R. record { refusals = NUMBER when true ∷ []; lengths = []; element = λ p. pos 0 }
+  meaning = λ G K L R. record { refusals = NUMBER when true ∷ []; lengths = []; element = λ p. pos 0 };
 }
 
 unfoldable pub named : ℤ → List Primitive → Primitive
@@ -79,7 +79,7 @@ unfoldable pub settle : ℕ → Meaning → List ℤ → Reply
 settle zero m out = record {
   number = 0;
   shape = shapeOf (m .lengths);
-  out = build (m .lengths) (m .element) .elements ++ drop (count (m .lengths)) out
+  out = build (m .lengths) (m .element) .elements ++ drop (count (m .lengths)) out;
 }
 settle (suc n) m out = record { number = suc n; shape = scalar; out = out }
 

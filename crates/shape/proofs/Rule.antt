@@ -4,10 +4,10 @@ use mathlib.Core.List.{List, [], _∷_}
 use mathlib.Core.Bool.{true, _&&_}
 use Prim.Native.Nat.{ℕ, zero, suc, _≤_, _<_}
 use native.Mathlib.Omega.{arith}
-use native.Mathlib.Nat.{le-of-suc-le-suc, not-suc-le-zero}
+use native.Mathlib.Nat.{le-of-suc-le-suc, not-suc-le-zero, mul-le-mul-left, mul-le-mul-right}
 use borrow.Author.Tests.{le-leb, leb-true}
 use lib.Dec.{leb}
-use lib.ListN.{length, getD}
+use lib.ListN.{length, getD, set}
 use Rattle.shape.specs.Shape.{maxRank, maxCount, count, small, shapeRule}
 use Rattle.shape.proofs.Bools.{both}
 
@@ -44,3 +44,24 @@ module _ (r : ℕ) (ns : List ℕ) where
 pub vector-rule : (n : ℕ) → n ≤ maxCount → shapeRule 1 (n ∷ []) ≡ true
 unfolding small count
 vector-rule n h = rule 1 (n ∷ []) (omega arith) (rw (le-leb n maxCount h)) (omega arith)
+
+-- An axis that becomes shorter keeps the rule.
+small-shorter : (ns : List ℕ) (k n : ℕ) → n ≤ getD ns k 0 → small ns ≡ true → small (set ns k n) ≡ true
+unfolding small
+small-shorter [] k n h s = s
+small-shorter (m ∷ ns) zero n h s =
+    let b = both (leb m maxCount) (small ns) s in
+    rw (le-leb n maxCount (omega (arith, leb-true m maxCount (b .0)))) (b .1)
+small-shorter (m ∷ ns) (suc k) n h s =
+    let b = both (leb m maxCount) (small ns) s in
+    rw (b .0) (small-shorter ns k n h (b .1))
+
+count-shorter : (ns : List ℕ) (k n : ℕ) → n ≤ getD ns k 0 → count (set ns k n) ≤ count ns
+unfolding count
+count-shorter [] k n h = omega arith
+count-shorter (m ∷ ns) zero n h = mul-le-mul-right (count ns) h
+count-shorter (m ∷ ns) (suc k) n h = mul-le-mul-left m (count-shorter ns k n h)
+
+pub shorter-rule : (r : ℕ) (ns : List ℕ) (k n : ℕ) → n ≤ getD ns k 0 → shapeRule r ns ≡ true → shapeRule r (set ns k n) ≡ true
+shorter-rule r ns k n h s =
+    rule r (set ns k n) (rule-rank r ns s) (small-shorter ns k n h (rule-small r ns s)) (omega (arith, count-shorter ns k n h, rule-count r ns s))

@@ -12,12 +12,16 @@ pub struct Shape {
 
 impl Shape {
     pub const MAX_RANK: usize = 8;
+
     pub const MAX_COUNT: usize = 16384;
 
     pub fn scalar() -> Shape
         ensures { λ s. ⌜ s ≡ scalar ⌝ }
     {
-        Shape { rank: 0, lens: [0; Shape::MAX_RANK] }
+        Shape {
+            rank: 0,
+            lens: [0; Shape::MAX_RANK],
+        }
     }
 
     // The limits of the program are those of the definitions.
@@ -46,6 +50,9 @@ impl Place {
     pub fn at_end() -> Place
         ensures { λ p. ⌜ p ≡ endPlace ⌝ }
     {
-        Place { positions: [0; Shape::MAX_RANK], end: true }
+        Place {
+            positions: [0; Shape::MAX_RANK],
+            end: true,
+        }
     }
 }
