@@ -22,3 +22,8 @@ or-left a b p = rw p
 pub or-right : (a b : Bool) → b ≡ true → (a || b) ≡ true
 or-right true b q = refl
 or-right false b q = q
+
+-- A test that cannot pass fails.
+pub refuted : (b : Bool) → (b ≡ true → ⊥) → b ≡ false
+refuted true h = absurd (h refl)
+refuted false h = refl

@@ -8,6 +8,7 @@ use native.Mathlib.Omega.{arith}
 use borrow.Author.Tests.{lt-ltb, ltb-true}
 use lib.Arith.{digits-lt, digits-div, digits-mod}
 use lib.Dec.{ltb}
+use lib.ListN.{length}
 use Rattle.shape.proofs.Bools.{no-way, both}
 use Rattle.shape.specs.Shape.{count}
 use Rattle.shape.specs.Place.{inside, index, place}
@@ -53,6 +54,11 @@ place-in [] j h = tt
 place-in (n ∷ s) j h =
     let c : zero < count s = count-pos n (count s) j h in
     (div-lt-iff-lt-mul c .1 h, place-in s (j % count s) (mod-lt j c))
+
+pub place-length : (s : List ℕ) (j : ℕ) → length (place s j) ≡ length s
+unfolding place
+place-length [] j = refl
+place-length (n ∷ s) j = ap suc (place-length s (j % count s))
 
 pub place-index : (s p : List ℕ) → In s p → place s (index s p) ≡ p
 unfolding place index

@@ -45,3 +45,7 @@ shapeOf ns = record { rank = length ns; lens = ns ++ replicate (maxRank - length
 -- Rank 0 is a scalar.
 abbrev pub scalar : Shape
 scalar = shapeOf []
+
+-- The shape of the first rank of some lengths, and the scalar where the rank is above the limit.
+abbrev pub madeOf : ℕ → List ℕ → Shape
+madeOf rank ns = cond (leb rank maxRank) (shapeOf (take rank ns)) scalar

@@ -1,7 +1,11 @@
 // The shape of an array, and a place in it.
 ghost use mathlib.Core.Path.{_≡_};
-ghost use Rattle.shape.specs.Shape.{scalar, maxRank, maxCount};
-ghost use Rattle.shape.specs.Place.{endPlace};
+ghost use mathlib.Core.Bool.{true, false};
+ghost use mathlib.Core.List.{[], _∷_, _++_};
+ghost use Prim.Native.Nat.{suc, _*_, _-_, _≤_, min};
+ghost use lib.ListN.{take, replicate};
+ghost use Rattle.shape.specs.Shape.{maxRank, maxCount, counted, goodShape, countOf, shapeOf, madeOf, scalar};
+ghost use Rattle.shape.specs.Place.{endPlace, successor, inside};
 
 // A rank and a length for each axis; only the first `rank` lengths count.
 #[repr(C)]
@@ -36,6 +40,73 @@ impl Shape {
     {
         Shape::MAX_COUNT
     }
+
+    pub fn vector(n: usize) -> Shape
+        ensures { λ s. ⌜ s ≡ shapeOf (n ∷ []) ⌝ }
+    {
+        let mut lens = [0; Shape::MAX_RANK];
+        lens[0] = n;
+        Shape { rank: 1, lens }
+    }
+
+    // The scalar where the rank is above the limit.
+    pub fn of_lengths(rank: usize, lens: [usize; Shape::MAX_RANK]) -> Shape
+        ensures { λ s. ⌜ s ≡ madeOf rank lens ⌝ }
+    {
+        if Shape::MAX_RANK < rank {
+            return Shape::scalar();
+        }
+        let kept = cleared(lens, rank);
+        Shape { rank, lens: kept }
+    }
+
+    // One more than the largest count for a bad shape. A zero counts even after a product above the limit.
+    pub fn count(self) -> usize
+        ensures { λ n. ⌜ n ≡ countOf self ⌝ }
+    {
+        let rank = self.rank;
+        if Shape::MAX_RANK < rank {
+            return Shape::MAX_COUNT + 1;
+        }
+        let mut total = 1;
+        let mut i = 0;
+        while i < rank {
+            let n = self.lens[i];
+            if Shape::MAX_COUNT < n {
+                return Shape::MAX_COUNT + 1;
+            }
+            total = capped(total, n);
+            i += 1;
+        }
+        total
+    }
+}
+
+// The product, or one more than the largest count where it is above that.
+fn capped(total: usize, n: usize) -> usize
+    requires { ⌜ (total ≤ suc maxCount) × (n ≤ maxCount) ⌝ }
+    ensures { λ r. ⌜ r ≡ min (total * n) (suc maxCount) ⌝ }
+{
+    let p = total * n;
+    if p <= Shape::MAX_COUNT {
+        p
+    } else {
+        Shape::MAX_COUNT + 1
+    }
+}
+
+// The first `rank` of the numbers, and zeros.
+fn cleared(ns: [usize; Shape::MAX_RANK], rank: usize) -> [usize; Shape::MAX_RANK]
+    requires { ⌜ rank ≤ maxRank ⌝ }
+    ensures { λ r. ⌜ r ≡ take rank ns ++ replicate (maxRank - rank) 0 ⌝ }
+{
+    let mut out = [0; Shape::MAX_RANK];
+    let mut i = 0;
+    while i < rank {
+        out[i] = ns[i];
+        i += 1;
+    }
+    out
 }
 
 // One position for each axis, and whether the last place was passed.
@@ -55,4 +126,60 @@ impl Place {
             end: true,
         }
     }
+
+    // The next place row by row, the last axis fastest, or the end.
+    pub fn successor(self, s: Shape) -> Place
+        ensures { λ p. ⌜ p ≡ successor self s ⌝ }
+    {
+        let marked = self.end;
+        if marked {
+            return Place::at_end();
+        }
+        if Shape::MAX_COUNT < s.count() {
+            return Place::at_end();
+        }
+        if within(self, s) {
+            stepped(self, s)
+        } else {
+            Place::at_end()
+        }
+    }
+}
+
+// Whether each position that counts is below its axis's length.
+fn within(p: Place, s: Shape) -> bool
+    requires { ⌜ s .rank ≤ maxRank ⌝ }
+    ensures { λ b. ⌜ b ≡ inside (counted s) (take (s .rank) (p .positions)) ⌝ }
+{
+    let mut i = 0;
+    while i < s.rank {
+        if s.lens[i] <= p.positions[i] {
+            return false;
+        }
+        i += 1;
+    }
+    true
+}
+
+// The successor of a place that lies in a good shape: from the last axis on, an axis at its end starts again and carries.
+fn stepped(p: Place, s: Shape) -> Place
+    requires { ⌜ (p .end ≡ false) × ((goodShape s ≡ true) × (inside (counted s) (take (s .rank) (p .positions)) ≡ true)) ⌝ }
+    ensures { λ r. ⌜ r ≡ successor p s ⌝ }
+{
+    let rank = s.rank;
+    let mut q = cleared(p.positions, rank);
+    let mut i = rank;
+    while 0 < i {
+        i -= 1;
+        let next = p.positions[i] + 1;
+        if next < s.lens[i] {
+            q[i] = next;
+            return Place {
+                positions: q,
+                end: false,
+            };
+        }
+        q[i] = 0;
+    }
+    Place::at_end()
 }

@@ -1,0 +1,92 @@
+-- The count of a shape: one axis more, the product held at a limit, and a good shape by its count.
+use mathlib.Core.Path.{_≡_, refl, sym, ap, _∙_}
+use mathlib.Core.List.{List, [], _∷_, _++_}
+use mathlib.Core.Bool.{Bool, true, false, cond, and-false}
+use Prim.Native.Nat.{ℕ, zero, suc, _*_, _≤_, _<_, min}
+use native.Mathlib.Decide.{decLe}
+use native.Mathlib.Nat.{mul-assoc, mul-zero, min-eq-left, min-eq-right, le-mul-of-pos-right}
+use native.Mathlib.Omega.{arith}
+use borrow.Author.Tests.{le-leb, lt-leb, leb-true}
+use lib.Dec.{leb}
+use lib.ListN.{length, getD}
+use Rattle.shape.proofs.Bools.{both, and-true}
+use Rattle.shape.specs.declared.Shape.{Shape}
+use Rattle.shape.specs.Shape.{maxRank, maxCount, counted, count, small, shapeRule, goodShape, countOf}
+
+pub count-snoc : (ns : List ℕ) (n : ℕ) → count (ns ++ (n ∷ [])) ≡ count ns * n
+unfolding count
+count-snoc [] n = omega arith
+count-snoc (m ∷ ns) n = ap (λ (x : ℕ). m * x) (count-snoc ns n) ∙ sym (mul-assoc m (count ns) n)
+
+pub small-snoc : (ns : List ℕ) (n : ℕ) → small ns ≡ true → n ≤ maxCount → small (ns ++ (n ∷ [])) ≡ true
+unfolding small
+small-snoc [] n e h = rw (le-leb n maxCount h)
+small-snoc (m ∷ ns) n e h =
+    let t = both (leb m maxCount) (small ns) e in
+    and-true _ _ (t .0) (small-snoc ns n (t .1) h)
+
+-- One length above the limit is enough.
+pub small-not : (ns : List ℕ) (k : ℕ) → k < length ns → maxCount < getD ns k 0 → small ns ≡ false
+unfolding small
+small-not [] k l h = absurd (omega arith)
+small-not (n ∷ ns) zero l h = rw (lt-leb n maxCount h)
+small-not (n ∷ ns) (suc k) l h = rw (small-not ns k (omega arith) h) (and-false (leb n maxCount))
+
+-- A product held at a limit on the way is the product held at the limit: a zero after it still counts.
+pub min-mul : (a n c : ℕ) → min (min a c * n) c ≡ min (a * n) c
+min-mul a zero c = simp mul-zero
+min-mul a (suc n) c = by (decLe a c)
+  where
+    by : Dec (a ≤ c) → min (min a c * suc n) c ≡ min (a * suc n) c
+    by (yes h) = rw (min-eq-left h)
+    by (no h) =
+        rw (min-eq-right {n = c} {m = a} (omega arith))
+        (omega (arith, le-mul-of-pos-right {m = suc n} a (omega arith), le-mul-of-pos-right {m = suc n} c (omega arith)))
+
+module _ (s : Shape) where
+  pub count-high-rank : maxRank < s .rank → countOf s ≡ suc maxCount
+  unfolding countOf shapeRule
+  count-high-rank h = rw (lt-leb (s .rank) maxRank h)
+
+  pub count-long-axis : small (counted s) ≡ false → countOf s ≡ suc maxCount
+  unfolding countOf shapeRule
+  count-long-axis e = rw (e, and-false (leb (s .rank) maxRank))
+
+  pub count-held : s .rank ≤ maxRank → small (counted s) ≡ true → countOf s ≡ min (count (counted s)) (suc maxCount)
+  unfolding countOf shapeRule
+  count-held h e = rw (le-leb (s .rank) maxRank h, e) (by (decLe (count (counted s)) maxCount))
+    where
+      by : Dec (count (counted s) ≤ maxCount)
+          → cond (leb (count (counted s)) maxCount) (count (counted s)) (suc maxCount) ≡ min (count (counted s)) (suc maxCount)
+      by (yes l) = rw (le-leb _ maxCount l) (omega arith)
+      by (no l) = rw (lt-leb (count (counted s)) maxCount (omega arith)) (omega arith)
+
+  pub good-rank : goodShape s ≡ true → s .rank ≤ maxRank
+  unfolding shapeRule
+  good-rank e = leb-true _ _ (both (leb (s .rank) maxRank) _ e .0)
+
+  -- A shape is good if its count is within the limit.
+  pub count-good : goodShape s ≡ true → countOf s ≤ maxCount
+  unfolding countOf shapeRule
+  count-good e =
+      let t = both (leb (s .rank) maxRank) _ e in
+      let u = both (small (counted s)) _ (t .1) in
+      rw e (leb-true _ _ (u .1))
+
+  pub count-bad : goodShape s ≡ false → countOf s ≡ suc maxCount
+  unfolding countOf
+  count-bad e = rw e
+
+  pub good-count : countOf s ≤ maxCount → goodShape s ≡ true
+  good-count h = by (goodShape s) refl
+    where
+      by : (b : Bool) → goodShape s ≡ b → goodShape s ≡ true
+      by true e = e
+      by false e = absurd (omega (arith, count-bad e))
+
+  pub bad-count : maxCount < countOf s → goodShape s ≡ false
+  bad-count h = by (goodShape s) refl
+    where
+      by : (b : Bool) → goodShape s ≡ b → goodShape s ≡ false
+      by true e = absurd (omega (arith, count-good e))
+      by false e = e

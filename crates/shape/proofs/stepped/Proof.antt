@@ -1,0 +1,112 @@
+-- The loop's invariant: the axes from i on were at their end and start again, the positions before them are the place's.
+use mathlib.Core.Path.{_≡_, sym, _∙_}
+use Prim.Native.Nat.{_-_}
+use native.Mathlib.Omega.{arith}
+use mir.Syntax.{w64}
+use mir.Val.{Fits}
+use borrow.Author.Needs.{needs}
+use lib.ListN.{getD}
+use Rattle.shape.proofs.Counts.{good-rank}
+use Rattle.shape.proofs.Successor.{Stands, Carry, carry-start, carry-below, carry-on, carry-stop, carry-end}
+use Rattle.shape.proofs.stepped.Statement.{statement}
+use Rattle.shape.proofs.stepped.Tie as tie
+
+abbrev Inv-loop : tie.InvT-loop
+Inv-loop p s rank q₀ i₀ q i = Carry p s q i
+
+abbrev μ-loop : tie.MeasureT-loop
+μ-loop p s rank q₀ i₀ q i = i
+
+stands : (c : tie.Start Inv-loop μ-loop) → Stands (c .args .t1) (c .args .t2)
+stands c = record { all-positions = search needs; all-lens = search needs; unmarked = c .pre .0; good = c .pre .1 .0; lies = c .pre .1 .1 }
+
+cleared-requires : tie.Need-cleared-requires Inv-loop μ-loop
+cleared-requires c κs = omega (arith, good-rank (c .before .args .t2) (c .before .pre .1 .0))
+
+loop-holds : tie.Need-loop-holds Inv-loop μ-loop
+loop-holds c =
+    let st = c .before .before in
+    carry-start (st .args .t1) (st .args .t2) (stands st) (c .cleared .result) (c .cleared .ensures)
+
+sub-i : tie.Need-sub-i Inv-loop μ-loop
+sub-i c = search needs
+
+mul-next : tie.Need-mul-next Inv-loop μ-loop
+mul-next c = search needs
+
+element-copy-out-next : tie.Need-element-copy-out-next Inv-loop μ-loop
+element-copy-out-next c = search needs
+
+add-next : tie.Need-add-next Inv-loop μ-loop
+add-next c =
+    let st = c .before .before .before .before .before in
+    let lp = c .before .before .loop in
+    let f : Fits w64 (getD (st .args .t2 .lens) (lp .i - 1) 0) = search needs in
+    omega (arith, carry-below (st .args .t1) (st .args .t2) (stands st) (lp .q) (lp .i) (lp .i - 1) (omega arith) (lp .inv))
+
+mul-if1 : tie.Need-mul-if1 Inv-loop μ-loop
+mul-if1 c = search needs
+
+element-copy-out-if1 : tie.Need-element-copy-out-if1 Inv-loop μ-loop
+element-copy-out-if1 c = search needs
+
+mul-q : tie.Need-mul-q Inv-loop μ-loop
+mul-q c = search needs
+
+array-write-q : tie.Need-array-write-q Inv-loop μ-loop
+array-write-q c = search needs
+
+returns : tie.Need-returns Inv-loop μ-loop
+returns c =
+    let st = c .before .before .before .before .before .before .before in
+    let lp = c .before .before .before .before .loop in
+    sym (carry-stop (st .args .t1) (st .args .t2) (stands st) (lp .q) (lp .i) (lp .i - 1) (omega arith) (lp .inv) (omega arith))
+
+mul-q-2 : tie.Need-mul-q-2 Inv-loop μ-loop
+mul-q-2 c = search needs
+
+array-write-q-2 : tie.Need-array-write-q-2 Inv-loop μ-loop
+array-write-q-2 c = search needs
+
+loop-less : tie.Need-loop-less Inv-loop μ-loop
+loop-less c = search needs
+
+loop-again : tie.Need-loop-again Inv-loop μ-loop
+loop-again c =
+    let st = c .before .before .before .before .before .before .before in
+    let lp = c .before .before .before .before .loop in
+    carry-on (st .args .t1) (st .args .t2) (stands st) (lp .q) (lp .i) (lp .i - 1) (omega arith) (lp .inv) (omega arith)
+
+at-end-requires : tie.Need-at-end-requires Inv-loop μ-loop
+at-end-requires c κs = search needs
+
+returns-2 : tie.Need-returns-2 Inv-loop μ-loop
+returns-2 c =
+    let st = c .before .before .before .before .before in
+    let lp = c .before .before .loop in
+    let e : lp .i ≡ 0 = omega arith in
+    c .at-end .ensures ∙ sym (carry-end (st .args .t1) (st .args .t2) (stands st) (lp .q) (rw e at (lp .inv)))
+
+pub stepped-spec : {M : Type 1} → statement M
+stepped-spec =
+    tie.close
+    (tie.spec
+    Inv-loop
+    μ-loop
+    cleared-requires
+    loop-holds
+    sub-i
+    mul-next
+    element-copy-out-next
+    add-next
+    mul-if1
+    element-copy-out-if1
+    mul-q
+    array-write-q
+    returns
+    mul-q-2
+    array-write-q-2
+    loop-less
+    loop-again
+    at-end-requires
+    returns-2)
