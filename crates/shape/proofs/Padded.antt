@@ -7,7 +7,7 @@ use native.Mathlib.Omega.{arith}
 use lib.ListN.{length, getD, set, take, replicate, replicate-append-replicate}
 use lib.Seq.{set-at, take-suc, length-take-le}
 
-pub zeros-cons : (m i : ℕ) → i < m → replicate {A = ℕ} (m - i) 0 ≡ 0 ∷ replicate (m - suc i) 0
+zeros-cons : (m i : ℕ) → i < m → replicate {A = ℕ} (m - i) 0 ≡ 0 ∷ replicate (m - suc i) 0
 zeros-cons m i h = let e : m - i ≡ suc (m - suc i) = omega arith in rw e
 
 -- One number more.

@@ -43,7 +43,7 @@ module _ (lens pos : List ℕ) (rank : ℕ) (ll : rank ≤ length lens) (lp : ra
   -- The axes after axis k are at their end.
   module _ (h : In (take rank lens) (take rank pos)) (k : ℕ) (r : k < rank) (e : Last (drop (suc k) (take rank lens)) (drop (suc k) (take rank pos))) where
     -- Axis k is too.
-    pub last-from : getD lens k 0 ≤ getD pos k 0 + 1 → Last (drop k (take rank lens)) (drop k (take rank pos))
+    last-from : getD lens k 0 ≤ getD pos k 0 + 1 → Last (drop k (take rank lens)) (drop k (take rank pos))
     last-from b =
         last-more (take rank lens) (take rank pos) k h (rw axes r)
         (rw (getD-take rank lens k 0 r, getD-take rank pos k 0 r) (omega arith)) e
@@ -53,10 +53,10 @@ module _ (lens pos : List ℕ) (rank : ℕ) (ll : rank ≤ length lens) (lp : ra
       further : suc (getD (take rank pos) k 0) < getD (take rank lens) k 0
       further = rw (getD-take rank lens k 0 r, getD-take rank pos k 0 r) (omega arith)
 
-      pub step-below : suc (index (take rank lens) (take rank pos)) < count (take rank lens)
+      step-below : suc (index (take rank lens) (take rank pos)) < count (take rank lens)
       step-below = next-below (take rank lens) (take rank pos) k h (rw axes r) further e
 
-      pub step-place : place (take rank lens) (suc (index (take rank lens) (take rank pos))) ≡ take k pos ++ ((getD pos k 0 + 1) ∷ replicate (rank - suc k) 0)
+      step-place : place (take rank lens) (suc (index (take rank lens) (take rank pos))) ≡ take k pos ++ ((getD pos k 0 + 1) ∷ replicate (rank - suc k) 0)
       step-place =
           next-place (take rank lens) (take rank pos) k h (rw axes r) further e
           ∙ rw (take-take k rank pos (omega arith), getD-take rank pos k 0 r, length-drop (suc k) (take rank lens), axes, add-one)
