@@ -1,0 +1,57 @@
+-- The test eqZ and equality.
+use Prim.Native.Nat.{ℕ, _<_, _^_}
+use native.Mathlib.Omega.{arith}
+use mathlib.Core.Path.{_≡_, refl, sym, ap, _∙_}
+use mathlib.Core.Bool.{Bool, true, false}
+use lib.Dec.{eqb}
+use lib.IntN.{ℤ, pos, negsuc}
+use mir.Syntax.{w32}
+use mir.Val.{SFits, ofZ}
+use borrow.Author.Tests.{eqb-true, eq-eqb, ne-eqb}
+use Rattle.shape.proofs.Bools.{no-way}
+use Rattle.meaning.specs.Terms.{eqZ}
+use Rattle.signed.proofs.Reading.{bits-inj}
+
+pub eqZ-refl : (x : ℤ) → eqZ x x ≡ true
+unfolding eqZ
+eqZ-refl (pos a) = eq-eqb a a refl
+eqZ-refl (negsuc a) = eq-eqb a a refl
+
+pub eqZ-true : (x y : ℤ) → eqZ x y ≡ true → x ≡ y
+unfolding eqZ
+eqZ-true (pos a) (pos b) e = ap pos (eqb-true a b e)
+eqZ-true (negsuc a) (negsuc b) e = ap negsuc (eqb-true a b e)
+eqZ-true (pos a) (negsuc b) e = no-way e
+eqZ-true (negsuc a) (pos b) e = no-way e
+
+pub eqZ-same : (x y : ℤ) → x ≡ y → eqZ x y ≡ true
+eqZ-same x y e = rw e (eqZ-refl y)
+
+pub eqZ-other : (x y : ℤ) → (x ≡ y → ⊥) → eqZ x y ≡ false
+unfolding eqZ
+eqZ-other (pos a) (pos b) h = ne-eqb a b (λ e. h (ap pos e))
+eqZ-other (negsuc a) (negsuc b) h = ne-eqb a b (λ e. h (ap negsuc e))
+eqZ-other (pos a) (negsuc b) h = refl
+eqZ-other (negsuc a) (pos b) h = refl
+
+pub eqZ-false : (x y : ℤ) → eqZ x y ≡ false → x ≡ y → ⊥
+eqZ-false x y h e = no-way (sym h ∙ eqZ-same x y e)
+
+pub eqZ-sym : (x y : ℤ) → eqZ x y ≡ eqZ y x
+eqZ-sym x y = by-test (eqZ y x) refl
+  where
+    by-test : (t : Bool) → eqZ y x ≡ t → eqZ x y ≡ t
+    by-test true e = eqZ-same x y (sym (eqZ-true y x e))
+    by-test false e = eqZ-other x y (λ q. eqZ-false y x e (sym q))
+
+-- The code's test of two numbers is one of their bits.
+pub eqZ-bits : (x y : ℤ) → SFits w32 x → SFits w32 y → eqb (ofZ w32 x) (ofZ w32 y) ≡ eqZ x y
+eqZ-bits x y f g = by-test (eqZ x y) refl
+  where
+    by-test : (t : Bool) → eqZ x y ≡ t → eqb (ofZ w32 x) (ofZ w32 y) ≡ t
+    by-test true e = eq-eqb (ofZ w32 x) (ofZ w32 y) (ap (ofZ w32) (eqZ-true x y e))
+    by-test false e = ne-eqb (ofZ w32 x) (ofZ w32 y) (λ q. eqZ-false x y e (bits-inj x y f g q))
+
+-- The code's test of a number and a literal.
+pub eqZ-key : (z : ℤ) (n : ℕ) → SFits w32 z → n < 2 ^ 31 → eqb (ofZ w32 z) n ≡ eqZ z (pos n)
+eqZ-key z n f b = eqZ-bits z (pos n) f (record { sfits = omega arith })

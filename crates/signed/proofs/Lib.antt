@@ -1,0 +1,5 @@
+pub mod Reading
+pub mod Equal
+pub mod Sign
+pub mod Positions
+pub mod Modulo

@@ -1,0 +1,70 @@
+-- The sign and the size of a number, as signed code finds them.
+use Prim.Native.Nat.{ℕ, zero, suc, _+_, _-_, _≤_, _<_}
+use native.Mathlib.Omega.{arith}
+use mathlib.Core.Path.{_≡_, refl, sym}
+use mathlib.Core.Bool.{Bool, true, false, cond}
+use lib.Dec.{T, ltb, leb·suc-zero}
+use lib.IntN.{ℤ, pos, negsuc, natAbs, negℤ, _+ℤ_, _-ℤ_}
+use lib.Signed.{ltZ, mag, nonNeg}
+use mir.Syntax.{w32, w64}
+use mir.Val.{Fits, SFits}
+use Rattle.shape.proofs.Bools.{no-way}
+use Rattle.meaning.specs.Terms.{negative}
+
+-- The test `x < 0`.
+pub below-zero : (x : ℤ) → ltZ x (pos 0) ≡ negative x
+unfolding negative
+below-zero (pos n) = leb·suc-zero n
+below-zero (negsuc n) = refl
+
+-- A number from 0 up is its size.
+pub not-negative : (x : ℤ) → negative x ≡ false → x ≡ pos (natAbs x)
+unfolding negative
+not-negative (pos n) h = refl
+not-negative (negsuc n) h = no-way (sym h)
+
+-- A number below 0 has a size above 0.
+pub size-pos : (x : ℤ) → negative x ≡ true → 0 < natAbs x
+unfolding negative
+size-pos (pos n) h = no-way h
+size-pos (negsuc n) h = omega arith
+
+-- `x as usize` of an i64 from 0 up.
+pub index : (x : ℤ) → SFits w64 x → negative x ≡ false → T (nonNeg x) × Fits w64 (natAbs x)
+unfolding negative
+index (pos n) f h = (tt, record { fits = omega (arith, f .sfits) })
+index (negsuc n) f h = no-way (sym h)
+
+-- `0 - x` at 64 bits, x below 0: it fits, it is an index, and it is the size.
+pub record Negated (x : ℤ) : Type 0 where
+  pub fits : SFits w64 (pos 0 -ℤ x)
+  pub index : T (nonNeg (pos 0 -ℤ x)) × Fits w64 (natAbs (pos 0 -ℤ x))
+  pub size : natAbs (pos 0 -ℤ x) ≡ natAbs x
+
+pub negated : (x : ℤ) → SFits w32 x → negative x ≡ true → Negated x
+unfolding negative
+negated (pos n) f h = no-way h
+negated (negsuc n) f h = record {
+  fits = record { sfits = omega (arith, f .sfits) };
+  index = (tt, record { fits = omega (arith, f .sfits) });
+  size = omega arith;
+}
+
+-- The difference of two numbers of 32 bits fits 64.
+sub-mag : (a b : ℕ) (t : Bool) → ltb a b ≡ t → mag (cond t (negsuc (b - suc a)) (pos (a - b))) ≤ a + b
+sub-mag a b true e = omega arith
+sub-mag a b false e = omega arith
+
+add-mag : (x y : ℤ) → mag (x +ℤ y) ≤ mag x + mag y + 1
+add-mag (pos a) (pos b) = omega arith
+add-mag (pos a) (negsuc b) = omega (arith, sub-mag a (suc b) (ltb a (suc b)) refl)
+add-mag (negsuc a) (pos b) = omega (arith, sub-mag b (suc a) (ltb b (suc a)) refl)
+add-mag (negsuc a) (negsuc b) = omega arith
+
+neg-mag : (y : ℤ) → mag (negℤ y) ≤ mag y + 1
+neg-mag (pos zero) = omega arith
+neg-mag (pos (suc b)) = omega arith
+neg-mag (negsuc b) = omega arith
+
+pub difference-fits : (x y : ℤ) → SFits w32 x → SFits w32 y → SFits w64 (x -ℤ y)
+difference-fits x y f g = record { sfits = omega (arith, add-mag x (negℤ y), neg-mag y, f .sfits, g .sfits) }
