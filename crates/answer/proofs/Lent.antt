@@ -1,0 +1,106 @@
+-- What is known of a lent operand.
+use mathlib.Core.Path.{_≡_, refl, sym, ap, _∙_}
+use mathlib.Core.List.{List}
+use mathlib.Core.Bool.{Bool, true, false, cond, _&&_}
+use Prim.Native.Nat.{ℕ, suc, _≤_, _<_}
+use native.Mathlib.Omega.{arith}
+use borrow.Author.Tests.{leb-true}
+use lib.ListN.{length, getD, take}
+use lib.Seq.{length-take-le, getD-take}
+use lib.Dec.{leb}
+use lib.IntN.{ℤ}
+use Rattle.shape.specs.declared.Shape.{Shape}
+use Rattle.shape.specs.Shape.{maxRank, maxCount, counted, count, goodShape, countOf, shapeRule}
+use Rattle.shape.proofs.Bools.{both}
+use Rattle.shape.proofs.Counts.{good-rank, count-good, good-count, bad-count}
+use Rattle.meaning.specs.Array.{arrayOf, goodForm}
+use Rattle.meaning.specs.Terms.{rank, axis}
+use Rattle.meaning.specs.Reply.{isOrigin}
+use Rattle.answer.specs.Answer.{lent, early}
+
+pub count-of : (s : Shape) → goodShape s ≡ true → countOf s ≡ count (counted s)
+unfolding countOf
+count-of s h = rw h
+
+module _ (s : Shape) (b : List ℤ) where
+  pub form-bad : maxCount < countOf s → goodForm (lent s b) ≡ false
+  unfolding goodForm
+  form-bad h = rw (bad-count s h)
+
+  pub form-by : countOf s ≤ maxCount → goodForm (lent s b) ≡ leb (countOf s) (length b)
+  unfolding goodForm
+  form-by h =
+      let g : goodShape s ≡ true = good-count s h in
+      ap (λ t. t && leb (count (counted s)) (length b)) g ∙ ap (λ c. leb c (length b)) (sym (count-of s g))
+
+-- An operand of good form, as the program sees it.
+pub record Lent (s : Shape) (b : List ℤ) : Type 0 where
+  pub good : goodShape s ≡ true
+  pub high : s .rank ≤ maxRank
+  pub long : length (s .lens) ≡ maxRank
+  pub rank-is : rank (arrayOf (lent s b)) ≡ s .rank
+  pub rule : shapeRule (rank (arrayOf (lent s b))) (counted s) ≡ true
+  pub count-is : countOf s ≡ count (counted s)
+  pub count-small : count (counted s) ≤ maxCount
+  pub room : count (counted s) ≤ length b
+  pub whole : length (arrayOf (lent s b) .elements) ≡ count (counted s)
+
+pub lent-good : (s : Shape) (b : List ℤ) → length (s .lens) ≡ maxRank → goodForm (lent s b) ≡ true → Lent s b
+unfolding goodForm
+lent-good s b l h =
+    let t = both (goodShape s) (leb (count (counted s)) (length b)) h in
+    let g : goodShape s ≡ true = t .0 in
+    let c : countOf s ≡ count (counted s) = count-of s g in
+    let high : s .rank ≤ maxRank = good-rank s g in
+    let room : count (counted s) ≤ length b = leb-true (count (counted s)) (length b) (t .1) in
+    let rank-is : rank (arrayOf (lent s b)) ≡ s .rank = length-take-le (s .rank) (s .lens) (omega arith) in
+    record {
+      good = g;
+      high = high;
+      long = l;
+      rank-is = rank-is;
+      rule = ap (λ r. shapeRule r (counted s)) rank-is ∙ g;
+      count-is = c;
+      count-small = omega (arith, count-good s g);
+      room = room;
+      whole = length-take-le (count (counted s)) b room;
+    }
+
+-- The length of an axis that counts.
+pub axis-is : (s : Shape) (b : List ℤ) (k : ℕ) → k < s .rank → axis (arrayOf (lent s b)) k ≡ getD (s .lens) k 0
+axis-is s b k h = getD-take (s .rank) (s .lens) k 0 h
+
+-- FORM and ORIGIN were not met.
+pub record Fine (form : Bool) (G : ℤ) : Type 0 where
+  pub forms : form ≡ true
+  pub origin : isOrigin G ≡ true
+
+module _ (G : ℤ) where
+  pub early-form : (form : Bool) → form ≡ false → early form G ≡ 2
+  unfolding early
+  early-form form h = rw h
+
+  pub early-origin : (form : Bool) → form ≡ true → isOrigin G ≡ false → early form G ≡ 3
+  unfolding early
+  early-origin form h o = rw (h, o)
+
+  pub early-none : (form : Bool) → form ≡ true → isOrigin G ≡ true → early form G ≡ 0
+  unfolding early
+  early-none form h o = rw (h, o)
+
+  pub early-left : (a b : Bool) → a ≡ false → early (a && b) G ≡ 2
+  unfolding early
+  early-left a b h = rw h
+
+  pub early-right : (a b : Bool) → a ≡ true → early (a && b) G ≡ early b G
+  unfolding early
+  early-right a b h = rw h
+
+  pub early-fine : (form : Bool) → early form G ≡ 0 → Fine form G
+  unfolding early
+  early-fine false h = absurd (omega arith)
+  early-fine true h = by (isOrigin G) refl h
+    where
+      by : (b : Bool) → isOrigin G ≡ b → _≡_ {A = ℕ} (cond b 0 3) 0 → Fine true G
+      by true e h = record { forms = refl; origin = e }
+      by false e h = absurd (omega arith)

@@ -1,0 +1,40 @@
+use Rattle.signed.proofs.Reading.{read32}
+use mathlib.Core.Path.{sym, ap, _∙_}
+use Rattle.answer.proofs.Lent.{early-form, early-origin, early-none}
+use borrow.Author.Needs.{needs}
+use Rattle.answer.proofs.early_one.Statement.{statement}
+use Rattle.answer.proofs.early_one.Tie as tie
+use Rattle.answer.proofs.early_one.Reads as reads
+use Rattle.answer.proofs.early_one.Lts as lts
+use Rattle.answer.proofs.good_form.Reads as good-form-reads
+use Rattle.signed.proofs.is_origin.Reads as is-origin-reads
+
+-- src/lib.rt:40:8
+good-form-requires : tie.Need-good-form-requires
+good-form-requires c κs = search needs
+
+-- src/lib.rt:41:12
+is-origin-requires : tie.Need-is-origin-requires
+is-origin-requires c κs = search needs
+
+-- src/lib.rt:37:1
+returns : tie.Need-returns
+returns c =
+    sym
+    (early-none (c .before .before .before .before .args .g) _ (sym (c .before .before .before .good-form .ensures) ∙ c .before .before .if1 .taken)
+    (sym (rw (read32 _ (c .before .before .before .before .fits .g)) at (c .before .is-origin .ensures)) ∙ c .if2 .taken))
+
+-- src/lib.rt:37:1
+returns-2 : tie.Need-returns-2
+returns-2 c =
+    sym
+    (early-origin (c .before .before .before .before .args .g) _ (sym (c .before .before .before .good-form .ensures) ∙ c .before .before .if1 .taken)
+    (sym (rw (read32 _ (c .before .before .before .before .fits .g)) at (c .before .is-origin .ensures)) ∙ c .if2 .left))
+
+-- src/lib.rt:37:1
+returns-3 : tie.Need-returns-3
+returns-3 c = sym (early-form (c .before .before .args .g) _ (sym (c .before .good-form .ensures) ∙ c .if1 .left))
+
+pub early-one-spec : {M : Type 1} → statement M
+early-one-spec =
+    tie.close (tie.spec good-form-requires is-origin-requires returns returns-2 returns-3)

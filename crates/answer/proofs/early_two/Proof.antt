@@ -1,0 +1,31 @@
+use Rattle.signed.proofs.Reading.{read32}
+use mathlib.Core.Path.{sym, _∙_}
+use Rattle.answer.proofs.Lent.{early-left, early-right}
+use borrow.Author.Needs.{needs}
+use Rattle.answer.proofs.early_two.Statement.{statement}
+use Rattle.answer.proofs.early_two.Tie as tie
+use Rattle.answer.proofs.early_two.Reads as reads
+use Rattle.answer.proofs.early_two.Lts as lts
+use Rattle.answer.proofs.early_one.Reads as early-one-reads
+use Rattle.answer.proofs.good_form.Reads as good-form-reads
+
+-- src/lib.rt:51:8
+good-form-requires : tie.Need-good-form-requires
+good-form-requires c κs = search needs
+
+-- src/lib.rt:52:9
+early-one-requires : tie.Need-early-one-requires
+early-one-requires c κs = search needs
+
+-- src/lib.rt:48:1
+returns : tie.Need-returns
+returns c =
+    (rw (read32 _ (c .before .before .before .fits .g)) at (c .early-one .ensures))
+    ∙ sym (early-right (c .before .before .before .args .g) _ _ (sym (c .before .before .good-form .ensures) ∙ c .before .if1 .taken))
+
+-- src/lib.rt:48:1
+returns-2 : tie.Need-returns-2
+returns-2 c = sym (early-left (c .before .before .args .g) _ _ (sym (c .before .good-form .ensures) ∙ c .if1 .left))
+
+pub early-two-spec : {M : Type 1} → statement M
+early-two-spec = tie.close (tie.spec good-form-requires early-one-requires returns returns-2)

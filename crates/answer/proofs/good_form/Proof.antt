@@ -1,0 +1,26 @@
+use native.Mathlib.Omega.{arith}
+use mathlib.Core.Path.{sym, ap, _∙_}
+use Rattle.answer.proofs.Lent.{form-bad, form-by}
+use borrow.Author.Needs.{needs}
+use Rattle.answer.proofs.good_form.Statement.{statement}
+use Rattle.answer.proofs.good_form.Tie as tie
+use Rattle.answer.proofs.good_form.Reads as reads
+use Rattle.answer.proofs.good_form.Lts as lts
+use Rattle.shape.proofs.Shape.count.Reads as count-reads
+
+-- src/lib.rt:29:9
+count-requires : tie.Need-count-requires
+count-requires c κs = search needs
+
+-- src/lib.rt:31:9
+returns : tie.Need-returns
+returns c = sym (form-bad (c .before .before .args .s) (c .before .before .args .b .now) (omega (arith, c .before .count .ensures)))
+
+-- src/lib.rt:26:1
+returns-2 : tie.Need-returns-2
+returns-2 c =
+    rw (c .before .count .ensures)
+    (sym (form-by (c .before .before .args .s) (c .before .before .args .b .now) (omega (arith, c .before .count .ensures))))
+
+pub good-form-spec : {M : Type 1} → statement M
+good-form-spec = tie.close (tie.spec count-requires returns returns-2)
