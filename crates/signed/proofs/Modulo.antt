@@ -4,9 +4,9 @@ use native.Mathlib.Nat.{mod-lt, add-mod-right, mod-eq-sub-mod, mod-eq-of-lt, div
 use native.Mathlib.Omega.{arith}
 use mathlib.Core.Path.{_≡_, refl, sym, ap, _∙_}
 use mathlib.Core.Bool.{Bool, true, false, cond}
-use lib.Dec.{ltb}
+use lib.Dec.{eqb, ltb}
 use lib.IntN.{ℤ, pos, negsuc, natAbs, _+ℤ_, subℕ, +ℤ-comm, +ℤ-assoc, +ℤ-idr}
-use borrow.Author.Tests.{ltb-true, ltb-false, le-ltb}
+use borrow.Author.Tests.{ltb-true, ltb-false, le-ltb, ne-eqb}
 use Rattle.shape.proofs.Bools.{no-way}
 use Rattle.meaning.specs.Terms.{negative, modulo}
 
@@ -22,6 +22,10 @@ modulo-pos m n = refl
 -- A number below n is its own remainder.
 pub modulo-small : (m n : ℕ) → m < n → modulo (pos m) n ≡ m
 modulo-small m n h = modulo-pos m n ∙ mod-eq-of-lt h
+
+-- What `amount` answers, for n above 0.
+pub amount-is : (z : ℤ) (n : ℕ) → 0 < n → cond (eqb n 0) 0 (modulo z n) ≡ modulo z n
+amount-is z n h = rw (ne-eqb n 0 (λ e. omega arith))
 
 -- From the size s of a number, as code finds it.
 pub modulo-negative : (z : ℤ) (n s : ℕ) → negative z ≡ true → s ≡ natAbs z → n - 1 - (s - 1) % n ≡ modulo z n
