@@ -1,3 +1,2 @@
-pub mod Tab
 pub mod Steps
 pub mod Runs

@@ -12,7 +12,7 @@ use lib.Seq.{take-at, drop-at, drop-drop, drop-cons, set-at, append-snoc, take-a
 use borrow.Rule.Slice.PartMut.{putMid}
 use Rattle.meaning.specs.Array.{tabFrom, tab}
 use Rattle.copying.specs.Runs.{common, copied, reversed}
-use Rattle.copying.proofs.Tab.{length-tab, tab-ext, tab-getD, tab-add}
+use Rattle.meaning.proofs.Tab.{length-tab, tab-ext, tab-getD, tab-add}
 use Rattle.copying.proofs.Steps.{getD-reverse}
 
 -- What the contracts come to where the run fits.

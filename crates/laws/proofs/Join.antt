@@ -11,7 +11,6 @@ use lib.Seq.{set-set, set-getD, getD-set-same}
 use lib.Dec.{eqb, ltb}
 use lib.IntN.{ℤ, pos, negsuc, natAbs, _-ℤ_}
 use Rattle.shape.specs.Shape.{count, shapeRule}
-use Rattle.shape.proofs.Bools.{no-way}
 use Rattle.shape.proofs.Places.{In}
 use Rattle.shape.proofs.Axis.{in-length, in-at, in-set}
 use Rattle.shape.proofs.Rule.{shorter-rule}
@@ -20,6 +19,7 @@ use Rattle.meaning.specs.Terms.{rank, axis, isScalar, asVector, eqZ, within, sa
 use Rattle.meaning.specs.Primitives.{Side, side, higher, ranksFit, catenate, takes, droppedLengths, drops}
 use Rattle.meaning.specs.Reply.{Reply, primitives, named, reply}
 use Rattle.meaning.proofs.Arrays.{Whole, build-lengths, at-build, build-ext, build-at}
+use Rattle.meaning.proofs.Positions.{within-lt}
 use Rattle.meaning.proofs.Scalars.{array-as}
 use Rattle.meaning.proofs.Replies.{NoneMet}
 use Rattle.laws.specs.Words.{IsArray, IsOrigin, IsAxis, IsLong, given, Lists}
@@ -128,12 +128,6 @@ module _ (a : Array) (k n : ℕ) (w : Whole a) (l : k < rank a) (h : n ≤ axis 
       ∙ set-getD (a .lengths) k 0)
       ∙ build-ext (a .lengths) _ (at a) (λ p i. same-at p i (decLt (getD p k 0) n))
       ∙ build-at a w
-
--- A number from 0 to n - 1 is below n.
-pub within-lt : (z : ℤ) (n : ℕ) → within z n ≡ true → natAbs z < n
-unfolding within
-within-lt (pos i) n h = ltb-true i n h
-within-lt (negsuc i) n h = no-way h
 
 -- The shape rule, carried along an equation of lengths.
 rule-by : {ms ns : List ℕ} → ms ≡ ns → shapeRule (length ns) ns ≡ true → shapeRule (length ms) ms ≡ true

@@ -1,6 +1,5 @@
 pub mod Calls
 pub mod Moves
-pub mod Modulo
 pub mod Sum
 pub mod Occurs
 pub mod Permuted

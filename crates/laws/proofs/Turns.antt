@@ -19,7 +19,7 @@ use Rattle.laws.specs.Words.{IsArray, IsOrigin, IsTurnAxis, IsLong, give
 use Rattle.laws.specs.Laws.{TwoRotations, TwoReversals, RotationKeeps, ReversalKeeps}
 use Rattle.laws.proofs.Calls.{result, array-rule, form-whole, Gives, gives, same-arrays, same-array, as-often, listed, lists-array}
 use Rattle.laws.proofs.Moves.{moved, moved-lengths, moved-whole, moved-ext, moved-id, moved-moved}
-use Rattle.laws.proofs.Modulo.{modulo-lt, modulo-sum, modulo-back, modulo-forth}
+use Rattle.meaning.proofs.Modulo.{modulo-lt, modulo-sum, modulo-back, modulo-forth}
 use Rattle.laws.proofs.Permuted.{moved-occurs}
 
 -- What 14 and 25 do to an array.

@@ -3,3 +3,5 @@ pub mod Tab
 pub mod Arrays
 pub mod Replies
 pub mod Scalars
+pub mod Modulo
+pub mod Positions

@@ -1,5 +1,3 @@
 pub mod Reading
 pub mod Equal
 pub mod Sign
-pub mod Positions
-pub mod Modulo

@@ -9,7 +9,7 @@ use borrow.Author.Tests.{eq-eqb, ne-eqb}
 use Rattle.meaning.specs.Terms.{negative}
 use Rattle.signed.proofs.Reading.{read32}
 use Rattle.signed.proofs.Sign.{size-pos}
-use Rattle.signed.proofs.Modulo.{modulo-negative, modulo-size}
+use Rattle.meaning.proofs.Modulo.{modulo-negative, modulo-size}
 use Rattle.signed.proofs.amount.Statement.{statement}
 use Rattle.signed.proofs.amount.Tie as tie
 

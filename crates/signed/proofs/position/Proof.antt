@@ -7,7 +7,7 @@ use mir.Facts.{toZ-ofZ, sfits-widen}
 use Rattle.meaning.specs.Terms.{negative}
 use Rattle.signed.proofs.Reading.{read32, read-wide}
 use Rattle.signed.proofs.Sign.{below-zero, index, difference-fits}
-use Rattle.signed.proofs.Positions.{position-in, position-past, position-below}
+use Rattle.meaning.proofs.Positions.{position-in, position-past, position-below}
 use Rattle.signed.proofs.position.Statement.{statement}
 use Rattle.signed.proofs.position.Tie as tie
 

@@ -5,10 +5,10 @@ use native.Mathlib.Omega.{arith}
 use mathlib.Core.Path.{_≡_, refl, sym, ap, _∙_}
 use mathlib.Core.Bool.{Bool, true, false, cond}
 use lib.Dec.{eqb, ltb}
-use lib.IntN.{ℤ, pos, negsuc, natAbs, _+ℤ_, subℕ, +ℤ-comm, +ℤ-assoc, +ℤ-idr}
+use lib.IntN.{ℤ, pos, negsuc, natAbs, _+ℤ_, subℕ, negℤ, +ℤ-comm, +ℤ-assoc, +ℤ-idr, +ℤ-negℤ-cancel, -ℤ-+ℤ-cancel}
 use borrow.Author.Tests.{ltb-true, ltb-false, le-ltb, ne-eqb}
 use Rattle.shape.proofs.Bools.{no-way}
 use Rattle.meaning.specs.Terms.{negative, modulo}
 
 pub modulo-lt : (z : ℤ) (n : ℕ) → 0 < n → modulo z n < n
 unfolding modulo
@@ -87,3 +87,12 @@ modulo-turn i z n h =
     ∙ sym (modulo-sum z (pos i) n h)
     ∙ ap (λ x. modulo x n) (+ℤ-comm (pos (modulo z n)) (pos i))
     ∙ modulo-pos (i + modulo z n) n
+
+-- What is added and taken away again leaves a position.
+pub modulo-back : (m n : ℕ) (z : ℤ) → m < n → modulo (pos (modulo (pos m +ℤ z) n) +ℤ negℤ z) n ≡ m
+modulo-back m n z h =
+    modulo-sum (pos m +ℤ z) (negℤ z) n (omega arith) ∙ ap (λ x. modulo x n) (+ℤ-negℤ-cancel (pos m) z) ∙ modulo-small m n h
+
+pub modulo-forth : (m n : ℕ) (z : ℤ) → m < n → modulo (pos (modulo (pos m +ℤ negℤ z) n) +ℤ z) n ≡ m
+modulo-forth m n z h =
+    modulo-sum (pos m +ℤ negℤ z) z n (omega arith) ∙ ap (λ x. modulo x n) (-ℤ-+ℤ-cancel (pos m) z) ∙ modulo-small m n h
