@@ -13,7 +13,8 @@ use Rattle.meaning.specs.Refusal.{Refusal, Rule, number, precedence, meets, win
 use Rattle.meaning.specs.Refusal.Refusal.{NUMBER, FORM, ORIGIN, RANK, AXIS, LENGTH, DOMAIN, INDEX, LIMIT, SPACE}
 use Rattle.meaning.specs.Primitives.{Meaning}
 use Rattle.meaning.specs.Reply.{Reply, Primitive, primitives, named, isOrigin, refusals, meaningOf, settle, reply}
-use Rattle.answer.specs.Answer.{early, ownOrder, own}
+use Rattle.answer.specs.Answer.{early, ownOrder, own, answerOf, refusal, Replied}
+use Rattle.answer.specs.declared.Answer.{Answer}
 
 -- The first number that is not 0.
 abbrev pub orElse : ℕ → ℕ → ℕ
@@ -117,25 +118,48 @@ givenReply m out = record {
   out = build (m .lengths) (m .element) .elements ++ drop (count (m .lengths)) out;
 }
 
-module _ (n G K : ℤ) (L R : Operand) (out : List ℤ) (p : Primitive) (m : Meaning) (q : named n primitives ≡ p) (d : meaningOf n G K L R ≡ m) (o : Own (m .refusals)) where
+-- The primitive that a call names, and what it gives.
+pub record Names (n G K : ℤ) (L R : Operand) (p : Primitive) (m : Meaning) : Type 0 where
+  pub primitive : named n primitives ≡ p
+  pub meaning : meaningOf n G K L R ≡ m
+  pub own : Own (m .refusals)
+
+-- LIMIT and SPACE.
+abbrev lateOf : Meaning → ℕ → ℕ
+lateOf m room = cond (shapeRule (length (m .lengths)) (m .lengths)) (cond (leb (count (m .lengths)) room) 0 10) 9
+
+-- FORM and ORIGIN, as a call of the primitive p asks them.
+abbrev pub earlyOf : Primitive → ℤ → Operand → Operand → ℕ
+earlyOf p G L R = early ((leb (p .operands) 1 || goodForm L) && goodForm R) G
+
+module _ {n G K : ℤ} {L R : Operand} {p : Primitive} {m : Meaning} (names : Names n G K L R p m) (out : List ℤ) where
   reply-is : (w : ℕ)
-      → orElse (early ((leb (p .operands) 1 || goodForm L) && goodForm R) G)
-      (orElse (own (p .number) (m .refusals)) (cond (shapeRule (length (m .lengths)) (m .lengths)) (cond (leb (count (m .lengths)) (length out)) 0 10) 9))
-      ≡ w
+      → orElse (earlyOf p G L R) (orElse (own (p .number) (m .refusals)) (lateOf m (length out))) ≡ w
       → reply n G K L R out ≡ settle w m out
   unfolding reply
   reply-is w e =
-      ap₂ (λ x y. settle (winner (precedence (x .number)) (refusals x G L R y (length out))) y out) q d
-      ∙ ap (λ v. settle v m out) (number-is p G L R m (length out) o ∙ e)
+      ap₂ (λ x y. settle (winner (precedence (x .number)) (refusals x G L R y (length out))) y out) (names .primitive) (names .meaning)
+      ∙ ap (λ v. settle v m out) (number-is p G L R m (length out) (names .own) ∙ e)
 
-  pub early-reply : (e : ℕ) → early ((leb (p .operands) 1 || goodForm L) && goodForm R) G ≡ suc e → reply n G K L R out ≡ refusedReply (suc e) out
+  refused-is : (w : ℕ) → (w ≡ 0 → ⊥) → settle w m out ≡ refusedReply w out
   unfolding settle
-  early-reply e h = reply-is (suc e) (rw h)
+  refused-is zero h = absurd (h refl)
+  refused-is (suc w) h = refl
 
-  module _ (fine : early ((leb (p .operands) 1 || goodForm L) && goodForm R) G ≡ 0) where
-    pub own-reply : (e : ℕ) → own (p .number) (m .refusals) ≡ suc e → reply n G K L R out ≡ refusedReply (suc e) out
-    unfolding settle
-    own-reply e h = reply-is (suc e) (rw (fine, h))
+  else-first : (a b : ℕ) → (a ≡ 0 → ⊥) → orElse a b ≡ a
+  else-first zero b h = absurd (h refl)
+  else-first (suc a) b h = refl
+
+  -- A number e that is not 0, of FORM and ORIGIN.
+  pub early-reply : (e : ℕ) → e ≡ earlyOf p G L R → (e ≡ 0 → ⊥) → reply n G K L R out ≡ refusedReply e out
+  early-reply e q h =
+      reply-is e (ap (λ x. orElse x (orElse (own (p .number) (m .refusals)) (lateOf m (length out)))) (sym q) ∙ else-first e _ h) ∙ refused-is e h
+
+  module _ (fine : earlyOf p G L R ≡ 0) where
+    -- Of the primitive's own.
+    pub own-reply : (e : ℕ) → e ≡ own (p .number) (m .refusals) → (e ≡ 0 → ⊥) → reply n G K L R out ≡ refusedReply e out
+    own-reply e q h =
+        reply-is e (ap₂ (λ x y. orElse x (orElse y (lateOf m (length out)))) fine (sym q) ∙ else-first e _ h) ∙ refused-is e h
 
     module _ (none : own (p .number) (m .refusals) ≡ 0) where
       pub limit-reply : shapeRule (length (m .lengths)) (m .lengths) ≡ false → reply n G K L R out ≡ refusedReply 9 out
@@ -150,3 +174,11 @@ module _ (n G K : ℤ) (L R : Operand) (out : List ℤ) (p : Primitive) (m : Mea
         pub given-reply : count (m .lengths) ≤ length out → reply n G K L R out ≡ givenReply m out
         unfolding settle
         given-reply h = reply-is 0 (rw (fine, none, rule, le-leb (count (m .lengths)) (length out) h))
+
+-- What a function that refuses, and one that gives the result, shows of its outcome.
+pub replied-refused : {y : Reply} (a : Answer) (n : ℕ) (out : List ℤ) → a ≡ refusal n → y ≡ refusedReply n out → Replied a out y
+replied-refused a n out e q = record { answer = e ∙ sym (ap answerOf q); buffer = sym (ap (λ z. z .out) q) }
+
+pub replied-given : {y : Reply} (a : Answer) (m : Meaning) (out last : List ℤ) → a ≡ record { number = 0; shape = shapeOf (m .lengths) }
+    → last ≡ build (m .lengths) (m .element) .elements ++ drop (count (m .lengths)) out → y ≡ givenReply m out → Replied a last y
+replied-given a m out last e f q = record { answer = e ∙ sym (ap answerOf q); buffer = f ∙ sym (ap (λ z. z .out) q) }

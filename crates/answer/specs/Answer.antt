@@ -1,5 +1,6 @@
 -- What the program hands over at a call, and what it answers.
 use Prim.Native.Nat.{ℕ, zero, suc}
+use mathlib.Core.Path.{_≡_}
 use mathlib.Core.List.{List, [], _∷_}
 use mathlib.Core.Bool.{Bool, cond}
 use lib.Dec.{eqb}
@@ -33,3 +34,8 @@ ownOrder n = cond (eqb n 28) (RANK ∷ AXIS ∷ DOMAIN ∷ LENGTH ∷ INDEX ∷ 
 
 abbrev pub own : ℕ → List Rule → ℕ
 own n rules = winner (ownOrder n) rules
+
+-- A call's whole outcome: number, shape and output buffer are the reply's.
+pub record Replied (a : Answer) (out : List ℤ) (y : Reply) : Type 0 where
+  pub answer : a ≡ answerOf y
+  pub buffer : out ≡ y .out
