@@ -2,16 +2,18 @@
 use mathlib.Core.Path.{_≡_, refl, sym, ap, _∙_}
 use mathlib.Core.List.{List, [], _∷_, _++_}
 use mathlib.Core.Bool.{Bool, true, false, cond, and-false}
-use Prim.Native.Nat.{ℕ, zero, suc, _*_, _≤_, _<_, min}
+use Prim.Native.Nat.{ℕ, zero, suc, _+_, _*_, _≤_, _<_, min}
 use native.Mathlib.Decide.{decLe}
-use native.Mathlib.Nat.{mul-assoc, mul-zero, min-eq-left, min-eq-right, le-mul-of-pos-right}
+use native.Mathlib.Numerals.{add-one}
+use native.Mathlib.Nat.{mul-assoc, mul-comm, mul-zero, min-eq-left, min-eq-right, le-mul-of-pos-right}
 use native.Mathlib.Omega.{arith}
 use borrow.Author.Tests.{le-leb, lt-leb, leb-true}
 use lib.Dec.{leb}
-use lib.ListN.{length, getD}
+use lib.ListN.{length, getD, take, drop}
+use lib.Seq.{slice, take-suc, drop-append-le, length-take-le}
 use Rattle.shape.proofs.Bools.{both, and-true}
 use Rattle.shape.specs.declared.Shape.{Shape}
-use Rattle.shape.specs.Shape.{maxRank, maxCount, counted, count, small, shapeRule, goodShape, countOf}
+use Rattle.shape.specs.Shape.{maxRank, maxCount, counted, count, small, shapeRule, goodShape, countOf, held}
 
 pub count-snoc : (ns : List ℕ) (n : ℕ) → count (ns ++ (n ∷ [])) ≡ count ns * n
 unfolding count
@@ -90,3 +92,17 @@ module _ (s : Shape) where
       by : (b : Bool) → goodShape s ≡ b → goodShape s ≡ false
       by true e = absurd (omega (arith, count-good e))
       by false e = e
+
+-- One axis more of a part of the lengths, its count held at the limit.
+pub held-more : (ns : List ℕ) (from i total : ℕ) → from ≤ i → i < length ns → total ≡ held (count (slice from i ns))
+    → min (total * held (getD ns i 0)) (suc maxCount) ≡ held (count (slice from (i + 1) ns))
+held-more ns from i total h l e =
+    let n : ℕ = getD ns i 0 in
+    let c : ℕ = suc maxCount in
+    let a : ℕ = count (slice from i ns) in
+    let part : slice from (i + 1) ns ≡ slice from i ns ++ (n ∷ []) =
+    ap (λ k. drop from (take k ns)) (add-one i)
+    ∙ ap (drop from) (take-suc ns i 0 l)
+    ∙ drop-append-le from (take i ns) (n ∷ []) (rw (length-take-le i ns (omega arith)) h) in
+    rw (e, part, count-snoc (slice from i ns) n)
+    (min-mul a (min n c) c ∙ ap (λ x. min x c) (mul-comm a (min n c)) ∙ min-mul n a c ∙ ap (λ x. min x c) (mul-comm n a))

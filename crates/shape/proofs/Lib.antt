@@ -6,3 +6,4 @@ pub mod Counts
 pub mod Padded
 pub mod Next
 pub mod Successor
+pub mod Surround

@@ -1,10 +1,11 @@
 -- Paper 01, "The array": the shape.
-use Prim.Native.Nat.{ℕ, suc, _*_, _-_}
+use Prim.Native.Nat.{ℕ, suc, _*_, _-_, min}
 use mathlib.Core.List.{List, [], _∷_, _++_}
 use mathlib.Core.Bool.{Bool, true, false, cond, _&&_}
-use lib.ListN.{length, take, replicate}
-use lib.Dec.{leb}
+use lib.ListN.{length, take, drop, getD, replicate}
+use lib.Dec.{leb, ltb}
 use Rattle.shape.specs.declared.Shape.{Shape}
+use Rattle.shape.specs.declared.Around.{Around}
 
 -- The limits belong to the shape and are named here once: the largest rank, and the largest length and count.
 abbrev pub maxRank : ℕ
@@ -49,3 +50,15 @@ scalar = shapeOf []
 -- The shape of the first rank of some lengths, and the scalar where the rank is above the limit.
 abbrev pub madeOf : ℕ → List ℕ → Shape
 madeOf rank ns = cond (leb rank maxRank) (shapeOf (take rank ns)) scalar
+
+-- What stands around axis k: the count of the axes before it, its length, and the count of the axes after it.
+-- A count above the limit, as lengths beside a zero may have, is held one above it. Where there is no such axis all are 0.
+abbrev pub held : ℕ → ℕ
+held n = min n (suc maxCount)
+
+unfoldable pub aroundOf : Shape → ℕ → Around
+aroundOf s k =
+    cond
+    (leb (s .rank) maxRank && ltb k (s .rank))
+    (record { outer = held (count (take k (counted s))); length = getD (counted s) k 0; inner = held (count (drop (suc k) (counted s))) })
+    (record { outer = 0; length = 0; inner = 0 })

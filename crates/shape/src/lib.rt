@@ -4,7 +4,8 @@ ghost use mathlib.Core.Bool.{true, false};
 ghost use mathlib.Core.List.{[], _∷_, _++_};
 ghost use Prim.Native.Nat.{suc, _*_, _-_, _≤_, min};
 ghost use lib.ListN.{take, replicate};
-ghost use Rattle.shape.specs.Shape.{maxRank, maxCount, counted, goodShape, countOf, shapeOf, madeOf, scalar};
+ghost use lib.Seq.{slice};
+ghost use Rattle.shape.specs.Shape.{maxRank, maxCount, counted, goodShape, countOf, shapeOf, madeOf, scalar, count, held, aroundOf};
 ghost use Rattle.shape.specs.Place.{endPlace, successor, inside};
 
 // A rank and a length for each axis; only the first `rank` lengths count.
@@ -80,11 +81,71 @@ impl Shape {
         }
         total
     }
+
+    pub fn around(self, k: usize) -> Around
+        ensures { λ a. ⌜ a ≡ aroundOf self k ⌝ }
+    {
+        let rank = self.rank;
+        let lens = self.lens;
+        if Shape::MAX_RANK < rank {
+            return Around {
+                outer: 0,
+                length: 0,
+                inner: 0,
+            };
+        }
+        if rank <= k {
+            return Around {
+                outer: 0,
+                length: 0,
+                inner: 0,
+            };
+        }
+        let outer = held_count(lens, 0, k);
+        let length = lens[k];
+        let inner = held_count(lens, k + 1, rank);
+        Around {
+            outer,
+            length,
+            inner,
+        }
+    }
+}
+
+// What stands around an axis: the count of the axes before it, its length, and the count of the axes after it.
+pub struct Around {
+    pub outer: usize,
+    pub length: usize,
+    pub inner: usize,
+}
+
+// The count of the axes from `from` up to `to`, held one above the limit.
+fn held_count(lens: [usize; Shape::MAX_RANK], from: usize, to: usize) -> usize
+    requires { ⌜ (from ≤ to) × (to ≤ maxRank) ⌝ }
+    ensures { λ n. ⌜ n ≡ held (count (slice from to lens)) ⌝ }
+{
+    let mut total = 1;
+    let mut i = from;
+    while i < to {
+        total = capped(total, held(lens[i]));
+        i += 1;
+    }
+    total
+}
+
+fn held(n: usize) -> usize
+    ensures { λ r. ⌜ r ≡ held n ⌝ }
+{
+    if Shape::MAX_COUNT < n {
+        Shape::MAX_COUNT + 1
+    } else {
+        n
+    }
 }
 
 // The product, or one more than the largest count where it is above that.
 fn capped(total: usize, n: usize) -> usize
-    requires { ⌜ (total ≤ suc maxCount) × (n ≤ maxCount) ⌝ }
+    requires { ⌜ (total ≤ suc maxCount) × (n ≤ suc maxCount) ⌝ }
     ensures { λ r. ⌜ r ≡ min (total * n) (suc maxCount) ⌝ }
 {
     let p = total * n;
