@@ -4,13 +4,13 @@ use mathlib.Core.List.{List}
 use mathlib.Core.Bool.{Bool, true, false, cond, _&&_}
 use Prim.Native.Nat.{ℕ, suc, _≤_, _<_}
 use native.Mathlib.Omega.{arith}
-use borrow.Author.Tests.{leb-true}
+use borrow.Author.Tests.{leb-true, le-leb}
 use lib.ListN.{length, getD, take}
 use lib.Seq.{length-take-le, getD-take}
 use lib.Dec.{leb}
 use lib.IntN.{ℤ}
 use Rattle.shape.specs.declared.Shape.{Shape}
-use Rattle.shape.specs.Shape.{maxRank, maxCount, counted, count, goodShape, countOf, shapeRule}
+use Rattle.shape.specs.Shape.{maxRank, maxCount, counted, count, goodShape, countOf, shapeRule, shapeOf, madeOf}
 use Rattle.shape.proofs.Bools.{both}
 use Rattle.shape.proofs.Counts.{good-rank, count-good, good-count, bad-count}
 use Rattle.meaning.specs.Array.{arrayOf, goodForm}
@@ -104,3 +104,7 @@ module _ (G : ℤ) where
       by : (b : Bool) → isOrigin G ≡ b → _≡_ {A = ℕ} (cond b 0 3) 0 → Fine true G
       by true e h = record { forms = refl; origin = e }
       by false e h = absurd (omega arith)
+
+-- The shape of a result that has the operand's lengths.
+pub made-is : (s : Shape) (b : List ℤ) → Lent s b → madeOf (s .rank) (s .lens) ≡ shapeOf (counted s)
+made-is s b g = rw (le-leb (s .rank) maxRank (g .high))

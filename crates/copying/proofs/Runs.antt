@@ -67,6 +67,10 @@ module _ {A : Type 0} where
   pub length-filled : (g : ℕ → A) (n : ℕ) (out : List A) → n ≤ length out → length (filled g n out) ≡ length out
   length-filled g n out h = rw (length-append, length-tab, length-drop) (omega arith)
 
+  -- A buffer that is filled to its end.
+  pub filled-whole : (g : ℕ → A) (n : ℕ) (out : List A) → length out ≤ n → filled g n out ≡ tab n g
+  filled-whole g n out h = rw (drop-of-length-le out {i = n} h) (append-nil (tab n g))
+
   -- One element stored after what is filled.
   pub filled-one : (g : ℕ → A) (d v : A) (j : ℕ) (out : List A) → j < length out → v ≡ g j → set (filled g j out) j v ≡ filled g (j + 1) out
   unfolding tab tabFrom

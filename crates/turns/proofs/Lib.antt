@@ -1,0 +1,4 @@
+pub mod Rows
+pub mod Into
+pub mod Axes
+pub mod Reversal

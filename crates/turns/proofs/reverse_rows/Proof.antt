@@ -1,0 +1,150 @@
+use mathlib.Core.Path.{_≡_, refl, sym, ap, _∙_}
+use mathlib.Core.List.{List}
+use Prim.Native.Nat.{ℕ, _+_, _*_, _-_, _/_, _%_, _≤_}
+use native.Mathlib.Nat.{zero-mul}
+use native.Mathlib.Omega.{arith}
+use lib.ListN.{length, getD}
+use lib.IntN.{ℤ, pos}
+use borrow.Author.Needs.{needs}
+use borrow.Rule.Slice.PartMut.{same-len-mid}
+use Rattle.copying.proofs.Runs.{filled, filled-none, filled-whole, put-copied}
+use Rattle.turns.proofs.Rows.{row-before, reversed-row}
+use Rattle.turns.proofs.reverse_rows.Statement.{statement}
+use Rattle.turns.proofs.reverse_rows.Tie as tie
+use Rattle.turns.proofs.reverse_rows.Reads as reads
+use Rattle.turns.proofs.reverse_rows.Lts as lts
+use Rattle.copying.proofs.copy_run.Reads as copy-run-reads
+
+-- What element j of the reversed block is.
+abbrev element : List ℤ → ℕ → ℕ → ℕ → ℤ
+element r n inner j = getD r ((n - 1 - j / inner) * inner + j % inner) (pos 0)
+
+abbrev Inv-loop : tie.InvT-loop
+Inv-loop r n inner out₀ to₀ i₀ out to i = (i ≤ n) × ((to + i * inner ≡ n * inner) × ((length out ≡ length out₀) × (out ≡ filled (element r n inner) to out₀)))
+
+abbrev μ-loop : tie.MeasureT-loop
+μ-loop r n inner out₀ to₀ i₀ out to i = i
+
+row : (c : tie.In-loop Inv-loop μ-loop) → c .before .loop .i * c .before .before .args .inner ≡ (c .before .loop .i - 1) * c .before .before .args .inner + c .before .before .args .inner
+row c = row-before (c .before .loop .i) (c .before .before .args .inner) (omega arith)
+
+-- src/lib.rt:111:5
+loop-holds : tie.Need-loop-holds Inv-loop μ-loop
+loop-holds c = (omega arith, (omega arith, (refl, filled-none _ _)))
+
+-- src/lib.rt:112:20
+mul-stop : tie.Need-mul-stop Inv-loop μ-loop
+mul-stop c = omega (arith, row c)
+
+-- src/lib.rt:113:9
+sub-i : tie.Need-sub-i Inv-loop μ-loop
+sub-i c = search needs
+
+-- src/lib.rt:114:20
+mul-from : tie.Need-mul-from Inv-loop μ-loop
+mul-from c = omega (arith, row c)
+
+-- src/lib.rt:115:19
+add-end : tie.Need-add-end Inv-loop μ-loop
+add-end c = omega (arith, row c)
+
+-- src/lib.rt:116:27
+mul-copy-run : tie.Need-mul-copy-run Inv-loop μ-loop
+mul-copy-run c = omega (arith, row c)
+
+-- src/lib.rt:116:27
+sub-copy-run : tie.Need-sub-copy-run Inv-loop μ-loop
+sub-copy-run c = omega (arith, row c)
+
+-- src/lib.rt:116:27
+part-copy-run-start : tie.Need-part-copy-run-start Inv-loop μ-loop
+part-copy-run-start c = omega (arith, row c)
+
+-- src/lib.rt:116:27
+part-copy-run-end : tie.Need-part-copy-run-end Inv-loop μ-loop
+part-copy-run-end c = omega (arith, row c)
+
+-- src/lib.rt:116:43
+mul-copy-run-2 : tie.Need-mul-copy-run-2 Inv-loop μ-loop
+mul-copy-run-2 c = omega (arith, row (c .before))
+
+-- src/lib.rt:116:43
+sub-copy-run-2 : tie.Need-sub-copy-run-2 Inv-loop μ-loop
+sub-copy-run-2 c = omega (arith, row (c .before))
+
+-- src/lib.rt:116:43
+part-copy-run-start-2 : tie.Need-part-copy-run-start-2 Inv-loop μ-loop
+part-copy-run-start-2 c = omega (arith, row (c .before))
+
+-- src/lib.rt:116:43
+part-copy-run-end-2 : tie.Need-part-copy-run-end-2 Inv-loop μ-loop
+part-copy-run-end-2 c = omega (arith, row (c .before))
+
+-- src/lib.rt:116:9
+copy-run-requires : tie.Need-copy-run-requires Inv-loop μ-loop
+copy-run-requires c κs = search needs
+
+-- src/lib.rt:111:5
+loop-less : tie.Need-loop-less Inv-loop μ-loop
+loop-less c = search needs
+
+-- src/lib.rt:111:5
+loop-again : tie.Need-loop-again Inv-loop μ-loop
+loop-again c =
+    let st = c .before .before .before .before .before .before in
+    let lp = c .before .before .before .before .before .loop in
+    let e = row (c .before .before .before .before) in
+    let r = st .args .r .now in
+    let out₀ = st .args .out .now in (
+      omega arith,
+      (
+        omega arith,
+        (
+          same-len-mid (lp .to) (lp .to + st .args .inner - lp .to) (lp .out) (c .before .copy-run .last .1 .0) (c .before .copy-run .kept .1 .0) ∙ lp .inv .1 .1 .0,
+          put-copied (element r (st .args .n) (st .args .inner)) (lp .to) (st .args .inner) _ (lp .out) out₀ _ (lp .inv .1 .1 .1) refl (omega arith) r
+              ((lp .i - 1) * st .args .inner) (lp .i * st .args .inner) (pos 0) e (omega arith)
+              (λ x b. ap (λ k. getD r k (pos 0)) (reversed-row (st .args .n) (st .args .inner) (lp .i) (lp .to) x (omega arith) (lp .inv .0) (lp .inv .1 .0) b))
+              (c .before .copy-run .ensures),
+        ),
+      ),
+    )
+
+-- src/lib.rt:105:1
+same-length : tie.Need-same-length Inv-loop μ-loop
+same-length c = search needs
+
+-- src/lib.rt:105:1
+returns : tie.Need-returns Inv-loop μ-loop
+returns c =
+    let st = c .before .before in
+    let lp = c .before .loop in
+    let z : lp .i ≡ 0 = omega arith in
+    let e : lp .to ≡ st .args .n * st .args .inner = omega (arith, lp .inv .1 .0, ap (λ k. k * st .args .inner) z, zero-mul (st .args .inner)) in
+    lp .inv .1 .1 .1
+    ∙ ap (λ k. filled (element (st .args .r .now) (st .args .n) (st .args .inner)) k (st .args .out .now)) e
+    ∙ filled-whole _ (st .args .n * st .args .inner) (st .args .out .now) (omega (arith, st .pre))
+
+pub reverse-rows-spec : {M : Type 1} → statement M
+reverse-rows-spec =
+    tie.close
+    (tie.spec
+    Inv-loop
+    μ-loop
+    loop-holds
+    mul-stop
+    sub-i
+    mul-from
+    add-end
+    mul-copy-run
+    sub-copy-run
+    part-copy-run-start
+    part-copy-run-end
+    mul-copy-run-2
+    sub-copy-run-2
+    part-copy-run-start-2
+    part-copy-run-end-2
+    copy-run-requires
+    loop-less
+    loop-again
+    same-length
+    returns)
