@@ -2,3 +2,4 @@ pub mod Rows
 pub mod Into
 pub mod Axes
 pub mod Reversal
+pub mod Rotation

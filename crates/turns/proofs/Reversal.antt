@@ -14,6 +14,7 @@ use Rattle.meaning.specs.Primitives.{reverse}
 use Rattle.meaning.specs.Reply.{Primitive, primitives, named}
 use Rattle.answer.specs.Answer.{lent, ownOrder, own}
 use Rattle.answer.proofs.Order.{Names}
+use Rattle.turns.specs.Rows.{turnPosition}
 
 abbrev pub reversing : Primitive
 reversing = record { number = 14; operands = 1; meaning = λ G K L R. reverse G K R }
@@ -40,11 +41,11 @@ module _ (G K : ℤ) (a : Array) where
   reverse-lengths = refl
 
   -- The output buffer, with the axis as the program names it.
-  pub reverse-out : (k : ℕ) → k ≡ natAbs (K -ℤ G) → (out last : List ℤ)
-      → last ≡ build (a .lengths) (along a k (λ i. axis a k - 1 - i)) .elements ++ drop (count (a .lengths)) out
+  pub reverse-out : (z : ℤ) (k : ℕ) → k ≡ natAbs (K -ℤ G) → (out last : List ℤ)
+      → last ≡ build (a .lengths) (along a k (turnPosition true z (axis a k))) .elements ++ drop (count (a .lengths)) out
       → last ≡ build (reverse G K a .lengths) (reverse G K a .element) .elements ++ drop (count (reverse G K a .lengths)) out
-  unfolding reverse
-  reverse-out k e out last q = q ∙ ap (λ x. build (a .lengths) (along a x (λ i. axis a x - 1 - i)) .elements ++ drop (count (a .lengths)) out) e
+  unfolding reverse turnPosition
+  reverse-out z k e out last q = q ∙ ap (λ x. build (a .lengths) (along a x (λ i. axis a x - 1 - i)) .elements ++ drop (count (a .lengths)) out) e
 
   pub reverse-rule : shapeRule (rank a) (a .lengths) ≡ true → shapeRule (length (reverse G K a .lengths)) (reverse G K a .lengths) ≡ true
   unfolding reverse

@@ -1,20 +1,25 @@
 -- The rows of a block, turned.
 use mathlib.Core.Path.{_≡_, refl, sym, ap, ap₂, _∙_}
 use mathlib.Core.List.{List, [], _∷_}
+use mathlib.Core.Bool.{Bool, true, false, cond}
 use Prim.Native.Nat.{ℕ, zero, suc, _+_, _*_, _-_, _/_, _%_, _≤_, _<_}
-use native.Mathlib.Nat.{mul-le-mul-right, mul-one, mul-zero, div-one, mod-one, mod-lt, div-lt-iff-lt-mul, not-suc-le-zero}
+use native.Mathlib.Nat.{mul-le-mul-right, mul-one, mul-zero, div-one, mod-one, mod-lt, mod-eq-of-lt, add-mod-right, div-add-mod', div-lt-iff-lt-mul, not-suc-le-zero, zero-add}
 use native.Mathlib.Omega.{arith}
-use lib.Arith.{digits-div, digits-mod, digits-lt}
+use lib.Arith.{digits-div, digits-mod, digits-lt, mod-mul}
 use borrow.Rule.Slice.PartMut.{putMid}
 use lib.ListN.{length, getD, take, drop, length-reverse, length-drop}
 use lib.Seq.{length-take-le, getD-take, getD-drop}
-use lib.IntN.{ℤ, pos}
+use lib.Dec.{eqb}
+use lib.IntN.{ℤ, pos, _+ℤ_}
 use mathlib.Core.List.{reverse}
 use Rattle.meaning.specs.Array.{tab}
-use Rattle.copying.specs.Runs.{reversed}
-use Rattle.copying.proofs.Runs.{reversed-whole, tab-is, filled, put-list}
+use Rattle.copying.specs.Runs.{copied, reversed}
+use Rattle.copying.proofs.Runs.{reversed-whole, tab-is, filled, filled-none, filled-whole, put-list, put-copied}
 use Rattle.copying.proofs.Blocks.{source, source-in}
-use Rattle.meaning.proofs.Tab.{length-tab, getD-tab}
+use Rattle.meaning.specs.Terms.{modulo}
+use Rattle.meaning.proofs.Modulo.{modulo-lt, modulo-turn, amount-is}
+use Rattle.meaning.proofs.Tab.{length-tab, getD-tab, tab-ext}
+use Rattle.turns.specs.Rows.{turnPosition, turnRow}
 use Rattle.copying.proofs.Steps.{getD-reverse}
 
 -- One row less.
@@ -63,22 +68,87 @@ block-step g ψ at size r out out₀ last o h in-block same q =
     put-list g (pos 0) at size (at + size) out out₀ last o refl (ap length q ∙ length-tab size _)
     (λ i l. same i l ∙ sym (ap (λ ys. getD ys i (pos 0)) q ∙ getD-tab size _ i (pos 0) l ∙ part-at r at size h (ψ i) (in-block i l)))
 
--- The reversed block: element i comes from row n - 1 - i / c.
-module _ (n c i : ℕ) (h : i < n * c) where
-  some : (0 < c) × (i / c < n)
-  some =
-      let p : 0 < c = positive i n c h in
-      (p, div-lt-iff-lt-mul p .1 h)
-    where
-      positive : (i n c : ℕ) → i < n * c → 0 < c
-      positive i n zero h = absurd (not-suc-le-zero (rw mul-zero at h))
-      positive i n (suc c) h = omega arith
+-- Two runs: what stands in r from the cut on, and what stands before it.
+module _ (r out last₁ last₂ : List ℤ) (n cut : ℕ) (long : n ≡ length r) (room : n ≡ length out) (h : cut ≤ n) where
+  abbrev turned : ℕ → ℤ
+  turned j = getD r ((j + cut) % n) (pos 0)
 
-  pub reversed-in : (n - 1 - i / c) * c + i % c < n * c
-  reversed-in = digits-lt (omega (arith, some .1)) (mod-lt i (some .0))
+  pub two-runs : last₁ ≡ copied (take (n - cut) (drop cut r)) (take (n - cut - 0) out)
+      → last₂ ≡ copied (take (cut - 0) r) (take (n - (n - cut)) (drop (n - cut) (putMid 0 (n - cut - 0) out last₁)))
+      → putMid (n - cut) (n - (n - cut)) (putMid 0 (n - cut - 0) out last₁) last₂ ≡ tab n turned
+  two-runs q₁ q₂ =
+      let seam : ℕ = n - cut in
+      let first : putMid 0 (seam - 0) out last₁ ≡ filled turned (0 + seam) out =
+      put-copied turned 0 seam seam out out last₁ (filled-none turned out) (omega arith) (omega arith) r cut n (pos 0) (omega arith) (omega arith)
+      (λ i l. ap (λ k. getD r k (pos 0)) (let e : 0 + i + cut ≡ cut + i = omega arith in ap (λ k. k % n) e ∙ mod-eq-of-lt (omega arith))) q₁ in
+      let filled-there : putMid 0 (seam - 0) out last₁ ≡ filled turned seam out = first ∙ ap (λ k. filled turned k out) (zero-add seam) in
+      let second : putMid seam (n - seam) (putMid 0 (seam - 0) out last₁) last₂ ≡ filled turned (seam + cut) out =
+      put-copied turned seam cut n _ out last₂ filled-there (omega arith) (omega arith) r 0 cut (pos 0) (omega arith) (omega arith)
+      (λ i l. ap (λ k. getD r k (pos 0)) (let e : seam + i + cut ≡ i + n = omega arith in ap (λ k. k % n) e ∙ add-mod-right i n ∙ mod-eq-of-lt (omega arith) ∙ sym (zero-add i))) q₂ in
+      let all : seam + cut ≡ n = omega arith in
+      second ∙ ap (λ k. filled turned k out) all ∙ filled-whole turned n out (omega arith)
 
-  regroup : (o n x c y : ℕ) → (o * n + x) * c + y ≡ o * (n * c) + (x * c + y)
-  regroup o n x c y = omega arith
+-- Where there is an element of a block there is a row, and rows have elements.
+rows-some : (n c i : ℕ) → i < n * c → (0 < c) × (i / c < n)
+rows-some n c i h =
+    let p : 0 < c = positive i n c h in
+    (p, div-lt-iff-lt-mul p .1 h)
+  where
+    positive : (i n c : ℕ) → i < n * c → 0 < c
+    positive i n zero h = absurd (not-suc-le-zero (rw mul-zero at h))
+    positive i n (suc c) h = omega arith
 
-  pub reversed-source : (o : ℕ) → source n n c (λ j. n - 1 - j) (o * (n * c) + i) ≡ o * (n * c) + ((n - 1 - i / c) * c + i % c)
-  reversed-source o = source-in n n c (λ j. n - 1 - j) o i h ∙ regroup o n (n - 1 - i / c) c (i % c)
+-- A turn of rows stays among them.
+turn-row-lt : (back : Bool) (a n q : ℕ) → q < n → turnRow back a n q < n
+unfolding turnRow
+turn-row-lt true a n q h = omega arith
+turn-row-lt false a n q h = mod-lt (q + a) (omega arith)
+
+-- Row x of block o, element y.
+regroup : (o n x c y : ℕ) → (o * n + x) * c + y ≡ o * (n * c) + (x * c + y)
+regroup o n x c y = omega arith
+
+-- Element i of a turned block, within the block and among all.
+module _ (back : Bool) (a n c i : ℕ) (h : i < n * c) where
+  pub turned-in : turnRow back a n (i / c) * c + i % c < n * c
+  turned-in = digits-lt (turn-row-lt back a n (i / c) (rows-some n c i h .1)) (mod-lt i (rows-some n c i h .0))
+
+  pub turned-source : (o : ℕ) → source n n c (turnRow back a n) (o * (n * c) + i) ≡ o * (n * c) + (turnRow back a n (i / c) * c + i % c)
+  turned-source o = source-in n n c (turnRow back a n) o i h ∙ regroup o n (turnRow back a n (i / c)) c (i % c)
+
+-- A block reversed, and a block cut at a rows.
+pub block-back : (r : List ℤ) (n c a : ℕ) (back : Bool) → back ≡ true
+    → tab (n * c) (λ j. getD r ((n - 1 - j / c) * c + j % c) (pos 0)) ≡ tab (n * c) (λ j. getD r (turnRow back a n (j / c) * c + j % c) (pos 0))
+unfolding turnRow
+block-back r n c a back e = rw e
+
+pub block-cut : (r : List ℤ) (n c a : ℕ) (back : Bool) → back ≡ false → length r ≡ n * c
+    → tab (length r) (λ j. getD r ((j + a * c) % length r) (pos 0)) ≡ tab (n * c) (λ j. getD r (turnRow back a n (j / c) * c + j % c) (pos 0))
+unfolding turnRow
+block-cut r n c a back e l =
+    ap (λ k. tab k (λ j. getD r ((j + a * c) % k) (pos 0))) l
+    ∙ tab-ext (n * c) _ _ (λ j h. ap (λ k. getD r k (pos 0)) (cut-row j (rows-some n c j h) ∙ (rw e)))
+  where
+    cut-row : (j : ℕ) → (0 < c) × (j / c < n) → (j + a * c) % (n * c) ≡ (j / c + a) % n * c + j % c
+    cut-row j p =
+        let s : j + a * c ≡ (j / c + a) * c + j % c = omega (arith, div-add-mod' j c) in
+        let q : (j + a * c) / c ≡ j / c + a = ap (λ k. k / c) s ∙ digits-div (j / c + a) (mod-lt j (p .0)) in
+        let m : (j + a * c) % c ≡ j % c = ap (λ k. k % c) s ∙ digits-mod (j / c + a) (mod-lt j (p .0)) in
+        mod-mul (j + a * c) (omega (arith, p .1)) (p .0) ∙ ap₂ (λ x y. x % n * c + y) q m
+
+-- The amount as rows is the amount.
+pub turn-amount : (back : Bool) (z : ℤ) (n a i : ℕ) → 0 < n → a ≡ cond (eqb n 0) 0 (modulo z n) → turnRow back a n i ≡ turnPosition back z n i
+unfolding turnRow turnPosition
+turn-amount true z n a i h e = refl
+turn-amount false z n a i h e = ap (λ k. (i + k) % n) (e ∙ amount-is z n h) ∙ sym (modulo-turn i z n h)
+
+pub amount-lt : (z : ℤ) (n a : ℕ) → 0 < n → a ≡ cond (eqb n 0) 0 (modulo z n) → a < n
+amount-lt z n a h e = rw (e ∙ amount-is z n h) (modulo-lt z n h)
+
+pub turn-position-lt : (back : Bool) (z : ℤ) (n i : ℕ) → i < n → turnPosition back z n i < n
+unfolding turnPosition
+turn-position-lt true z n i h = omega arith
+turn-position-lt false z n i h = modulo-lt (pos i +ℤ z) n (omega arith)
+
+pub cut-le : (n c a : ℕ) → a < n → a * c ≤ n * c
+cut-le n c a h = mul-le-mul-right c (omega arith)

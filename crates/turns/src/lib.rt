@@ -8,11 +8,11 @@ ghost use lib.IntN.{pos};
 ghost use Rattle.shape.specs.Shape.{count, counted, countOf};
 ghost use Rattle.meaning.specs.Array.{Operand, arrayOf, goodForm, tab, build};
 ghost use Rattle.meaning.specs.Terms.{axis, along};
-ghost use Rattle.meaning.specs.Primitives.{rotate};
 ghost use Rattle.meaning.specs.Reply.{reply};
 ghost use Rattle.copying.proofs.Runs.{filled};
 ghost use Rattle.copying.proofs.Blocks.{source};
-ghost use Rattle.answer.specs.Answer.{lent, own, Replied};
+ghost use Rattle.answer.specs.Answer.{lent, Replied};
+ghost use Rattle.turns.specs.Rows.{turnPosition, turnRow};
 use answer::Answer;
 use shape::Shape;
 
@@ -29,11 +29,40 @@ pub fn reverse(g: i32, k: i32, rs: Shape, r: &[i32], out: &mut [i32]) -> Answer
     if axes <= at {
         return Answer::refused(5);
     }
+    let count = rs.count();
+    if out.len() < count {
+        return Answer::refused(10);
+    }
+    turn_into(true, 0, rs, at, count, r, out);
+    let lens = rs.lens;
+    let shape = Shape::of_lengths(rs.rank, lens);
+    Answer { number: 0, shape }
+}
+
+// 25.
+pub fn rotate(g: i32, k: i32, ls: Shape, l: &[i32], rs: Shape, r: &[i32], out: &mut [i32]) -> Answer
+    ensures { λ a. ⌜ Replied a (now (out .exit)) (reply (pos 25) g k (lent ls (now (l .entry))) (lent rs (now (r .entry))) (now (out .entry))) ⌝ }
+{
+    let early = answer::early_two(g, ls, l, rs, r);
+    if early != 0 {
+        return Answer::refused(early);
+    }
+    if 1 < ls.rank {
+        return Answer::refused(4);
+    }
+    let axes = axes_of(rs);
+    let at = signed::position(k, g, axes);
+    if axes <= at {
+        return Answer::refused(5);
+    }
+    if ls.count() != 1 {
+        return Answer::refused(6);
+    }
     let total = rs.count();
     if out.len() < total {
         return Answer::refused(10);
     }
-    reverse_into(rs, at, total, r, out);
+    turn_into(false, l[0], rs, at, total, r, out);
     let lens = rs.lens;
     let shape = Shape::of_lengths(rs.rank, lens);
     Answer { number: 0, shape }
@@ -46,11 +75,12 @@ fn axes_of(s: Shape) -> usize
     if s.rank == 0 { 1 } else { s.rank }
 }
 
-fn reverse_into(s: Shape, k: usize, total: usize, r: &[i32], out: &mut [i32])
+// Turns axis k backwards, or by z.
+fn turn_into(back: bool, z: i32, s: Shape, k: usize, total: usize, r: &[i32], out: &mut [i32])
     requires { ⌜ (goodForm (lent s (now r)) ≡ true) × ((total ≡ countOf s) × ((total ≤ length (now out)) × (k < max 1 (s .rank)))) ⌝ }
     ensures { λ _.
         ⌜ now (out .exit)
-        ≡ build (counted s) (along (arrayOf (lent s (now (r .entry)))) k (λ i. axis (arrayOf (lent s (now (r .entry)))) k - 1 - i)) .elements
+        ≡ build (counted s) (along (arrayOf (lent s (now (r .entry)))) k (turnPosition back z (axis (arrayOf (lent s (now (r .entry)))) k))) .elements
         ++ drop (count (counted s)) (now (out .entry)) ⌝ }
 {
     if s.rank == 0 {
@@ -60,25 +90,44 @@ fn reverse_into(s: Shape, k: usize, total: usize, r: &[i32], out: &mut [i32])
     if total == 0 {
         return;
     }
-    let a = s.around(k);
-    reverse_blocks(r, a.outer, a.length, a.inner, out);
+    let w = s.around(k);
+    let a = signed::amount(z, w.length);
+    turn_blocks(back, r, w.outer, w.length, w.inner, a, out);
 }
 
-// Reverses the n rows of each block, `inner` elements a row.
-fn reverse_blocks(r: &[i32], outer: usize, n: usize, inner: usize, out: &mut [i32])
-    requires { ⌜ (0 < outer) × ((outer * n * inner ≤ length (now r)) × (outer * n * inner ≤ length (now out))) ⌝ }
+// Turns the n rows of each block, `inner` elements a row.
+fn turn_blocks(
+    back: bool,
+    r: &[i32],
+    outer: usize,
+    n: usize,
+    inner: usize,
+    a: usize,
+    out: &mut [i32],
+)
+    requires { ⌜ (0 < outer) × ((a < n) × ((outer * n * inner ≤ length (now r)) × (outer * n * inner ≤ length (now out)))) ⌝ }
     ensures { λ _.
-        ⌜ now (out .exit)
-        ≡ filled (λ j. getD (now (r .entry)) (source n n inner (λ i. n - 1 - i) j) (pos 0)) (outer * n * inner) (now (out .entry)) ⌝ }
+        ⌜ now (out .exit) ≡ filled (λ j. getD (now (r .entry)) (source n n inner (turnRow back a n) j) (pos 0)) (outer * n * inner) (now (out .entry)) ⌝ }
 {
     let size = n * inner;
     let mut at = 0;
     let mut o = 0;
     while o < outer {
         let end = at + size;
-        reverse_block(&r[at..end], n, inner, &mut out[at..end]);
+        turn_block(back, &r[at..end], n, inner, a, &mut out[at..end]);
         at = end;
         o += 1;
+    }
+}
+
+fn turn_block(back: bool, r: &[i32], n: usize, inner: usize, a: usize, out: &mut [i32])
+    requires { ⌜ (a < n) × ((length (now r) ≡ n * inner) × (length (now out) ≡ n * inner)) ⌝ }
+    ensures { λ _. ⌜ now (out .exit) ≡ tab (n * inner) (λ j. getD (now (r .entry)) (turnRow back a n (j / inner) * inner + j % inner) (pos 0)) ⌝ }
+{
+    if back {
+        reverse_block(r, n, inner, out);
+    } else {
+        rotate_block(r, a * inner, out);
     }
 }
 
@@ -108,4 +157,15 @@ fn reverse_rows(r: &[i32], n: usize, inner: usize, out: &mut [i32])
         copying::copy_run(&r[from..stop], &mut out[to..end]);
         to = end;
     }
+}
+
+// A block turned by an amount is two runs: what stands from the cut on, and what stands before it.
+fn rotate_block(r: &[i32], cut: usize, out: &mut [i32])
+    requires { ⌜ (length (now r) ≡ length (now out)) × (cut ≤ length (now r)) ⌝ }
+    ensures { λ _. ⌜ now (out .exit) ≡ tab (length (now (r .entry))) (λ j. getD (now (r .entry)) ((j + cut) % length (now (r .entry))) (pos 0)) ⌝ }
+{
+    let n = r.len();
+    let seam = n - cut;
+    copying::copy_run(&r[cut..n], &mut out[0..seam]);
+    copying::copy_run(&r[0..cut], &mut out[seam..n]);
 }

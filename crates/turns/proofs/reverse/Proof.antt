@@ -26,7 +26,7 @@ use Rattle.shape.proofs.Shape.count.Reads as count-reads
 use Rattle.shape.proofs.Shape.of_lengths.Reads as of-lengths-reads
 use Rattle.signed.proofs.position.Reads as position-reads
 use Rattle.turns.proofs.axes_of.Reads as axes-of-reads
-use Rattle.turns.proofs.reverse_into.Reads as reverse-into-reads
+use Rattle.turns.proofs.turn_into.Reads as turn-into-reads
 
 -- FORM and ORIGIN, and what is known of R where neither was met.
 early-is : (c : tie.After-early-one) → c .early-one .result ≡ early (goodForm (lent (c .before .args .rs) (c .before .args .r .now))) (c .before .args .g)
@@ -115,8 +115,8 @@ returns-3 c L =
     (rw (reverse-lengths (st .args .g) (st .args .k) a) (omega (arith, good e .count-is, c .before .before .count .ensures))))
 
 -- src/lib.rt:39:5
-reverse-into-requires : tie.Need-reverse-into-requires
-reverse-into-requires c κs =
+turn-into-requires : tie.Need-turn-into-requires
+turn-into-requires c κs =
     let e2 = c .before .before .before in
     let e = e2 .before .before .before in
     (form e, (c .before .before .count .ensures, (omega arith, omega (arith, e2 .before .before .axes-of .ensures))))
@@ -140,7 +140,7 @@ returns-4 c L =
     let m = reverse (st .args .g) (st .args .k) a in
     let t = c .before .before .before .before .before .before .count .ensures in
     replied-given _ m (st .args .out .now) _ (ap (λ z. record { number = 0; shape = z }) (c .of-lengths .ensures ∙ made-is (st .args .rs) (st .args .r .now) g ∙ sym (ap shapeOf (reverse-lengths (st .args .g) (st .args .k) a))))
-    (reverse-out (st .args .g) (st .args .k) a _ (named e2 .1) (st .args .out .now) _ (c .before .before .before .reverse-into .ensures))
+    (reverse-out (st .args .g) (st .args .k) a _ _ (named e2 .1) (st .args .out .now) _ (c .before .before .before .turn-into .ensures))
     (given-reply (reverse-names (st .args .g) (st .args .k) L (lent (st .args .rs) (st .args .r .now))) (st .args .out .now) (fine e)
     (reverse-none (st .args .g) (st .args .k) a (named e2 .0)) (reverse-rule (st .args .g) (st .args .k) a (g .rule))
     (rw (reverse-lengths (st .args .g) (st .args .k) a) (omega (arith, g .count-is, t))))
@@ -159,7 +159,7 @@ reverse-spec =
     count-requires
     refused-requires-3
     returns-3
-    reverse-into-requires
+    turn-into-requires
     of-lengths-requires
     same-length
     returns-4)

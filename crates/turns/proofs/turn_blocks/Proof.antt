@@ -1,0 +1,160 @@
+use mathlib.Core.Path.{_≡_, refl, sym, ap, _∙_}
+use mathlib.Core.List.{List}
+use mathlib.Core.Bool.{Bool}
+use Prim.Native.Nat.{ℕ, _+_, _*_, _-_, _/_, _%_, _≤_, _<_}
+use native.Mathlib.Omega.{arith}
+use lib.ListN.{length, getD}
+use lib.IntN.{ℤ, pos}
+use borrow.Author.Needs.{needs}
+use borrow.Rule.Slice.PartMut.{same-len-mid}
+use Rattle.copying.proofs.Runs.{filled, filled-none}
+use Rattle.copying.proofs.Blocks.{source}
+use Rattle.turns.specs.Rows.{turnRow}
+use Rattle.turns.proofs.Rows.{block-room, part-size, block-step, turned-in, turned-source}
+use Rattle.turns.proofs.turn_blocks.Statement.{statement}
+use Rattle.turns.proofs.turn_blocks.Tie as tie
+use Rattle.turns.proofs.turn_blocks.Reads as reads
+use Rattle.turns.proofs.turn_blocks.Lts as lts
+use Rattle.turns.proofs.turn_block.Reads as turn-block-reads
+
+-- What element j of the turned blocks is.
+abbrev element : Bool → ℕ → List ℤ → ℕ → ℕ → ℕ → ℤ
+element back a r n inner j = getD r (source n n inner (turnRow back a n) j) (pos 0)
+
+abbrev Inv-loop : tie.InvT-loop
+Inv-loop back r outer n inner a out₀ size at₀ o₀ out at o = (o ≤ outer) × ((at ≡ o * (n * inner)) × ((length out ≡ length out₀) × (out ≡ filled (element back a r n inner) at out₀)))
+
+abbrev μ-loop : tie.MeasureT-loop
+μ-loop back r outer n inner a out₀ size at₀ o₀ out at o = outer - o
+
+-- The block lies within both.
+room : (c : tie.In-loop Inv-loop μ-loop)
+    → (c .before .loop .at + c .before .before .args .n * c .before .before .args .inner ≤ length (c .before .before .args .r .now))
+    × (c .before .loop .at + c .before .before .args .n * c .before .before .args .inner ≤ length (c .before .before .args .out .now))
+room c =
+    let a = c .before .before .args in
+    let o = c .before .loop .o in
+    let l : o < a .outer = omega arith in (
+      omega (arith, block-room o (a .outer) (a .n * a .inner) (length (a .r .now)) l (omega arith)),
+      omega (arith, block-room o (a .outer) (a .n * a .inner) (length (a .out .now)) l (omega arith)),
+    )
+
+-- src/lib.rt:83:16
+mul-size : tie.Need-mul-size Inv-loop μ-loop
+mul-size c = omega (arith, block-room 0 (c .args .outer) (c .args .n * c .args .inner) (length (c .args .r .now)) (omega arith) (omega arith))
+
+-- src/lib.rt:86:5
+loop-holds : tie.Need-loop-holds Inv-loop μ-loop
+loop-holds c = (omega arith, (omega arith, (refl, filled-none _ _)))
+
+-- src/lib.rt:87:19
+add-end : tie.Need-add-end Inv-loop μ-loop
+add-end c = omega (arith, room c)
+
+-- src/lib.rt:88:23
+mul-turn-block : tie.Need-mul-turn-block Inv-loop μ-loop
+mul-turn-block c = omega (arith, room c)
+
+-- src/lib.rt:88:23
+sub-turn-block : tie.Need-sub-turn-block Inv-loop μ-loop
+sub-turn-block c = search needs
+
+-- src/lib.rt:88:23
+part-turn-block-start : tie.Need-part-turn-block-start Inv-loop μ-loop
+part-turn-block-start c = omega (arith, room c)
+
+-- src/lib.rt:88:23
+part-turn-block-end : tie.Need-part-turn-block-end Inv-loop μ-loop
+part-turn-block-end c = omega (arith, room c)
+
+-- src/lib.rt:88:46
+mul-turn-block-2 : tie.Need-mul-turn-block-2 Inv-loop μ-loop
+mul-turn-block-2 c = omega (arith, room (c .before))
+
+-- src/lib.rt:88:46
+sub-turn-block-2 : tie.Need-sub-turn-block-2 Inv-loop μ-loop
+sub-turn-block-2 c = search needs
+
+-- src/lib.rt:88:46
+part-turn-block-start-2 : tie.Need-part-turn-block-start-2 Inv-loop μ-loop
+part-turn-block-start-2 c = omega (arith, room (c .before))
+
+-- src/lib.rt:88:46
+part-turn-block-end-2 : tie.Need-part-turn-block-end-2 Inv-loop μ-loop
+part-turn-block-end-2 c = omega (arith, room (c .before))
+
+-- src/lib.rt:88:9
+turn-block-requires : tie.Need-turn-block-requires Inv-loop μ-loop
+turn-block-requires c κs =
+    let a = c .before .before .before .before .args in
+    let lp = c .before .before .before .loop in
+    let m = room (c .before .before) in (
+      c .before .before .before .before .pre .1 .0,
+      (part-size (a .r .now) (lp .at) (a .n * a .inner) (m .0), part-size (lp .out) (lp .at) (a .n * a .inner) (omega (arith, m .1, lp .inv .1 .1 .0))),
+    )
+
+-- src/lib.rt:90:9
+add-o : tie.Need-add-o Inv-loop μ-loop
+add-o c = search needs
+
+-- src/lib.rt:86:5
+loop-less : tie.Need-loop-less Inv-loop μ-loop
+loop-less c = search needs
+
+-- src/lib.rt:86:5
+loop-again : tie.Need-loop-again Inv-loop μ-loop
+loop-again c =
+    let a = c .before .before .before .before .before .before .args in
+    let lp = c .before .before .before .before .before .loop in
+    let size = a .n * a .inner in
+    let m = room (c .before .before .before .before) in
+    let r = a .r .now in (
+      omega arith,
+      (
+        omega (arith, lp .inv .1 .0),
+        (
+          same-len-mid (lp .at) (lp .at + size - lp .at) (lp .out) (c .before .turn-block .last .1 .1 .1 .1 .1 .0) (c .before .turn-block .kept .1 .1 .1 .1 .1 .0) ∙ lp .inv .1 .1 .0,
+          block-step (element (a .back) (a .a) r (a .n) (a .inner)) (λ i. turnRow (a .back) (a .a) (a .n) (i / a .inner) * a .inner + i % a .inner) (lp .at) size r (lp .out) (a .out .now) _ (lp .inv .1 .1 .1) (m .0)
+              (λ i l. turned-in (a .back) (a .a) (a .n) (a .inner) i l)
+              (λ i l. ap (λ k. getD r k (pos 0)) (ap (λ x. source (a .n) (a .n) (a .inner) (turnRow (a .back) (a .a) (a .n)) (x + i)) (lp .inv .1 .0) ∙ turned-source (a .back) (a .a) (a .n) (a .inner) i l (lp .o) ∙ ap (λ x. x + (turnRow (a .back) (a .a) (a .n) (i / a .inner) * a .inner + i % a .inner)) (sym (lp .inv .1 .0))))
+              (c .before .turn-block .ensures),
+        ),
+      ),
+    )
+
+-- src/lib.rt:75:1
+same-length : tie.Need-same-length Inv-loop μ-loop
+same-length c = search needs
+
+-- src/lib.rt:75:1
+returns : tie.Need-returns Inv-loop μ-loop
+returns c =
+    let a = c .before .before .args in
+    let lp = c .before .loop in
+    let e : lp .o ≡ a .outer = omega arith in
+    let t : lp .at ≡ a .outer * a .n * a .inner = lp .inv .1 .0 ∙ ap (λ k. k * (a .n * a .inner)) e ∙ omega arith in
+    lp .inv .1 .1 .1 ∙ ap (λ k. filled (element (a .back) (a .a) (a .r .now) (a .n) (a .inner)) k (a .out .now)) t
+
+pub turn-blocks-spec : {M : Type 1} → statement M
+turn-blocks-spec =
+    tie.close
+    (tie.spec
+    Inv-loop
+    μ-loop
+    mul-size
+    loop-holds
+    add-end
+    mul-turn-block
+    sub-turn-block
+    part-turn-block-start
+    part-turn-block-end
+    mul-turn-block-2
+    sub-turn-block-2
+    part-turn-block-start-2
+    part-turn-block-end-2
+    turn-block-requires
+    add-o
+    loop-less
+    loop-again
+    same-length
+    returns)
