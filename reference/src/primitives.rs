@@ -68,8 +68,8 @@ pub fn call(call: &Call, room: i64) -> Outcome {
     result.build(room)
 }
 
-/// What a primitive that refuses nothing itself gives: the result's lengths,
-/// and for each place of the result the element that stands there.
+/// What a primitive gives if it refuses nothing itself: the result's lengths, and
+/// for each place of the result the element that stands there.
 struct Wanted<'a> {
     lengths: Vec<i64>,
     element: Box<dyn Fn(&[i64]) -> i32 + 'a>,
@@ -98,7 +98,11 @@ impl Wanted<'_> {
 // What several primitives ask.
 
 fn refuse_if(refused: bool, refusal: Refusal) -> Result<(), Refusal> {
-    if refused { Err(refusal) } else { Ok(()) }
+    if refused {
+        Err(refusal)
+    } else {
+        Ok(())
+    }
 }
 
 /// "List means rank 0 or 1, else RANK."
@@ -239,7 +243,11 @@ fn catenate<'a>(k: i64, l: &'a Array, r: &'a Array) -> Result<Wanted<'a>, Refusa
     // "[The lower operand] counts as length 1 there. A scalar [...] to length 1
     // along k."
     let length_along_k = |operand: &Array| {
-        if operand.rank() == higher_rank { operand.lengths[axis] } else { 1 }
+        if operand.rank() == higher_rank {
+            operand.lengths[axis]
+        } else {
+            1
+        }
     };
     let left_length = length_along_k(&l);
     let lengths = with(&higher.lengths, axis, left_length + length_along_k(&r));
@@ -377,8 +385,7 @@ fn compress<'a>(k: i64, l: &Array, r: &Array) -> Result<Wanted<'a>, Refusal> {
     // Both made equally long: the mask, and for each of its positions the one on
     // R's axis.
     let mask = if l.count() == 1 { vec![l.elements[0]; n as usize] } else { l.elements.clone() };
-    let axis_positions: Vec<i64> =
-        if n == 1 { vec![0; mask.len()] } else { (0..n).collect() };
+    let axis_positions: Vec<i64> = if n == 1 { vec![0; mask.len()] } else { (0..n).collect() };
     let mut remaining = Vec::new();
     for i in 0..mask.len() {
         if mask[i] == 1 {
@@ -386,9 +393,7 @@ fn compress<'a>(k: i64, l: &Array, r: &Array) -> Result<Wanted<'a>, Refusal> {
         }
     }
     let lengths = with(&r.lengths, axis, remaining.len() as i64);
-    Ok(wanted(lengths, move |place| {
-        r.at(&with(place, axis, remaining[place[axis] as usize]))
-    }))
+    Ok(wanted(lengths, move |place| r.at(&with(place, axis, remaining[place[axis] as usize]))))
 }
 
 /// 28: "L is a list of 0 and 1, else DOMAIN; one element is one place and is not
@@ -402,7 +407,8 @@ fn expand<'a>(k: i64, l: &Array, r: &Array) -> Result<Wanted<'a>, Refusal> {
     // "In 28 DOMAIN precedes LENGTH."
     check_zeros_and_ones(l)?;
     let mask = l.elements.clone();
-    let ones_before = |end: usize| mask[..end].iter().filter(|&&element| element == 1).count() as i64;
+    let ones_before =
+        |end: usize| mask[..end].iter().filter(|&&element| element == 1).count() as i64;
     refuse_if(!is_repeated && ones_before(mask.len()) != r.lengths[axis], Length)?;
 
     // For each position of the result the one on R's axis, if there is one.
@@ -438,9 +444,7 @@ fn index_of<'a>(g: i64, l: &'a Array, r: &'a Array) -> Result<Wanted<'a>, Refusa
 
 /// 30: "L's shape; 1 exactly where L's element occurs in R, else 0."
 fn member<'a>(l: &'a Array, r: &'a Array) -> Wanted<'a> {
-    wanted(l.lengths.clone(), |place| {
-        if r.elements.contains(&l.at(place)) { 1 } else { 0 }
-    })
+    wanted(l.lengths.clone(), |place| if r.elements.contains(&l.at(place)) { 1 } else { 0 })
 }
 
 /// 31: "R has an axis, else RANK; L is a list of positions, each less G within
@@ -460,9 +464,7 @@ fn select<'a>(g: i64, k: i64, l: &'a Array, r: &'a Array) -> Result<Wanted<'a>, 
         }));
     }
     let lengths = with(&r.lengths, axis, l.count());
-    Ok(wanted(lengths, move |place| {
-        r.at(&with(place, axis, positions[place[axis] as usize]))
-    }))
+    Ok(wanted(lengths, move |place| r.at(&with(place, axis, positions[place[axis] as usize]))))
 }
 
 /// The exercises of 01, in its order. "Where not named, G and K are 1."
@@ -508,8 +510,14 @@ mod exercises {
     #[test]
     fn transposes() {
         let two_by_three = array(&[2, 3], &[1, 2, 3, 4, 5, 6]);
-        assert_eq!(run_at_1(15, scalar(0), two_by_three.clone()), Ok(array(&[3, 2], &[1, 4, 2, 5, 3, 6])));
-        assert_eq!(run(26, 0, 1, vector(&[0, 0]), two_by_three.clone(), 1_024), Ok(vector(&[1, 5])));
+        assert_eq!(
+            run_at_1(15, scalar(0), two_by_three.clone()),
+            Ok(array(&[3, 2], &[1, 4, 2, 5, 3, 6]))
+        );
+        assert_eq!(
+            run(26, 0, 1, vector(&[0, 0]), two_by_three.clone(), 1_024),
+            Ok(vector(&[1, 5]))
+        );
         assert_eq!(run(26, 0, 1, vector(&[1, 1]), two_by_three, 1_024), Err(Domain));
         // "Where candidates and programs stumble": "the opposite permutation".
         let two_by_three_by_four = array(&[2, 3, 4], &(0..24).collect::<Vec<i32>>());
