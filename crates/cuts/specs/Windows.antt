@@ -1,0 +1,77 @@
+-- A window on each axis, and what a result of 23 or 24 holds through it.
+use Prim.Native.Nat.{ℕ, _+_, _*_, _-_, _/_, _%_, _<_, _≤_, min}
+use mathlib.Core.Path.{_≡_}
+use mathlib.Core.List.{List, [], _∷_, map}
+use mathlib.Core.Bool.{Bool, true, false, not, cond, _&&_}
+use lib.ListN.{length, getD, take, drop, replicate}
+use lib.Dec.{leb, ltb}
+use lib.IntN.{ℤ, pos, natAbs}
+use Rattle.shape.specs.Shape.{count}
+use Rattle.meaning.specs.Array.{Array}
+use Rattle.meaning.specs.Terms.{negative}
+use Rattle.meaning.specs.Primitives.{Meaning, takes, drops, droppedLengths}
+
+-- 23 and 24 by one flag: whether positions are dropped.
+abbrev pub numberOf : Bool → ℕ
+numberOf dropping = cond dropping 24 23
+
+abbrev pub meaningOf : Bool → Array → Array → Meaning
+meaningOf dropping L R = cond dropping (drops L R) (takes L R)
+
+-- The result's length on an axis of length n, and whether the end of the axis is kept and not its front.
+abbrev pub sizeOf : Bool → ℤ → ℕ → ℕ
+sizeOf dropping z n = cond dropping (n - natAbs z) (natAbs z)
+
+abbrev pub endOf : Bool → ℤ → Bool
+endOf dropping z = cond dropping (not (negative z)) (negative z)
+
+unfoldable pub sizesOf : Bool → List ℤ → List ℕ → List ℕ
+sizesOf dropping [] ns = []
+sizesOf dropping (z ∷ zs) [] = []
+sizesOf dropping (z ∷ zs) (n ∷ ns) = sizeOf dropping z n ∷ sizesOf dropping zs ns
+
+-- Five numbers for each axis: the zeros before, the first position that is taken, how many are taken, and how many elements
+-- a position has in R and in the result.
+unfoldable pub tableOf : Bool → List ℤ → List ℕ → List ℕ
+tableOf dropping [] ns = []
+tableOf dropping (z ∷ zs) [] = []
+tableOf dropping (z ∷ zs) (n ∷ ns) =
+    let m : ℕ = sizeOf dropping z n in
+    cond (endOf dropping z) (m - n) 0
+    ∷ cond (endOf dropping z) (n - m) 0
+    ∷ min m n
+    ∷ count ns
+    ∷ count (sizesOf dropping zs ns)
+    ∷ tableOf dropping zs ns
+
+-- Element j of a result: r is the operand and `at` where the part that is looked at starts in it. Without a window it is a run.
+unfoldable pub cutAt : List ℕ → List ℤ → ℕ → ℕ → ℤ
+cutAt [] r at j = getD r (at + j) (pos 0)
+cutAt (_ ∷ []) r at j = pos 0
+cutAt (_ ∷ _ ∷ []) r at j = pos 0
+cutAt (_ ∷ _ ∷ _ ∷ []) r at j = pos 0
+cutAt (_ ∷ _ ∷ _ ∷ _ ∷ []) r at j = pos 0
+cutAt (lead ∷ from ∷ len ∷ step ∷ block ∷ rest) r at j =
+    cond (leb lead (j / block) && ltb (j / block) (lead + len))
+    (cutAt rest r (at + (from + (j / block - lead)) * step) (j % block))
+    (pos 0)
+
+-- Windows that fit a part of an operand of n elements, from `at` on, and a result of m: after the last of them come runs.
+abbrev pub Fitting : List ℕ → ℕ → ℕ → ℕ → Type 0
+Fitting [] at n m = ⊥
+Fitting (_ ∷ []) at n m = ⊥
+Fitting (_ ∷ _ ∷ []) at n m = ⊥
+Fitting (_ ∷ _ ∷ _ ∷ []) at n m = ⊥
+Fitting (_ ∷ _ ∷ _ ∷ _ ∷ []) at n m = ⊥
+Fitting (lead ∷ from ∷ len ∷ step ∷ block ∷ rest) at n m =
+    (0 < block)
+    × (((lead + len) * block ≤ m)
+    × ((at + (from + len) * step ≤ n)
+    × ((length rest ≡ 0 → step ≡ block)
+    × (0 < length rest → (i : ℕ) → i < len → Fitting rest (at + (from + i) * step) n block))))
+
+-- A buffer of n elements with zeros before `start` and from `stop` on.
+pub record Cleared (start stop n : ℕ) (out : List ℤ) : Type 0 where
+  pub long : length out ≡ n
+  pub before : take start out ≡ replicate start (pos 0)
+  pub after : drop stop out ≡ replicate (n - stop) (pos 0)
