@@ -57,7 +57,7 @@ fits (a ∷ b ∷ c ∷ d ∷ e ∷ ws) at n m h = record {
   rest = λ l i k. h .1 .1 .1 .1 (omega arith) i k;
 }
 
-div-below : (j a b : ℕ) → 0 < b → j < a * b → j / b < a
+pub div-below : (j a b : ℕ) → 0 < b → j < a * b → j / b < a
 div-below j a b p h = div-lt-iff-lt-mul {k = b} {x = j} {y = a} p .1 h
 
 div-above : (j a b : ℕ) → 0 < b → a * b ≤ j → a ≤ j / b

@@ -1,2 +1,4 @@
 pub mod Clearing
 pub mod Cutting
+pub mod Tables
+pub mod Bridges

@@ -1,0 +1,134 @@
+-- The table of windows, with its flag open.
+use Prim.Native.Nat.{ℕ, zero, suc, _+_, _*_, _-_, _/_, _%_, _≤_, _<_, min}
+use native.Mathlib.Nat.{mod-lt, div-add-mod', mul-le-mul-right, zero-mul, mul-zero}
+use native.Mathlib.Omega.{arith}
+use mathlib.Core.Path.{_≡_, refl, sym, ap, ap₂, _∙_}
+use mathlib.Core.List.{List, [], _∷_}
+use mathlib.Core.Bool.{Bool, true, false, cond, _&&_}
+use borrow.Author.Tests.{le-leb, lt-ltb}
+use lib.Dec.{leb, ltb}
+use lib.ListN.{length, getD, take, drop, length-take}
+use lib.IntN.{ℤ, pos}
+use Rattle.shape.specs.Shape.{count}
+use Rattle.cuts.specs.Windows.{sizeOf, endOf, sizesOf, tableOf, cutAt, Fitting}
+use Rattle.cuts.proofs.Cutting.{div-below}
+
+-- A window of n positions and m: it lies in both.
+pub window-room : (e : Bool) (m n : ℕ) → (cond e (m - n) 0 + min m n ≤ m) × (cond e (n - m) 0 + min m n ≤ n)
+window-room true m n = (omega arith, omega arith)
+window-room false m n = (omega arith, omega arith)
+
+-- It is the whole axis if they are the same.
+window-whole : (e : Bool) (m n : ℕ) → m ≡ n → (cond e (m - n) 0 ≡ 0) × ((cond e (n - m) 0 ≡ 0) × (min m n ≡ n))
+window-whole true m n h = (omega arith, (omega arith, omega arith))
+window-whole false m n h = (refl, (refl, omega arith))
+
+pub factor-pos : (m c : ℕ) → 0 < m * c → 0 < c
+factor-pos m zero h = absurd (omega (arith, mul-zero m))
+factor-pos m (suc c) h = omega arith
+
+-- Five numbers more.
+five-more : (u : ℕ) → suc u * 5 ≡ suc (suc (suc (suc (suc (u * 5)))))
+five-more u = omega arith
+
+-- From an operand without elements come zeros.
+pub cut-empty : (t : List ℕ) (at j : ℕ) → cutAt t [] at j ≡ pos 0
+unfolding cutAt
+cut-empty [] at j = refl
+cut-empty (_ ∷ []) at j = refl
+cut-empty (_ ∷ _ ∷ []) at j = refl
+cut-empty (_ ∷ _ ∷ _ ∷ []) at j = refl
+cut-empty (_ ∷ _ ∷ _ ∷ _ ∷ []) at j = refl
+cut-empty (a ∷ b ∷ c ∷ d ∷ e ∷ ws) at j = rw (cut-empty ws (at + (b + (j / e - a)) * d) (j % e)) (same (leb a (j / e) && ltb (j / e) (a + c)))
+  where
+    same : (b : Bool) → cond b (pos 0) (pos 0) ≡ pos 0
+    same true = refl
+    same false = refl
+
+module _ (d : Bool) where
+  pub table-length : (zs : List ℤ) (ns : List ℕ) → length zs ≡ length ns → length (tableOf d zs ns) ≡ length ns * 5
+  unfolding tableOf
+  table-length [] [] l = omega arith
+  table-length [] (n ∷ ns) l = absurd (omega arith)
+  table-length (z ∷ zs) [] l = absurd (omega arith)
+  table-length (z ∷ zs) (n ∷ ns) l = omega (arith, table-length zs ns (omega arith))
+
+  -- Axes that are taken whole are a run.
+  pub cut-whole : (zs : List ℤ) (ns : List ℕ) (xs : List ℤ) (at j : ℕ) → length zs ≡ length ns → ns ≡ sizesOf d zs ns → j < count ns
+      → cutAt (tableOf d zs ns) xs at j ≡ getD xs (at + j) (pos 0)
+  unfolding cutAt tableOf sizesOf count
+  cut-whole [] [] xs at j l e h = refl
+  cut-whole [] (n ∷ ns) xs at j l e h = absurd (omega arith)
+  cut-whole (z ∷ zs) [] xs at j l e h = absurd (omega arith)
+  cut-whole (z ∷ zs) (n ∷ ns) xs at j l e h =
+      let m : ℕ = sizeOf d z n in
+      let head : m ≡ n = cc in
+      let tail : ns ≡ sizesOf d zs ns = cc in
+      let w = window-whole (endOf d z) m n head in
+      let c : 0 < count ns = factor-pos n (count ns) (omega arith) in
+      let i : j / count ns < n = div-below j n (count ns) c h in
+      let off : 0 + (j / count ns - 0) ≡ j / count ns = omega arith in
+      let to : at + j / count ns * count ns + j % count ns ≡ at + j = omega (arith, div-add-mod' j (count ns)) in
+      rw (w .0, w .1 .0, w .1 .1, ← tail, le-leb 0 (j / count ns) (omega arith), lt-ltb (j / count ns) (0 + n) (omega arith), off)
+      (cut-whole zs ns xs (at + j / count ns * count ns) (j % count ns) (omega arith) tail (mod-lt j c) ∙ ap (λ x. getD xs x (pos 0)) to)
+
+  -- So the windows up to the last axis that is not taken whole are enough.
+  pub cut-front : (u : ℕ) (zs : List ℤ) (ns : List ℕ) (xs : List ℤ) (at j : ℕ) → length zs ≡ length ns → drop u ns ≡ drop u (sizesOf d zs ns)
+      → j < count (sizesOf d zs ns) → cutAt (take (u * 5) (tableOf d zs ns)) xs at j ≡ cutAt (tableOf d zs ns) xs at j
+  unfolding cutAt tableOf sizesOf count
+  cut-front zero zs ns xs at j l e h = sym (cut-whole zs ns xs at j l e (rw (← e) at h))
+  cut-front (suc u) [] [] xs at j l e h = rw (five-more u)
+  cut-front (suc u) [] (n ∷ ns) xs at j l e h = absurd (omega arith)
+  cut-front (suc u) (z ∷ zs) [] xs at j l e h = absurd (omega arith)
+  cut-front (suc u) (z ∷ zs) (n ∷ ns) xs at j l e h =
+      let m : ℕ = sizeOf d z n in
+      let ms : List ℕ = sizesOf d zs ns in
+      let lead : ℕ = cond (endOf d z) (m - n) 0 in
+      let i : ℕ = j / count ms in
+      let c : 0 < count ms = factor-pos m (count ms) (omega arith) in
+      rw (five-more u)
+      (ap (λ x. cond (leb lead i && ltb i (lead + min m n)) x (pos 0))
+      (cut-front u zs ns xs (at + (cond (endOf d z) (n - m) 0 + (i - lead)) * count ns) (j % count ms) (omega arith) e (mod-lt j c)))
+
+  pub table-fits : (u : ℕ) (zs : List ℤ) (ns : List ℕ) (at N : ℕ) → length zs ≡ length ns → suc u ≤ length ns → 0 < count (sizesOf d zs ns)
+      → at + count ns ≤ N → drop (suc u) ns ≡ drop (suc u) (sizesOf d zs ns)
+      → Fitting (take (suc u * 5) (tableOf d zs ns)) at N (count (sizesOf d zs ns))
+  unfolding tableOf sizesOf count
+  table-fits u [] [] at N l k p h e = absurd (omega arith)
+  table-fits u [] (n ∷ ns) at N l k p h e = absurd (omega arith)
+  table-fits u (z ∷ zs) [] at N l k p h e = absurd (omega arith)
+  table-fits zero (z ∷ zs) (n ∷ ns) at N l k p h e =
+      let m : ℕ = sizeOf d z n in
+      let w = window-room (endOf d z) m n in
+      (
+        factor-pos m (count (sizesOf d zs ns)) p,
+        (
+          mul-le-mul-right (count (sizesOf d zs ns)) (w .0),
+          (omega (arith, mul-le-mul-right (count ns) (w .1)), ((λ q. ap count e), λ q. absurd (omega (arith, q)))),
+        ),
+      )
+  table-fits (suc u) (z ∷ zs) (n ∷ ns) at N l k p h e =
+      let m : ℕ = sizeOf d z n in
+      let w = window-room (endOf d z) m n in
+      let from : ℕ = cond (endOf d z) (n - m) 0 in
+      let some : 0 < count (sizesOf d zs ns) = factor-pos m (count (sizesOf d zs ns)) p in
+      rw (five-more (suc u))
+      (
+        some,
+        (
+          mul-le-mul-right (count (sizesOf d zs ns)) (w .0),
+          (
+            omega (arith, mul-le-mul-right (count ns) (w .1)),
+            (
+              (λ q. absurd (none zs ns (omega arith) (omega arith) q)),
+              λ q i s.
+              table-fits u zs ns (at + (from + i) * count ns) N (omega arith) (omega arith) some
+              (omega (arith, mul-le-mul-right {m = from + i + 1} {n = n} (count ns) (omega (arith, w .1))))
+              e,
+            ),
+          ),
+        ),
+      )
+    where
+      none : (zs : List ℤ) (ns : List ℕ) → length zs ≡ length ns → suc u ≤ length ns → length (take (suc u * 5) (tableOf d zs ns)) ≡ 0 → ⊥
+      none zs ns l k q = omega (arith, q, length-take (suc u * 5) (tableOf d zs ns), table-length zs ns l)
