@@ -2,3 +2,4 @@ pub mod Clearing
 pub mod Cutting
 pub mod Tables
 pub mod Bridges
+pub mod Building

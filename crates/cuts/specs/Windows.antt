@@ -6,7 +6,8 @@ use mathlib.Core.Bool.{Bool, true, false, not, cond, _&&_}
 use lib.ListN.{length, getD, take, drop, replicate}
 use lib.Dec.{leb, ltb}
 use lib.IntN.{ℤ, pos, natAbs}
-use Rattle.shape.specs.Shape.{count}
+use Rattle.shape.specs.Shape.{maxRank, maxCount, count}
+use Rattle.cuts.specs.declared.Window.{Window}
 use Rattle.meaning.specs.Array.{Array}
 use Rattle.meaning.specs.Terms.{negative}
 use Rattle.meaning.specs.Primitives.{Meaning, takes, drops, droppedLengths}
@@ -30,16 +31,21 @@ sizesOf dropping [] ns = []
 sizesOf dropping (z ∷ zs) [] = []
 sizesOf dropping (z ∷ zs) (n ∷ ns) = sizeOf dropping z n ∷ sizesOf dropping zs ns
 
+-- The window of an axis.
+abbrev pub windowOf : Bool → ℤ → ℕ → Window
+windowOf dropping z n =
+    let m : ℕ = sizeOf dropping z n in
+    record { lead = cond (endOf dropping z) (m - n) 0; from = cond (endOf dropping z) (n - m) 0; len = min m n; size = m }
+
 -- Five numbers for each axis: the zeros before, the first position that is taken, how many are taken, and how many elements
 -- a position has in R and in the result.
 unfoldable pub tableOf : Bool → List ℤ → List ℕ → List ℕ
 tableOf dropping [] ns = []
 tableOf dropping (z ∷ zs) [] = []
 tableOf dropping (z ∷ zs) (n ∷ ns) =
-    let m : ℕ = sizeOf dropping z n in
-    cond (endOf dropping z) (m - n) 0
-    ∷ cond (endOf dropping z) (n - m) 0
-    ∷ min m n
+    windowOf dropping z n .lead
+    ∷ windowOf dropping z n .from
+    ∷ windowOf dropping z n .len
     ∷ count ns
     ∷ count (sizesOf dropping zs ns)
     ∷ tableOf dropping zs ns
@@ -75,3 +81,12 @@ pub record Cleared (start stop n : ℕ) (out : List ℤ) : Type 0 where
   pub long : length out ≡ n
   pub before : take start out ≡ replicate start (pos 0)
   pub after : drop stop out ≡ replicate (n - stop) (pos 0)
+
+-- What is known of a cut with elements: one number in l for each of the first `rank` lengths, and neither R nor the result is empty.
+pub record Cut (dropping : Bool) (rank : ℕ) (lens : List ℕ) (l : List ℤ) : Type 0 where
+  pub high : rank ≤ maxRank
+  pub enough : rank ≤ length l
+  pub some : 0 < count (take rank lens)
+  pub small : count (take rank lens) ≤ maxCount
+  pub result : 0 < count (sizesOf dropping (take rank l) (take rank lens))
+  pub limit : count (sizesOf dropping (take rank l) (take rank lens)) ≤ maxCount

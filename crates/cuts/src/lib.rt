@@ -1,9 +1,12 @@
 // Take and drop: on each axis of the result a window of R's positions, and zeros outside it.
 ghost use mathlib.Core.Path.{_≡_};
-ghost use Prim.Native.Nat.{_≤_};
-ghost use lib.ListN.{length};
+ghost use mathlib.Core.Bool.{cond};
+ghost use Prim.Native.Nat.{_-_, _*_, _≤_, _<_};
+ghost use lib.Dec.{eqb};
+ghost use lib.ListN.{length, take, drop, replicate};
+ghost use Rattle.shape.specs.Shape.{maxRank, maxCount, count};
 ghost use Rattle.meaning.specs.Array.{tab};
-ghost use Rattle.cuts.specs.Windows.{cutAt, Fitting, Cleared};
+ghost use Rattle.cuts.specs.Windows.{sizeOf, endOf, windowOf, sizesOf, tableOf, cutAt, Fitting, Cleared, Cut};
 use shape::Shape;
 
 // How many numbers a table has for each axis.
@@ -44,4 +47,113 @@ fn cut(table: &[usize], at: usize, r: &[i32], out: &mut [i32])
         cut(&table[WIDTH..rest], first + i * step, r, &mut out[a..b]);
         i += 1;
     }
+}
+
+// a less b, and 0 where b is larger.
+fn beyond(a: usize, b: usize) -> usize
+    ensures { λ r. ⌜ r ≡ a - b ⌝ }
+{
+    if b < a { a - b } else { 0 }
+}
+
+// The result's length on an axis of length n.
+fn size_on(dropping: bool, z: i32, n: usize) -> usize
+    ensures { λ r. ⌜ r ≡ sizeOf dropping z n ⌝ }
+{
+    let size = signed::size(z);
+    if dropping { beyond(n, size) } else { size }
+}
+
+// Whether the end of an axis is kept and not its front.
+fn keeps_end(dropping: bool, z: i32) -> bool
+    ensures { λ r. ⌜ r ≡ endOf dropping z ⌝ }
+{
+    let negative = signed::negative(z);
+    if dropping { !negative } else { negative }
+}
+
+// On an axis: the zeros before, the first position that is taken, how many are taken, and the result's length.
+struct Window {
+    lead: usize,
+    from: usize,
+    len: usize,
+    size: usize,
+}
+
+fn window_on(dropping: bool, z: i32, n: usize) -> Window
+    ensures { λ w. ⌜ w ≡ windowOf dropping z n ⌝ }
+{
+    let size = size_on(dropping, z, n);
+    let lead = beyond(size, n);
+    let len = size - lead;
+    if keeps_end(dropping, z) {
+        Window {
+            lead,
+            from: n - len,
+            len,
+            size,
+        }
+    } else {
+        Window {
+            lead: 0,
+            from: 0,
+            len,
+            size,
+        }
+    }
+}
+
+// The result's lengths.
+fn sizes_of(dropping: bool, rank: usize, lens: [usize; Shape::MAX_RANK], l: &[i32]) -> [usize; Shape::MAX_RANK]
+    requires { ⌜ (rank ≤ maxRank) × (rank ≤ length (now l)) ⌝ }
+    ensures { λ ms. ⌜ take rank ms ≡ sizesOf dropping (take rank (now (l .entry))) (take rank lens) ⌝ }
+{
+    let mut sizes = [0; Shape::MAX_RANK];
+    let mut i = 0;
+    while i < rank {
+        sizes[i] = size_on(dropping, l[i], lens[i]);
+        i += 1;
+    }
+    sizes
+}
+
+// From the last axis to the first, since a position's elements are those of the axes after it.
+fn table_of(dropping: bool, rank: usize, lens: [usize; Shape::MAX_RANK], l: &[i32]) -> [usize; WIDTH * Shape::MAX_RANK]
+    requires { ⌜ Cut dropping rank lens (now l) ⌝ }
+    ensures { λ t. ⌜ take (rank * 5) t ≡ tableOf dropping (take rank (now (l .entry))) (take rank lens) ⌝ }
+{
+    let mut table = [0; WIDTH * Shape::MAX_RANK];
+    let mut step = 1;
+    let mut block = 1;
+    let mut i = rank;
+    while 0 < i {
+        i -= 1;
+        let n = lens[i];
+        let w = window_on(dropping, l[i], n);
+        let k = i * WIDTH;
+        table[k] = w.lead;
+        table[k + 1] = w.from;
+        table[k + 2] = w.len;
+        table[k + 3] = step;
+        table[k + 4] = block;
+        step *= n;
+        block *= w.size;
+    }
+    table
+}
+
+// How many axes there are up to the last that is not taken whole.
+fn cut_axes(rank: usize, lens: [usize; Shape::MAX_RANK], sizes: [usize; Shape::MAX_RANK]) -> usize
+    requires { ⌜ rank ≤ maxRank ⌝ }
+    ensures { λ u. ⌜ (u ≤ rank) × (drop u (take rank lens) ≡ drop u (take rank sizes)) ⌝ }
+{
+    let mut i = rank;
+    while 0 < i {
+        let k = i - 1;
+        if lens[k] != sizes[k] {
+            return i;
+        }
+        i = k;
+    }
+    i
 }
