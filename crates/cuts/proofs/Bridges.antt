@@ -17,7 +17,7 @@ use Rattle.meaning.specs.Array.{Array, at, tab, build}
 use Rattle.meaning.specs.Terms.{negative, every, rank, asRank, isScalar}
 use Rattle.meaning.specs.Primitives.{takes, drops, takenFrom, takenPlace, atOrZero, droppedLengths, droppedPlace}
 use Rattle.meaning.proofs.Tab.{tab-ext}
-use Rattle.cuts.specs.Windows.{meaningOf, sizeOf, endOf, sizesOf, tableOf, cutAt}
+use Rattle.cuts.specs.Windows.{cutMeaning, sizeOf, endOf, sizesOf, tableOf, cutAt}
 use Rattle.cuts.proofs.Cutting.{div-below}
 use Rattle.cuts.proofs.Tables.{factor-pos}
 
@@ -156,13 +156,13 @@ module _ (L R : Array) (l : length (L .elements) ≡ rank (asRank (length (L .el
   abbrev read : Array
   read = asRank (length (L .elements)) R
 
-  pub cut-lengths : (d : Bool) → meaningOf d L R .lengths ≡ sizesOf d (L .elements) (read .lengths)
+  pub cut-lengths : (d : Bool) → cutMeaning d L R .lengths ≡ sizesOf d (L .elements) (read .lengths)
   unfolding takes drops
   cut-lengths false = sizes-taken (L .elements) (read .lengths) l
   cut-lengths true = sizes-dropped (L .elements) (read .lengths)
 
   cut-element : (d : Bool) (j : ℕ) → j < count (sizesOf d (L .elements) (read .lengths))
-      → meaningOf d L R .element (place (sizesOf d (L .elements) (read .lengths)) j) ≡ cutAt (tableOf d (L .elements) (read .lengths)) (R .elements) 0 j
+      → cutMeaning d L R .element (place (sizesOf d (L .elements) (read .lengths)) j) ≡ cutAt (tableOf d (L .elements) (read .lengths)) (R .elements) 0 j
   unfolding takes drops
   cut-element false j h =
       at-or read (takenPlace (L .elements) (read .lengths) (place (sizesOf false (L .elements) (read .lengths)) j))
@@ -174,9 +174,9 @@ module _ (L R : Array) (l : length (L .elements) ≡ rank (asRank (length (L .el
       ∙ ap (λ xs. cutAt (tableOf true (L .elements) (read .lengths)) xs 0 j) (as-elements (length (L .elements)) R)
 
   pub cut-elements : (d : Bool)
-      → build (meaningOf d L R .lengths) (meaningOf d L R .element) .elements
+      → build (cutMeaning d L R .lengths) (cutMeaning d L R .element) .elements
       ≡ tab (count (sizesOf d (L .elements) (read .lengths))) (cutAt (tableOf d (L .elements) (read .lengths)) (R .elements) 0)
   unfolding build
   cut-elements d =
-      ap (λ ms. tab (count ms) (λ j. meaningOf d L R .element (place ms j))) (cut-lengths d)
+      ap (λ ms. tab (count ms) (λ j. cutMeaning d L R .element (place ms j))) (cut-lengths d)
       ∙ tab-ext (count (sizesOf d (L .elements) (read .lengths))) _ _ (cut-element d)

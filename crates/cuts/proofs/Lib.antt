@@ -3,3 +3,4 @@ pub mod Cutting
 pub mod Tables
 pub mod Bridges
 pub mod Building
+pub mod Filling

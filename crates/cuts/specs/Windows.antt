@@ -4,9 +4,10 @@ use mathlib.Core.Path.{_≡_}
 use mathlib.Core.List.{List, [], _∷_, map}
 use mathlib.Core.Bool.{Bool, true, false, not, cond, _&&_}
 use lib.ListN.{length, getD, take, drop, replicate}
-use lib.Dec.{leb, ltb}
+use lib.Dec.{eqb, leb, ltb}
 use lib.IntN.{ℤ, pos, natAbs}
-use Rattle.shape.specs.Shape.{maxRank, maxCount, count}
+use Rattle.shape.specs.Shape.{maxRank, maxCount, count, countOf}
+use Rattle.shape.specs.declared.Shape.{Shape}
 use Rattle.cuts.specs.declared.Window.{Window}
 use Rattle.meaning.specs.Array.{Array}
 use Rattle.meaning.specs.Terms.{negative}
@@ -16,8 +17,16 @@ use Rattle.meaning.specs.Primitives.{Meaning, takes, drops, droppedLengths}
 abbrev pub numberOf : Bool → ℕ
 numberOf dropping = cond dropping 24 23
 
-abbrev pub meaningOf : Bool → Array → Array → Meaning
-meaningOf dropping L R = cond dropping (drops L R) (takes L R)
+abbrev pub cutMeaning : Bool → Array → Array → Meaning
+cutMeaning dropping L R = cond dropping (drops L R) (takes L R)
+
+-- RANK and LENGTH by the shapes alone; a scalar R has as many axes as L has numbers.
+unfoldable pub refusalOf : Shape → Shape → ℕ
+refusalOf ls rs = cond (leb (ls .rank) 1) (cond (eqb (rs .rank) 0) 0 (cond (eqb (countOf ls) (rs .rank)) 0 6)) 4
+
+-- The lengths of R, a scalar's read as ones.
+abbrev pub lengthsOf : Shape → List ℕ
+lengthsOf rs = cond (eqb (rs .rank) 0) (replicate maxRank 1) (rs .lens)
 
 -- The result's length on an axis of length n, and whether the end of the axis is kept and not its front.
 abbrev pub sizeOf : Bool → ℤ → ℕ → ℕ
@@ -90,3 +99,13 @@ pub record Cut (dropping : Bool) (rank : ℕ) (lens : List ℕ) (l : List ℤ) :
   pub small : count (take rank lens) ≤ maxCount
   pub result : 0 < count (sizesOf dropping (take rank l) (take rank lens))
   pub limit : count (sizesOf dropping (take rank l) (take rank lens)) ≤ maxCount
+
+-- The same of any cut: n and m are the counts of R and of the result.
+pub record Parts (dropping : Bool) (rank : ℕ) (lens sizes : List ℕ) (l : List ℤ) (n m : ℕ) : Type 0 where
+  pub high : rank ≤ maxRank
+  pub enough : rank ≤ length l
+  pub cut : take rank sizes ≡ sizesOf dropping (take rank l) (take rank lens)
+  pub source : n ≡ count (take rank lens)
+  pub small : n ≤ maxCount
+  pub result : m ≡ count (sizesOf dropping (take rank l) (take rank lens))
+  pub limit : m ≤ maxCount

@@ -3,10 +3,14 @@ ghost use mathlib.Core.Path.{_≡_};
 ghost use mathlib.Core.Bool.{cond};
 ghost use Prim.Native.Nat.{_-_, _*_, _≤_, _<_};
 ghost use lib.Dec.{eqb};
+ghost use lib.IntN.{ℤ, pos};
 ghost use lib.ListN.{length, take, drop, replicate};
 ghost use Rattle.shape.specs.Shape.{maxRank, maxCount, count};
 ghost use Rattle.meaning.specs.Array.{tab};
-ghost use Rattle.cuts.specs.Windows.{sizeOf, endOf, windowOf, sizesOf, tableOf, cutAt, Fitting, Cleared, Cut};
+ghost use Rattle.meaning.specs.Reply.{reply};
+ghost use Rattle.answer.specs.Answer.{lent, Replied};
+ghost use Rattle.cuts.specs.Windows.{numberOf, refusalOf, lengthsOf, sizeOf, endOf, windowOf, sizesOf, tableOf, cutAt, Fitting, Cleared, Cut, Parts};
+use answer::Answer;
 use shape::Shape;
 
 // How many numbers a table has for each axis.
@@ -156,4 +160,105 @@ fn cut_axes(rank: usize, lens: [usize; Shape::MAX_RANK], sizes: [usize; Shape::M
         i = k;
     }
     i
+}
+
+// The elements of a result: `r` and `out` are R and the result, whole.
+fn fill(dropping: bool, rank: usize, lens: [usize; Shape::MAX_RANK], sizes: [usize; Shape::MAX_RANK], l: &[i32], r: &[i32], out: &mut [i32])
+    requires { ⌜ Parts dropping rank lens sizes (now l) (length (now r)) (length (now out)) ⌝ }
+    ensures {
+        λ _.
+        ⌜ now (out .exit)
+        ≡ tab (length (now (out .entry))) (cutAt (tableOf dropping (take rank (now (l .entry))) (take rank lens)) (now (r .entry)) 0) ⌝
+    }
+{
+    if out.len() == 0 {
+        return;
+    }
+    if r.len() == 0 {
+        copying::fill_run(0, out);
+        return;
+    }
+    let used = cut_axes(rank, lens, sizes);
+    if used == 0 {
+        copying::copy_run(r, out);
+        return;
+    }
+    let table = table_of(dropping, rank, lens, l);
+    let end = used * WIDTH;
+    cut(&table[0..end], 0, r, out);
+}
+
+// The lengths of R, a scalar's read as ones.
+fn lengths_of(rs: Shape) -> [usize; Shape::MAX_RANK]
+    ensures { λ ns. ⌜ ns ≡ lengthsOf rs ⌝ }
+{
+    if rs.rank == 0 {
+        return [1; Shape::MAX_RANK];
+    }
+    rs.lens
+}
+
+// RANK and LENGTH: L is a list with one number for each axis of R, and a scalar R has as many as L has numbers.
+fn cut_refusal(ls: Shape, rs: Shape) -> usize
+    ensures { λ n. ⌜ n ≡ refusalOf ls rs ⌝ }
+{
+    if 1 < ls.rank {
+        return 4;
+    }
+    if rs.rank == 0 {
+        return 0;
+    }
+    if ls.count() == rs.rank { 0 } else { 6 }
+}
+
+// 24 if positions are dropped, else 23.
+fn take_or_drop(dropping: bool, g: i32, ls: Shape, l: &[i32], rs: Shape, r: &[i32], out: &mut [i32]) -> Answer
+    ensures {
+        λ a.
+        ⌜ ((K : ℤ) → Replied a (now (out .exit)) (reply (pos (numberOf dropping)) g K (lent ls (now (l .entry))) (lent rs (now (r .entry))) (now (out .entry)))) ⌝
+    }
+{
+    let early = answer::early_two(g, ls, l, rs, r);
+    if early != 0 {
+        return Answer::refused(early);
+    }
+    let own = cut_refusal(ls, rs);
+    if own != 0 {
+        return Answer::refused(own);
+    }
+    let rank = ls.count();
+    if Shape::MAX_RANK < rank {
+        return Answer::refused(9);
+    }
+    let lens = lengths_of(rs);
+    let sizes = sizes_of(dropping, rank, lens, l);
+    let shape = Shape::of_lengths(rank, sizes);
+    let count = shape.count();
+    if Shape::MAX_COUNT < count {
+        return Answer::refused(9);
+    }
+    if out.len() < count {
+        return Answer::refused(10);
+    }
+    let source = rs.count();
+    fill(dropping, rank, lens, sizes, l, &r[0..source], &mut out[0..count]);
+    Answer { number: 0, shape }
+}
+
+// 23, whatever K is: it is not looked at.
+pub fn take(g: i32, ls: Shape, l: &[i32], rs: Shape, r: &[i32], out: &mut [i32]) -> Answer
+    ensures {
+        λ a. ⌜ ((K : ℤ) → Replied a (now (out .exit)) (reply (pos 23) g K (lent ls (now (l .entry))) (lent rs (now (r .entry))) (now (out .entry)))) ⌝
+    }
+{
+    take_or_drop(false, g, ls, l, rs, r, out)
+}
+
+// 24, whatever K is: it is not looked at.
+pub fn drop(g: i32, ls: Shape, l: &[i32], rs: Shape, r: &[i32], out: &mut [i32]) -> Answer
+    ensures {
+        λ a. ⌜ ((K : ℤ) → Replied a (now (out .exit)) (reply (pos 24) g K (lent ls (now (l .entry))) (lent rs (now (r .entry))) (now (out .entry)))) ⌝
+    }
+{
+    take_or_drop(true, g, ls, l, rs, r, out)
 }
