@@ -1,12 +1,12 @@
 -- What 23 and 24 hold place by place is what the windows leave.
-use Prim.Native.Nat.{ℕ, zero, suc, _+_, _*_, _-_, _/_, _%_, _≤_, _<_, min}
+use Prim.Native.Nat.{ℕ, suc, _+_, _*_, _-_, _/_, _%_, _≤_, _<_, min}
 use native.Mathlib.Nat.{mod-lt, zero-add}
 use native.Mathlib.Decide.{decLt}
 use native.Mathlib.Omega.{arith}
-use mathlib.Core.Path.{_≡_, refl, sym, ap, ap₂, _∙_}
+use mathlib.Core.Path.{_≡_, refl, sym, ap, _∙_}
 use mathlib.Core.List.{List, [], _∷_, map}
-use mathlib.Core.Bool.{Bool, true, false, not, cond, _&&_, and-false}
-use borrow.Author.Tests.{le-leb, lt-leb, lt-ltb, le-ltb, ltb-true, ltb-false, leb-true}
+use mathlib.Core.Bool.{Bool, true, false, not, cond, _&&_}
+use borrow.Author.Tests.{le-leb, lt-ltb, le-ltb, ltb-true, leb-true}
 use lib.Dec.{leb, ltb}
 use lib.ListN.{length, getD, replicate}
 use lib.IntN.{ℤ, pos, negsuc, natAbs, _+ℤ_}

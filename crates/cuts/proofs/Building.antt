@@ -5,13 +5,13 @@ use native.Mathlib.Numerals.{add-one}
 use native.Mathlib.Omega.{arith}
 use mathlib.Core.Path.{_≡_, refl, sym, ap, ap₂, _∙_}
 use mathlib.Core.List.{List, [], _∷_, _++_, append-assoc}
-use mathlib.Core.Bool.{Bool, true, false, cond}
-use lib.ListN.{length, getD, take, drop, set, length-take, length-drop, drop-of-length-le}
+use mathlib.Core.Bool.{Bool}
+use lib.ListN.{length, getD, take, drop, set, drop-of-length-le}
 use lib.Seq.{take-suc, take-suc-set, drop-cons, getD-take, length-take-le, sets, length-sets, sets-eq, drop-at, take-nil}
 use lib.IntN.{ℤ, pos}
 use Rattle.shape.specs.Shape.{maxRank, maxCount, count}
 use Rattle.cuts.specs.declared.Window.{Window}
-use Rattle.cuts.specs.Windows.{sizeOf, endOf, windowOf, sizesOf, tableOf, Cut}
+use Rattle.cuts.specs.Windows.{sizeOf, windowOf, sizesOf, tableOf, Cut}
 use Rattle.cuts.proofs.Tables.{factor-pos}
 
 -- The window of an axis, as its code finds it from the result's length m and what of it lies beyond n.
@@ -181,7 +181,7 @@ module _ (d : Bool) (rank : ℕ) (lens : List ℕ) (l : List ℤ) (c : Cut d ran
         let wide : k * 5 + 5 ≤ length table = omega (arith, b .long, c .high) in
         let next : k * 5 + 5 ≡ i * 5 = omega arith in
         let rest : drop (k * 5 + 5) (take (rank * 5) table) ≡ tableOf d (drop i (take rank l)) (drop i (take rank lens)) =
-            ap (λ x. drop x (take (rank * 5) table)) next ∙ b .rows in
+        ap (λ x. drop x (take (rank * 5) table)) next ∙ b .rows in
         record {
           below = omega (arith, b .below);
           long = ap length t ∙ stored-long table (k * 5) (w .lead) (w .from) (w .len) step block ∙ b .long;

@@ -1,20 +1,20 @@
 -- 23 and 24 as their code asks and answers, with the flag open.
 use Prim.Native.Nat.{ℕ, zero, suc, _+_, _*_, _-_, _≤_, _<_}
-use native.Mathlib.Nat.{sub-zero, one-mul}
+use native.Mathlib.Nat.{sub-zero}
 use native.Mathlib.Omega.{arith}
 use mathlib.Core.Path.{_≡_, refl, sym, ap, ap₂, _∙_}
 use mathlib.Core.List.{List, [], _∷_, _++_}
-use mathlib.Core.Bool.{Bool, true, false, not, cond}
+use mathlib.Core.Bool.{Bool, true, false, cond}
 use borrow.Author.Tests.{eq-eqb, eqb-true, eqb-false, le-leb, lt-leb}
 use lib.Dec.{eqb, leb}
-use lib.ListN.{length, getD, take, drop, replicate, length-replicate, replicate-append-replicate}
+use lib.ListN.{length, take, drop, replicate, length-replicate, replicate-append-replicate}
 use lib.Seq.{take-at, length-take-le}
 use lib.IntN.{ℤ, pos}
 use Rattle.shape.specs.declared.Shape.{Shape}
 use Rattle.shape.specs.Shape.{maxRank, maxCount, counted, count, countOf, shapeOf, scalar, shapeRule, madeOf}
 use Rattle.shape.proofs.Counts.{good-count, bad-count}
 use Rattle.meaning.specs.Array.{Operand, Array, arrayOf, tab, build}
-use Rattle.meaning.specs.Refusal.{Rule, _unless_, number, meets, winner}
+use Rattle.meaning.specs.Refusal.{_unless_, number, meets, winner}
 use Rattle.meaning.specs.Refusal.Refusal.{RANK, LENGTH}
 use Rattle.meaning.specs.Terms.{rank, isList, asRank, eqZ}
 use Rattle.meaning.specs.Primitives.{takes, drops}
@@ -118,6 +118,7 @@ module _ (ls : Shape) (l : List ℤ) (rs : Shape) (r : List ℤ) (gl : Lent ls l
       rules : (d : Bool) → own (numberOf d) (cutMeaning d L R .refusals) ≡ own (numberOf d) (RANK unless isList L ∷ LENGTH unless eqb (length (L .elements)) (rank read) ∷ [])
       rules false = refl
       rules true = refl
+
       same : (a s e : Bool) → _≡_ {A = ℕ} (cond a (cond (cond s true e) 0 6) 4) (cond a (cond s 0 (cond e 0 6)) 4)
       same a true e = refl
       same a false e = refl

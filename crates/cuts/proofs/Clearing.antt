@@ -2,7 +2,7 @@
 use Prim.Native.Nat.{ℕ, _-_, _≤_}
 use native.Mathlib.Nat.{sub-zero}
 use native.Mathlib.Omega.{arith}
-use mathlib.Core.Path.{_≡_, refl, sym, ap, _∙_}
+use mathlib.Core.Path.{_≡_, sym, ap, _∙_}
 use mathlib.Core.List.{List, [], _++_, append-nil}
 use lib.ListN.{length, take, drop, replicate, length-drop, length-replicate, drop-of-length-le}
 use lib.Seq.{take-at, drop-at, take-take, length-take-le}

@@ -1,18 +1,18 @@
 -- What a result holds through the windows of a table t, by the numbers of its first window.
-use Prim.Native.Nat.{ℕ, zero, suc, _+_, _*_, _-_, _/_, _%_, _≤_, _<_}
+use Prim.Native.Nat.{ℕ, _+_, _*_, _-_, _/_, _%_, _≤_, _<_}
 use native.Mathlib.Nat.{mod-lt, div-lt-iff-lt-mul, le-div-iff-mul-le, mul-le-mul-right, div-add-mod'}
 use native.Mathlib.Omega.{arith}
 use mathlib.Core.Path.{_≡_, refl, sym, ap, ap₂, _∙_}
 use mathlib.Core.List.{List, [], _∷_, _++_}
-use mathlib.Core.Bool.{Bool, true, false, cond, _&&_, and-false}
+use mathlib.Core.Bool.{and-false}
 use borrow.Author.Tests.{le-leb, lt-leb, lt-ltb, le-ltb}
 use lib.Arith.{digits-div, digits-mod}
-use lib.Dec.{leb, ltb}
+use lib.Dec.{leb}
 use lib.ListN.{length, getD, take, drop, replicate, length-replicate, getD-replicate, take-append-drop, length-drop}
 use lib.Seq.{take-all}
 use lib.IntN.{ℤ, pos}
 use Rattle.meaning.specs.Array.{tab}
-use Rattle.meaning.proofs.Tab.{length-tab, getD-tab, tab-add, tab-ext}
+use Rattle.meaning.proofs.Tab.{length-tab, getD-tab, tab-add}
 use Rattle.copying.specs.Runs.{copied}
 use Rattle.copying.proofs.Runs.{filled, length-filled, tab-is, put-list, put-copied, part-length}
 use borrow.Rule.Slice.PartMut.{putMid}
@@ -200,7 +200,7 @@ module _ (t : List ℕ) (r : List ℤ) (at m : ℕ) (f : Fits t at (length r) m)
         let room : b ≤ length out₀ = omega (arith, f .room, z .long, mul-le-mul-right {m = i + 1} {n = len t} (block t) (omega arith)) in
         let part : length (take (b - a) (drop a out)) ≡ block t = part-length out (tab a g) out₀ a b o′ (length-tab a g) (omega arith) room ∙ omega arith in
         let inner : last ≡ tab (block t) (cutAt (drop 5 t) r (at + from t * step t + i * step t)) =
-            q ∙ ap₂ (λ x y. tab x (cutAt t′ r y)) part e ∙ ap (λ x. tab (block t) (cutAt x r (at + from t * step t + i * step t))) et in
+        q ∙ ap₂ (λ x y. tab x (cutAt t′ r y)) part e ∙ ap (λ x. tab (block t) (cutAt x r (at + from t * step t + i * step t))) et in
         let next : a + block t ≡ start + (i + 1) * block t = omega arith in
         put-list g (pos 0) a (block t) b out out₀ last o′ eb (ap length inner ∙ length-tab (block t) _)
         (λ k s. ap (λ x. g (x + k)) ea ∙ cut-inside t r at i k (f .five) h s ∙ sym (ap (λ ys. getD ys k (pos 0)) inner ∙ getD-tab (block t) _ k (pos 0) s))

@@ -1,14 +1,14 @@
 -- A result's elements by the windows up to the last axis that is not taken whole.
-use Prim.Native.Nat.{ℕ, zero, suc, _+_, _*_, _-_, _≤_, _<_}
+use Prim.Native.Nat.{ℕ, zero, suc, _*_, _-_, _≤_, _<_}
 use native.Mathlib.Nat.{sub-zero, zero-add}
 use native.Mathlib.Omega.{arith}
-use mathlib.Core.Path.{_≡_, refl, sym, ap, ap₂, subst, _∙_}
+use mathlib.Core.Path.{_≡_, refl, sym, ap, ap₂, _∙_}
 use mathlib.Core.List.{List, []}
 use mathlib.Core.Bool.{Bool}
 use lib.ListN.{length, getD, take, drop, replicate, length-replicate, getD-replicate, drop-of-length-le}
 use lib.Seq.{take-take, length-take-le}
 use lib.IntN.{ℤ, pos}
-use Rattle.shape.specs.Shape.{maxRank, maxCount, count}
+use Rattle.shape.specs.Shape.{maxRank, count}
 use Rattle.meaning.specs.Array.{tab}
 use Rattle.meaning.proofs.Tab.{tab-ext}
 use Rattle.copying.specs.Runs.{copied}

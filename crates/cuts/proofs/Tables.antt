@@ -1,8 +1,8 @@
 -- The table of windows, with its flag open.
 use Prim.Native.Nat.{ℕ, zero, suc, _+_, _*_, _-_, _/_, _%_, _≤_, _<_, min}
-use native.Mathlib.Nat.{mod-lt, div-add-mod', mul-le-mul-right, zero-mul, mul-zero}
+use native.Mathlib.Nat.{mod-lt, div-add-mod', mul-le-mul-right, mul-zero}
 use native.Mathlib.Omega.{arith}
-use mathlib.Core.Path.{_≡_, refl, sym, ap, ap₂, _∙_}
+use mathlib.Core.Path.{_≡_, refl, sym, ap, _∙_}
 use mathlib.Core.List.{List, [], _∷_}
 use mathlib.Core.Bool.{Bool, true, false, cond, _&&_}
 use borrow.Author.Tests.{le-leb, lt-ltb}
@@ -99,8 +99,7 @@ module _ (d : Bool) where
   table-fits u (z ∷ zs) [] at N l k p h e = absurd (omega arith)
   table-fits zero (z ∷ zs) (n ∷ ns) at N l k p h e =
       let m : ℕ = sizeOf d z n in
-      let w = window-room (endOf d z) m n in
-      (
+      let w = window-room (endOf d z) m n in (
         factor-pos m (count (sizesOf d zs ns)) p,
         (
           mul-le-mul-right (count (sizesOf d zs ns)) (w .0),
@@ -112,8 +111,7 @@ module _ (d : Bool) where
       let w = window-room (endOf d z) m n in
       let from : ℕ = cond (endOf d z) (n - m) 0 in
       let some : 0 < count (sizesOf d zs ns) = factor-pos m (count (sizesOf d zs ns)) p in
-      rw (five-more (suc u))
-      (
+      rw (five-more (suc u)) (
         some,
         (
           mul-le-mul-right (count (sizesOf d zs ns)) (w .0),
@@ -122,9 +120,9 @@ module _ (d : Bool) where
             (
               (λ q. absurd (none zs ns (omega arith) (omega arith) q)),
               λ q i s.
-              table-fits u zs ns (at + (from + i) * count ns) N (omega arith) (omega arith) some
-              (omega (arith, mul-le-mul-right {m = from + i + 1} {n = n} (count ns) (omega (arith, w .1))))
-              e,
+                  table-fits u zs ns (at + (from + i) * count ns) N (omega arith) (omega arith) some
+                  (omega (arith, mul-le-mul-right {m = from + i + 1} {n = n} (count ns) (omega (arith, w .1))))
+                  e,
             ),
           ),
         ),

@@ -1,8 +1,8 @@
 -- A window on each axis, and what a result of 23 or 24 holds through it.
 use Prim.Native.Nat.{ℕ, _+_, _*_, _-_, _/_, _%_, _<_, _≤_, min}
 use mathlib.Core.Path.{_≡_}
-use mathlib.Core.List.{List, [], _∷_, map}
-use mathlib.Core.Bool.{Bool, true, false, not, cond, _&&_}
+use mathlib.Core.List.{List, [], _∷_}
+use mathlib.Core.Bool.{Bool, not, cond, _&&_}
 use lib.ListN.{length, getD, take, drop, replicate}
 use lib.Dec.{eqb, leb, ltb}
 use lib.IntN.{ℤ, pos, natAbs}
@@ -11,7 +11,7 @@ use Rattle.shape.specs.declared.Shape.{Shape}
 use Rattle.cuts.specs.declared.Window.{Window}
 use Rattle.meaning.specs.Array.{Array}
 use Rattle.meaning.specs.Terms.{negative}
-use Rattle.meaning.specs.Primitives.{Meaning, takes, drops, droppedLengths}
+use Rattle.meaning.specs.Primitives.{Meaning, takes, drops}
 
 -- 23 and 24 by one flag: whether positions are dropped.
 abbrev pub numberOf : Bool → ℕ

@@ -1,16 +1,13 @@
 use Prim.Native.Nat.{ℕ, _+_, _*_, _-_, _<_, _≤_}
-use native.Mathlib.Nat.{mul-le-mul-right}
 use native.Mathlib.Omega.{arith}
 use mathlib.Core.Path.{_≡_, refl, sym, ap, _∙_}
-use mathlib.Core.List.{List}
-use lib.IntN.{ℤ}
 use lib.ListN.{length, getD, take, drop, length-drop}
 use lib.Arith.{lt-of-le-ne}
 use borrow.Rule.Slice.PartMut.{mid-len}
 use denote.Ref.{now}
 use borrow.Author.Needs.{needs}
-use Rattle.copying.proofs.Runs.{filled, length-filled}
-use Rattle.cuts.specs.Windows.{cutAt, Fitting, Cleared}
+use Rattle.copying.proofs.Runs.{filled}
+use Rattle.cuts.specs.Windows.{cutAt}
 use Rattle.cuts.proofs.Cutting.{Fits, fits, cut-room, cut-rest, cut-long, after-first, cut-begin, cut-end, cut-last, cut-step}
 use borrow.Fn.Kinds.{In}
 use borrow.Fn.PlainCycle.{Measures, is, falls, and}
@@ -84,7 +81,6 @@ more t c =
     let five = known t (c .before .before .before .before .before .before .before .before .before .before) .five in
     lt-of-le-ne five (λ e. c .if1 .left (sym e))
 
--- src/lib.rt:27:17
 cut-shared-slice-read-block : (t : ℕ) → cut-lts.Need-shared-slice-read-block (
   clear-outside-reads.Asked,
   clear-outside-reads.Learnt,
@@ -95,7 +91,6 @@ cut-shared-slice-read-block : (t : ℕ) → cut-lts.Need-shared-slice-read-block
 ) (cut-at t) cut.Post cut-Inv-loop cut-μ-loop
 cut-shared-slice-read-block t c = omega (arith, known t (c .before .before) .five)
 
--- src/lib.rt:28:16
 cut-shared-slice-read-step : (t : ℕ) → cut-lts.Need-shared-slice-read-step (
   clear-outside-reads.Asked,
   clear-outside-reads.Learnt,
@@ -106,7 +101,6 @@ cut-shared-slice-read-step : (t : ℕ) → cut-lts.Need-shared-slice-read-step (
 ) (cut-at t) cut.Post cut-Inv-loop cut-μ-loop
 cut-shared-slice-read-step t c = omega (arith, known t (c .before .before .before) .five)
 
--- src/lib.rt:29:15
 cut-shared-slice-read-len : (t : ℕ) → cut-lts.Need-shared-slice-read-len (
   clear-outside-reads.Asked,
   clear-outside-reads.Learnt,
@@ -117,7 +111,6 @@ cut-shared-slice-read-len : (t : ℕ) → cut-lts.Need-shared-slice-read-len (
 ) (cut-at t) cut.Post cut-Inv-loop cut-μ-loop
 cut-shared-slice-read-len t c = omega (arith, known t (c .before .before .before .before) .five)
 
--- src/lib.rt:30:17
 cut-shared-slice-read-start : (t : ℕ) → cut-lts.Need-shared-slice-read-start (
   clear-outside-reads.Asked,
   clear-outside-reads.Learnt,
@@ -128,7 +121,6 @@ cut-shared-slice-read-start : (t : ℕ) → cut-lts.Need-shared-slice-read-start
 ) (cut-at t) cut.Post cut-Inv-loop cut-μ-loop
 cut-shared-slice-read-start t c = omega (arith, known t (c .before .before .before .before .before) .five)
 
--- src/lib.rt:30:17
 cut-mul-start : (t : ℕ) → cut-lts.Need-mul-start (
   clear-outside-reads.Asked,
   clear-outside-reads.Learnt,
@@ -139,7 +131,6 @@ cut-mul-start : (t : ℕ) → cut-lts.Need-mul-start (
 ) (cut-at t) cut.Post cut-Inv-loop cut-μ-loop
 cut-mul-start t c = omega (arith, known t (c .before .before .before .before .before) .room)
 
--- src/lib.rt:31:24
 cut-mul-stop : (t : ℕ) → cut-lts.Need-mul-stop (
   clear-outside-reads.Asked,
   clear-outside-reads.Learnt,
@@ -150,7 +141,6 @@ cut-mul-stop : (t : ℕ) → cut-lts.Need-mul-stop (
 ) (cut-at t) cut.Post cut-Inv-loop cut-μ-loop
 cut-mul-stop t c = omega (arith, known t (c .before .before .before .before .before) .room)
 
--- src/lib.rt:31:16
 cut-add-stop : (t : ℕ) → cut-lts.Need-add-stop (
   clear-outside-reads.Asked,
   clear-outside-reads.Learnt,
@@ -161,7 +151,6 @@ cut-add-stop : (t : ℕ) → cut-lts.Need-add-stop (
 ) (cut-at t) cut.Post cut-Inv-loop cut-μ-loop
 cut-add-stop t c = omega (arith, known t (c .before .before .before .before .before) .room)
 
--- src/lib.rt:32:5
 cut-clear-outside-requires : (t : ℕ) → cut-lts.Need-clear-outside-requires (
   clear-outside-reads.Asked,
   clear-outside-reads.Learnt,
@@ -172,7 +161,6 @@ cut-clear-outside-requires : (t : ℕ) → cut-lts.Need-clear-outside-requires (
 ) (cut-at t) cut.Post cut-Inv-loop cut-μ-loop
 cut-clear-outside-requires t c κs = omega (arith, known t (c .before .before .before .before .before .before) .room)
 
--- src/lib.rt:33:22
 cut-shared-slice-read-first : (t : ℕ) → cut-lts.Need-shared-slice-read-first (
   clear-outside-reads.Asked,
   clear-outside-reads.Learnt,
@@ -183,7 +171,6 @@ cut-shared-slice-read-first : (t : ℕ) → cut-lts.Need-shared-slice-read-first
 ) (cut-at t) cut.Post cut-Inv-loop cut-μ-loop
 cut-shared-slice-read-first t c = omega (arith, known t (c .before .before .before .before .before .before .before .before .before) .five)
 
--- src/lib.rt:33:22
 cut-mul-first : (t : ℕ) → cut-lts.Need-mul-first (
   clear-outside-reads.Asked,
   clear-outside-reads.Learnt,
@@ -194,7 +181,6 @@ cut-mul-first : (t : ℕ) → cut-lts.Need-mul-first (
 ) (cut-at t) cut.Post cut-Inv-loop cut-μ-loop
 cut-mul-first t c = omega (arith, known t (c .before .before .before .before .before .before .before .before .before) .inner)
 
--- src/lib.rt:33:17
 cut-add-first : (t : ℕ) → cut-lts.Need-add-first (
   clear-outside-reads.Asked,
   clear-outside-reads.Learnt,
@@ -205,7 +191,6 @@ cut-add-first : (t : ℕ) → cut-lts.Need-add-first (
 ) (cut-at t) cut.Post cut-Inv-loop cut-μ-loop
 cut-add-first t c = omega (arith, known t (c .before .before .before .before .before .before .before .before .before) .inner)
 
--- src/lib.rt:36:28
 cut-mul-last : (t : ℕ) → cut-lts.Need-mul-last (
   clear-outside-reads.Asked,
   clear-outside-reads.Learnt,
@@ -216,7 +201,6 @@ cut-mul-last : (t : ℕ) → cut-lts.Need-mul-last (
 ) (cut-at t) cut.Post cut-Inv-loop cut-μ-loop
 cut-mul-last t c = omega (arith, known t (c .before .before .before .before .before .before .before .before .before .before) .inner)
 
--- src/lib.rt:36:20
 cut-add-last : (t : ℕ) → cut-lts.Need-add-last (
   clear-outside-reads.Asked,
   clear-outside-reads.Learnt,
@@ -227,7 +211,6 @@ cut-add-last : (t : ℕ) → cut-lts.Need-add-last (
 ) (cut-at t) cut.Post cut-Inv-loop cut-μ-loop
 cut-add-last t c = omega (arith, known t (c .before .before .before .before .before .before .before .before .before .before) .inner)
 
--- src/lib.rt:37:27
 cut-mul-copy-run : (t : ℕ) → cut-lts.Need-mul-copy-run (
   clear-outside-reads.Asked,
   clear-outside-reads.Learnt,
@@ -238,7 +221,6 @@ cut-mul-copy-run : (t : ℕ) → cut-lts.Need-mul-copy-run (
 ) (cut-at t) cut.Post cut-Inv-loop cut-μ-loop
 cut-mul-copy-run t c = omega (arith, known t (c .before .before .before .before .before .before .before .before .before .before) .inner)
 
--- src/lib.rt:37:27
 cut-sub-copy-run : (t : ℕ) → cut-lts.Need-sub-copy-run (
   clear-outside-reads.Asked,
   clear-outside-reads.Learnt,
@@ -249,7 +231,6 @@ cut-sub-copy-run : (t : ℕ) → cut-lts.Need-sub-copy-run (
 ) (cut-at t) cut.Post cut-Inv-loop cut-μ-loop
 cut-sub-copy-run t c = omega (arith, known t (c .before .before .before .before .before .before .before .before .before .before) .inner)
 
--- src/lib.rt:37:27
 cut-part-copy-run-start : (t : ℕ) → cut-lts.Need-part-copy-run-start (
   clear-outside-reads.Asked,
   clear-outside-reads.Learnt,
@@ -260,7 +241,6 @@ cut-part-copy-run-start : (t : ℕ) → cut-lts.Need-part-copy-run-start (
 ) (cut-at t) cut.Post cut-Inv-loop cut-μ-loop
 cut-part-copy-run-start t c = search needs
 
--- src/lib.rt:37:27
 cut-part-copy-run-end : (t : ℕ) → cut-lts.Need-part-copy-run-end (
   clear-outside-reads.Asked,
   clear-outside-reads.Learnt,
@@ -271,7 +251,6 @@ cut-part-copy-run-end : (t : ℕ) → cut-lts.Need-part-copy-run-end (
 ) (cut-at t) cut.Post cut-Inv-loop cut-μ-loop
 cut-part-copy-run-end t c = omega (arith, known t (c .before .before .before .before .before .before .before .before .before .before) .inner)
 
--- src/lib.rt:37:44
 cut-mul-copy-run-2 : (t : ℕ) → cut-lts.Need-mul-copy-run-2 (
   clear-outside-reads.Asked,
   clear-outside-reads.Learnt,
@@ -282,7 +261,6 @@ cut-mul-copy-run-2 : (t : ℕ) → cut-lts.Need-mul-copy-run-2 (
 ) (cut-at t) cut.Post cut-Inv-loop cut-μ-loop
 cut-mul-copy-run-2 t c = omega (arith, known t (c .before .before .before .before .before .before .before .before .before .before .before) .room)
 
--- src/lib.rt:37:44
 cut-sub-copy-run-2 : (t : ℕ) → cut-lts.Need-sub-copy-run-2 (
   clear-outside-reads.Asked,
   clear-outside-reads.Learnt,
@@ -293,7 +271,6 @@ cut-sub-copy-run-2 : (t : ℕ) → cut-lts.Need-sub-copy-run-2 (
 ) (cut-at t) cut.Post cut-Inv-loop cut-μ-loop
 cut-sub-copy-run-2 t c = omega (arith, known t (c .before .before .before .before .before .before .before .before .before .before .before) .room)
 
--- src/lib.rt:37:44
 cut-part-copy-run-start-2 : (t : ℕ) → cut-lts.Need-part-copy-run-start-2 (
   clear-outside-reads.Asked,
   clear-outside-reads.Learnt,
@@ -304,7 +281,6 @@ cut-part-copy-run-start-2 : (t : ℕ) → cut-lts.Need-part-copy-run-start-2 (
 ) (cut-at t) cut.Post cut-Inv-loop cut-μ-loop
 cut-part-copy-run-start-2 t c = search needs
 
--- src/lib.rt:37:44
 cut-part-copy-run-end-2 : (t : ℕ) → cut-lts.Need-part-copy-run-end-2 (
   clear-outside-reads.Asked,
   clear-outside-reads.Learnt,
@@ -315,7 +291,6 @@ cut-part-copy-run-end-2 : (t : ℕ) → cut-lts.Need-part-copy-run-end-2 (
 ) (cut-at t) cut.Post cut-Inv-loop cut-μ-loop
 cut-part-copy-run-end-2 t c = omega (arith, known t (c .before .before .before .before .before .before .before .before .before .before .before) .room, c .before .before .before .before .clear-outside .ensures .long)
 
--- src/lib.rt:37:9
 cut-copy-run-requires : (t : ℕ) → cut-lts.Need-copy-run-requires (
   clear-outside-reads.Asked,
   clear-outside-reads.Learnt,
@@ -326,7 +301,6 @@ cut-copy-run-requires : (t : ℕ) → cut-lts.Need-copy-run-requires (
 ) (cut-at t) cut.Post cut-Inv-loop cut-μ-loop
 cut-copy-run-requires t c κs = search needs
 
--- src/lib.rt:38:9
 cut-same-length : (t : ℕ) → cut-lts.Need-same-length (
   clear-outside-reads.Asked,
   clear-outside-reads.Learnt,
@@ -337,7 +311,6 @@ cut-same-length : (t : ℕ) → cut-lts.Need-same-length (
 ) (cut-at t) cut.Post cut-Inv-loop cut-μ-loop
 cut-same-length t c = search needs
 
--- src/lib.rt:38:9
 cut-returns : (t : ℕ) → cut-lts.Need-returns (
   clear-outside-reads.Asked,
   clear-outside-reads.Learnt,
@@ -346,11 +319,10 @@ cut-returns : (t : ℕ) → cut-lts.Need-returns (
   cut-below t,
   cut.Post,
 ) (cut-at t) cut.Post cut-Inv-loop cut-μ-loop
-cut-returns t c = 
+cut-returns t c =
     let s = c .before .before .before .before .before .before .before .before .before .before .before .before .before .before in
     cut-last (s .args .table .now) (s .args .r .now) (s .args .at) _ (known t s) _ (c .before .before .before .before .before .before .before .clear-outside .ensures) (c .before .before .before .before .if1 .taken) _ _ _ refl refl (c .before .copy-run .ensures)
 
--- src/lib.rt:41:5
 cut-loop-holds : (t : ℕ) → cut-lts.Need-loop-holds (
   clear-outside-reads.Asked,
   clear-outside-reads.Learnt,
@@ -359,11 +331,10 @@ cut-loop-holds : (t : ℕ) → cut-lts.Need-loop-holds (
   cut-below t,
   cut.Post,
 ) (cut-at t) cut.Post cut-Inv-loop cut-μ-loop
-cut-loop-holds t c = 
+cut-loop-holds t c =
     let s = c .before .before .before .before .before .before .before .before .before .before in
     (omega arith, cut-begin (s .args .table .now) (s .args .r .now) (s .args .at) _ (known t s) _ (c .before .before .before .clear-outside .ensures))
 
--- src/lib.rt:42:25
 cut-mul-a : (t : ℕ) → cut-lts.Need-mul-a (
   clear-outside-reads.Asked,
   clear-outside-reads.Learnt,
@@ -374,7 +345,6 @@ cut-mul-a : (t : ℕ) → cut-lts.Need-mul-a (
 ) (cut-at t) cut.Post cut-Inv-loop cut-μ-loop
 cut-mul-a t c = omega (arith, turn t c .0)
 
--- src/lib.rt:42:17
 cut-add-a : (t : ℕ) → cut-lts.Need-add-a (
   clear-outside-reads.Asked,
   clear-outside-reads.Learnt,
@@ -385,7 +355,6 @@ cut-add-a : (t : ℕ) → cut-lts.Need-add-a (
 ) (cut-at t) cut.Post cut-Inv-loop cut-μ-loop
 cut-add-a t c = omega (arith, turn t c .0)
 
--- src/lib.rt:43:17
 cut-add-b : (t : ℕ) → cut-lts.Need-add-b (
   clear-outside-reads.Asked,
   clear-outside-reads.Learnt,
@@ -396,7 +365,6 @@ cut-add-b : (t : ℕ) → cut-lts.Need-add-b (
 ) (cut-at t) cut.Post cut-Inv-loop cut-μ-loop
 cut-add-b t c = omega (arith, turn t c .0)
 
--- src/lib.rt:44:13
 cut-sub-cut : (t : ℕ) → cut-lts.Need-sub-cut (
   clear-outside-reads.Asked,
   clear-outside-reads.Learnt,
@@ -407,7 +375,6 @@ cut-sub-cut : (t : ℕ) → cut-lts.Need-sub-cut (
 ) (cut-at t) cut.Post cut-Inv-loop cut-μ-loop
 cut-sub-cut t c = omega (arith, known t (c .before .before .before .before .before .before .before .before .before .before .before .before) .five)
 
--- src/lib.rt:44:13
 cut-part-cut-start : (t : ℕ) → cut-lts.Need-part-cut-start (
   clear-outside-reads.Asked,
   clear-outside-reads.Learnt,
@@ -418,7 +385,6 @@ cut-part-cut-start : (t : ℕ) → cut-lts.Need-part-cut-start (
 ) (cut-at t) cut.Post cut-Inv-loop cut-μ-loop
 cut-part-cut-start t c = omega (arith, known t (c .before .before .before .before .before .before .before .before .before .before .before .before) .five)
 
--- src/lib.rt:44:13
 cut-part-cut-end : (t : ℕ) → cut-lts.Need-part-cut-end (
   clear-outside-reads.Asked,
   clear-outside-reads.Learnt,
@@ -429,7 +395,6 @@ cut-part-cut-end : (t : ℕ) → cut-lts.Need-part-cut-end (
 ) (cut-at t) cut.Post cut-Inv-loop cut-μ-loop
 cut-part-cut-end t c = search needs
 
--- src/lib.rt:44:42
 cut-mul-cut : (t : ℕ) → cut-lts.Need-mul-cut (
   clear-outside-reads.Asked,
   clear-outside-reads.Learnt,
@@ -440,7 +405,6 @@ cut-mul-cut : (t : ℕ) → cut-lts.Need-mul-cut (
 ) (cut-at t) cut.Post cut-Inv-loop cut-μ-loop
 cut-mul-cut t c = omega (arith, turn t (c .before) .1)
 
--- src/lib.rt:44:34
 cut-add-cut : (t : ℕ) → cut-lts.Need-add-cut (
   clear-outside-reads.Asked,
   clear-outside-reads.Learnt,
@@ -451,7 +415,6 @@ cut-add-cut : (t : ℕ) → cut-lts.Need-add-cut (
 ) (cut-at t) cut.Post cut-Inv-loop cut-μ-loop
 cut-add-cut t c = omega (arith, turn t (c .before) .1)
 
--- src/lib.rt:44:55
 cut-mul-cut-2 : (t : ℕ) → cut-lts.Need-mul-cut-2 (
   clear-outside-reads.Asked,
   clear-outside-reads.Learnt,
@@ -462,7 +425,6 @@ cut-mul-cut-2 : (t : ℕ) → cut-lts.Need-mul-cut-2 (
 ) (cut-at t) cut.Post cut-Inv-loop cut-μ-loop
 cut-mul-cut-2 t c = omega (arith, turn t (c .before) .0)
 
--- src/lib.rt:44:55
 cut-sub-cut-2 : (t : ℕ) → cut-lts.Need-sub-cut-2 (
   clear-outside-reads.Asked,
   clear-outside-reads.Learnt,
@@ -473,7 +435,6 @@ cut-sub-cut-2 : (t : ℕ) → cut-lts.Need-sub-cut-2 (
 ) (cut-at t) cut.Post cut-Inv-loop cut-μ-loop
 cut-sub-cut-2 t c = omega (arith, turn t (c .before) .0)
 
--- src/lib.rt:44:55
 cut-part-cut-start-2 : (t : ℕ) → cut-lts.Need-part-cut-start-2 (
   clear-outside-reads.Asked,
   clear-outside-reads.Learnt,
@@ -484,7 +445,6 @@ cut-part-cut-start-2 : (t : ℕ) → cut-lts.Need-part-cut-start-2 (
 ) (cut-at t) cut.Post cut-Inv-loop cut-μ-loop
 cut-part-cut-start-2 t c = search needs
 
--- src/lib.rt:44:55
 cut-part-cut-end-2 : (t : ℕ) → cut-lts.Need-part-cut-end-2 (
   clear-outside-reads.Asked,
   clear-outside-reads.Learnt,
@@ -495,7 +455,6 @@ cut-part-cut-end-2 : (t : ℕ) → cut-lts.Need-part-cut-end-2 (
 ) (cut-at t) cut.Post cut-Inv-loop cut-μ-loop
 cut-part-cut-end-2 t c = omega (arith, turn t (c .before) .0, long t (c .before .before))
 
--- src/lib.rt:44:9
 cut-cut-requires : (t : ℕ) → cut-lts.Need-cut-requires (
   clear-outside-reads.Asked,
   clear-outside-reads.Learnt,
@@ -504,7 +463,7 @@ cut-cut-requires : (t : ℕ) → cut-lts.Need-cut-requires (
   cut-below t,
   cut.Post,
 ) (cut-at t) cut.Post cut-Inv-loop cut-μ-loop
-cut-cut-requires t c κs = 
+cut-cut-requires t c κs =
     let s = c .before .before .before .before .before .before .before .before .before .before .before .before .before .before in
     let tab = s .args .table .now in
     let l = more t (c .before .before .before .before) in
@@ -514,7 +473,6 @@ cut-cut-requires t c κs =
       cut-rest tab (s .args .r .now) (s .args .at) _ (known t s) l (c .before .before .before .loop .i) (omega arith) _ _ _ (after-first tab) refl part,
     )
 
--- src/lib.rt:45:9
 cut-add-i : (t : ℕ) → cut-lts.Need-add-i (
   clear-outside-reads.Asked,
   clear-outside-reads.Learnt,
@@ -525,7 +483,6 @@ cut-add-i : (t : ℕ) → cut-lts.Need-add-i (
 ) (cut-at t) cut.Post cut-Inv-loop cut-μ-loop
 cut-add-i t c = omega (arith, c .before .before .before .before .before .before .before .before .before .before .before .before .before .before .before .shared-slice-known .given 2)
 
--- src/lib.rt:41:5
 cut-loop-less : (t : ℕ) → cut-lts.Need-loop-less (
   clear-outside-reads.Asked,
   clear-outside-reads.Learnt,
@@ -536,7 +493,6 @@ cut-loop-less : (t : ℕ) → cut-lts.Need-loop-less (
 ) (cut-at t) cut.Post cut-Inv-loop cut-μ-loop
 cut-loop-less t c = search needs
 
--- src/lib.rt:41:5
 cut-loop-again : (t : ℕ) → cut-lts.Need-loop-again (
   clear-outside-reads.Asked,
   clear-outside-reads.Learnt,
@@ -545,14 +501,13 @@ cut-loop-again : (t : ℕ) → cut-lts.Need-loop-again (
   cut-below t,
   cut.Post,
 ) (cut-at t) cut.Post cut-Inv-loop cut-μ-loop
-cut-loop-again t c = 
+cut-loop-again t c =
     let s = c .before .before .before .before .before .before .before .before .before .before .before .before .before .before .before .before in
     let tab = s .args .table .now in (
       omega arith,
       cut-step tab (s .args .r .now) (s .args .at) _ (known t s) _ (c .before .before .before .before .before .before .before .before .before .clear-outside .ensures) (more t (c .before .before .before .before .before .before)) (c .before .before .before .before .before .loop .i) _ _ _ _ _ _ (omega arith) (c .before .before .before .before .before .loop .inv .1) refl refl (after-first tab) refl (c .before .cut .ensures),
     )
 
--- src/lib.rt:23:1
 cut-same-length-2 : (t : ℕ) → cut-lts.Need-same-length-2 (
   clear-outside-reads.Asked,
   clear-outside-reads.Learnt,
@@ -563,7 +518,6 @@ cut-same-length-2 : (t : ℕ) → cut-lts.Need-same-length-2 (
 ) (cut-at t) cut.Post cut-Inv-loop cut-μ-loop
 cut-same-length-2 t c = long t (c .before)
 
--- src/lib.rt:23:1
 cut-returns-2 : (t : ℕ) → cut-lts.Need-returns-2 (
   clear-outside-reads.Asked,
   clear-outside-reads.Learnt,
@@ -572,7 +526,7 @@ cut-returns-2 : (t : ℕ) → cut-lts.Need-returns-2 (
   cut-below t,
   cut.Post,
 ) (cut-at t) cut.Post cut-Inv-loop cut-μ-loop
-cut-returns-2 t c = 
+cut-returns-2 t c =
     let s = c .before .before .before .before .before .before .before .before .before .before .before .before in
     let tab = s .args .table .now in
     let all : c .before .loop .i ≡ getD tab 2 0 = omega arith in

@@ -3,51 +3,37 @@ use borrow.Author.Needs.{needs}
 use Rattle.cuts.proofs.Clearing.{cleared}
 use Rattle.cuts.proofs.clear_outside.Statement.{statement}
 use Rattle.cuts.proofs.clear_outside.Tie as tie
-use Rattle.cuts.proofs.clear_outside.Reads as reads
-use Rattle.cuts.proofs.clear_outside.Lts as lts
-use Rattle.copying.proofs.fill_run.Reads as fill-run-reads
 
--- src/lib.rt:18:26
 sub-fill-run : tie.Need-sub-fill-run
 sub-fill-run c = search needs
 
--- src/lib.rt:18:26
 part-fill-run-start : tie.Need-part-fill-run-start
 part-fill-run-start c = search needs
 
--- src/lib.rt:18:26
 part-fill-run-end : tie.Need-part-fill-run-end
 part-fill-run-end c = search needs
 
--- src/lib.rt:18:5
 fill-run-requires : tie.Need-fill-run-requires
 fill-run-requires c κs = search needs
 
--- src/lib.rt:19:26
 mul-fill-run : tie.Need-mul-fill-run
 mul-fill-run c = search needs
 
--- src/lib.rt:19:26
 sub-fill-run-2 : tie.Need-sub-fill-run-2
 sub-fill-run-2 c = search needs
 
--- src/lib.rt:19:26
 part-fill-run-start-2 : tie.Need-part-fill-run-start-2
 part-fill-run-start-2 c = search needs
 
--- src/lib.rt:19:26
 part-fill-run-end-2 : tie.Need-part-fill-run-end-2
 part-fill-run-end-2 c = search needs
 
--- src/lib.rt:19:5
 fill-run-requires-2 : tie.Need-fill-run-requires-2
 fill-run-requires-2 c κs = search needs
 
--- src/lib.rt:13:1
 same-length : tie.Need-same-length
 same-length c = search needs
 
--- src/lib.rt:13:1
 returns : tie.Need-returns
 returns c =
     let a = c .before .before .before .before .before .before .args in

@@ -7,8 +7,6 @@ use Rattle.shape.specs.Shape.{maxRank}
 use Rattle.cuts.proofs.Building.{front-none, same-more}
 use Rattle.cuts.proofs.cut_axes.Statement.{statement}
 use Rattle.cuts.proofs.cut_axes.Tie as tie
-use Rattle.cuts.proofs.cut_axes.Reads as reads
-use Rattle.cuts.proofs.cut_axes.Lts as lts
 
 abbrev Inv-loop : tie.InvT-loop
 Inv-loop rank lens sizes i₀ i = (i ≤ rank) × (drop i (take rank lens) ≡ drop i (take rank sizes))
@@ -16,42 +14,33 @@ Inv-loop rank lens sizes i₀ i = (i ≤ rank) × (drop i (take rank lens) ≡ d
 abbrev μ-loop : tie.MeasureT-loop
 μ-loop rank lens sizes i₀ i = i
 
--- src/lib.rt:151:5
 loop-holds : tie.Need-loop-holds Inv-loop μ-loop
 loop-holds c =
     let a : length (c .args .t2) ≡ maxRank = search needs in
     let b : length (c .args .t3) ≡ maxRank = search needs in
     (omega arith, front-none (c .args .t2) (c .args .rank) (omega arith) ∙ sym (front-none (c .args .t3) (c .args .rank) (omega arith)))
 
--- src/lib.rt:152:17
 sub-k : tie.Need-sub-k Inv-loop μ-loop
 sub-k c = search needs
 
--- src/lib.rt:153:12
 mul-if1 : tie.Need-mul-if1 Inv-loop μ-loop
 mul-if1 c = search needs
 
--- src/lib.rt:153:12
 array-read-if1 : tie.Need-array-read-if1 Inv-loop μ-loop
 array-read-if1 c = search needs
 
--- src/lib.rt:153:23
 mul-if1-2 : tie.Need-mul-if1-2 Inv-loop μ-loop
 mul-if1-2 c = search needs
 
--- src/lib.rt:153:23
 array-read-if1-2 : tie.Need-array-read-if1-2 Inv-loop μ-loop
 array-read-if1-2 c = search needs
 
--- src/lib.rt:154:13
 returns : tie.Need-returns Inv-loop μ-loop
 returns c = search needs
 
--- src/lib.rt:151:5
 loop-less : tie.Need-loop-less Inv-loop μ-loop
 loop-less c = search needs
 
--- src/lib.rt:151:5
 loop-again : tie.Need-loop-again Inv-loop μ-loop
 loop-again c =
     let st = c .before .before .before in
@@ -60,7 +49,6 @@ loop-again c =
     let b : length (st .args .t3) ≡ maxRank = search needs in
     (omega arith, same-more (st .args .t2) (st .args .t3) (st .args .rank) (lp .i - 1) (lp .i) (omega arith) (omega arith) (omega arith) (omega arith) (lp .inv .1) (c .if1 .left))
 
--- src/lib.rt:146:1
 returns-2 : tie.Need-returns-2 Inv-loop μ-loop
 returns-2 c = search needs
 

@@ -6,27 +6,20 @@ use Rattle.cuts.specs.Windows.{refusalOf}
 use borrow.Author.Needs.{needs}
 use Rattle.cuts.proofs.cut_refusal.Statement.{statement}
 use Rattle.cuts.proofs.cut_refusal.Tie as tie
-use Rattle.cuts.proofs.cut_refusal.Reads as reads
-use Rattle.cuts.proofs.cut_refusal.Lts as lts
-use Rattle.shape.proofs.Shape.count.Reads as count-reads
 
--- src/lib.rt:206:9
 returns : tie.Need-returns
 unfolding refusalOf
 returns c = rw (lt-leb (c .before .before .args .ls .rank) 1 (omega arith))
 
--- src/lib.rt:209:9
 returns-2 : tie.Need-returns-2
 unfolding refusalOf
 returns-2 c =
     let a = c .before .before .before .before .args in
     rw (le-leb (a .ls .rank) 1 (omega arith), eq-eqb (a .rs .rank) 0 (c .if2 .taken))
 
--- src/lib.rt:211:8
 count-requires : tie.Need-count-requires
 count-requires c κs = search needs
 
--- src/lib.rt:202:1
 returns-3 : tie.Need-returns-3
 unfolding refusalOf
 returns-3 c =
@@ -34,7 +27,6 @@ returns-3 c =
     let e : countOf (a .ls) ≡ a .rs .rank = sym (c .before .before .count .ensures) ∙ c .if3 .taken in
     rw (le-leb (a .ls .rank) 1 (omega arith), ne-eqb (a .rs .rank) 0 (c .before .before .before .if2 .left), eq-eqb (countOf (a .ls)) (a .rs .rank) e)
 
--- src/lib.rt:202:1
 returns-4 : tie.Need-returns-4
 unfolding refusalOf
 returns-4 c =

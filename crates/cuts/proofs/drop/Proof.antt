@@ -2,19 +2,13 @@ use Rattle.signed.proofs.Reading.{read32}
 use borrow.Author.Needs.{needs}
 use Rattle.cuts.proofs.drop.Statement.{statement}
 use Rattle.cuts.proofs.drop.Tie as tie
-use Rattle.cuts.proofs.drop.Reads as reads
-use Rattle.cuts.proofs.drop.Lts as lts
-use Rattle.cuts.proofs.take_or_drop.Reads as take-or-drop-reads
 
--- src/lib.rt:263:5
 take-or-drop-requires : tie.Need-take-or-drop-requires
 take-or-drop-requires c κs = search needs
 
--- src/lib.rt:258:1
 same-length : tie.Need-same-length
 same-length c = search needs
 
--- src/lib.rt:258:1
 returns : tie.Need-returns
 returns c K = rw (read32 _ (c .before .before .before .fits .g)) at (c .before .take-or-drop .ensures K)
 

@@ -5,22 +5,16 @@ use Rattle.signed.proofs.Reading.{read32}
 use borrow.Author.Needs.{needs}
 use Rattle.cuts.proofs.keeps_end.Statement.{statement}
 use Rattle.cuts.proofs.keeps_end.Tie as tie
-use Rattle.cuts.proofs.keeps_end.Reads as reads
-use Rattle.cuts.proofs.keeps_end.Lts as lts
-use Rattle.signed.proofs.negative.Reads as negative-reads
 
 is : (c : tie.After-negative) → c .negative .result ≡ negative (c .before .args .z)
 is c = c .negative .ensures ∙ ap negative (read32 _ (c .before .fits .z))
 
--- src/lib.rt:71:9
 negative-requires : tie.Need-negative-requires
 negative-requires c κs = search needs
 
--- src/lib.rt:68:1
 returns : tie.Need-returns
 returns c = rw (c .if1 .taken) (ap not (is (c .before)))
 
--- src/lib.rt:68:1
 returns-2 : tie.Need-returns-2
 returns-2 c = rw (c .if1 .left) (is (c .before))
 

@@ -1,14 +1,10 @@
 use borrow.Author.Tests.{eq-eqb, ne-eqb}
 use Rattle.cuts.proofs.lengths_of.Statement.{statement}
 use Rattle.cuts.proofs.lengths_of.Tie as tie
-use Rattle.cuts.proofs.lengths_of.Reads as reads
-use Rattle.cuts.proofs.lengths_of.Lts as lts
 
--- src/lib.rt:196:9
 returns : tie.Need-returns
 returns c = rw (eq-eqb (c .before .before .args .rs .rank) 0 (c .if1 .taken))
 
--- src/lib.rt:192:1
 returns-2 : tie.Need-returns-2
 returns-2 c = rw (ne-eqb (c .before .before .before .args .rs .rank) 0 (c .before .if1 .left))
 

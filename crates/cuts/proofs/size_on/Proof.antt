@@ -5,29 +5,21 @@ use Rattle.signed.proofs.Reading.{read32}
 use borrow.Author.Needs.{needs}
 use Rattle.cuts.proofs.size_on.Statement.{statement}
 use Rattle.cuts.proofs.size_on.Tie as tie
-use Rattle.cuts.proofs.size_on.Reads as reads
-use Rattle.cuts.proofs.size_on.Lts as lts
-use Rattle.cuts.proofs.beyond.Reads as beyond-reads
-use Rattle.signed.proofs.size.Reads as size-reads
 
 is : (c : tie.After-size) → c .size .result ≡ natAbs (c .before .args .z)
 is c = c .size .ensures ∙ ap natAbs (read32 _ (c .before .fits .z))
 
--- src/lib.rt:63:9
 size-requires : tie.Need-size-requires
 size-requires c κs = search needs
 
--- src/lib.rt:64:19
 beyond-requires : tie.Need-beyond-requires
 beyond-requires c κs = search needs
 
--- src/lib.rt:60:1
 returns : tie.Need-returns
 returns c =
     let n = c .before .before .before .args .n in
     rw (c .before .if1 .taken) (c .beyond .ensures ∙ ap (λ s. n - s) (is (c .before .before)))
 
--- src/lib.rt:60:1
 returns-2 : tie.Need-returns-2
 returns-2 c = rw (c .if1 .left) (is (c .before))
 

@@ -12,9 +12,6 @@ use Rattle.cuts.specs.Windows.{sizeOf, sizesOf}
 use Rattle.cuts.proofs.Building.{sizes-more, none}
 use Rattle.cuts.proofs.sizes_of.Statement.{statement}
 use Rattle.cuts.proofs.sizes_of.Tie as tie
-use Rattle.cuts.proofs.sizes_of.Reads as reads
-use Rattle.cuts.proofs.sizes_of.Lts as lts
-use Rattle.cuts.proofs.size_on.Reads as size-on-reads
 
 abbrev Inv-loop : tie.InvT-loop
 Inv-loop dropping rank l lens sizes₀ i₀ sizes i = (i ≤ rank) × ((length sizes ≡ maxRank) × (take i sizes ≡ sizesOf dropping (take i l) (take i lens)))
@@ -22,47 +19,36 @@ Inv-loop dropping rank l lens sizes₀ i₀ sizes i = (i ≤ rank) × ((length s
 abbrev μ-loop : tie.MeasureT-loop
 μ-loop dropping rank l lens sizes₀ i₀ sizes i = rank - i
 
--- src/lib.rt:113:5
 loop-holds : tie.Need-loop-holds Inv-loop μ-loop
 loop-holds c = (omega arith, (refl, none (c .args .dropping)))
 
--- src/lib.rt:114:38
 mul-size-on : tie.Need-mul-size-on Inv-loop μ-loop
 mul-size-on c = search needs
 
--- src/lib.rt:114:38
 shared-slice-copy-out-size-on : tie.Need-shared-slice-copy-out-size-on Inv-loop μ-loop
 shared-slice-copy-out-size-on c = search needs
 
--- src/lib.rt:114:44
 mul-size-on-2 : tie.Need-mul-size-on-2 Inv-loop μ-loop
 mul-size-on-2 c = search needs
 
--- src/lib.rt:114:44
 array-read-size-on : tie.Need-array-read-size-on Inv-loop μ-loop
 array-read-size-on c = search needs
 
--- src/lib.rt:114:20
 size-on-requires : tie.Need-size-on-requires Inv-loop μ-loop
 size-on-requires c κs = search needs
 
--- src/lib.rt:114:9
 mul-sizes : tie.Need-mul-sizes Inv-loop μ-loop
 mul-sizes c = search needs
 
--- src/lib.rt:114:9
 array-write-sizes : tie.Need-array-write-sizes Inv-loop μ-loop
 array-write-sizes c = search needs
 
--- src/lib.rt:115:9
 add-i : tie.Need-add-i Inv-loop μ-loop
 add-i c = search needs
 
--- src/lib.rt:113:5
 loop-less : tie.Need-loop-less Inv-loop μ-loop
 loop-less c = search needs
 
--- src/lib.rt:113:5
 loop-again : tie.Need-loop-again Inv-loop μ-loop
 loop-again c =
     let st = c .before .before .before .before in
@@ -70,12 +56,13 @@ loop-again c =
     let long : length (st .args .t3) ≡ maxRank = search needs in
     let z : toZ w32 (ofZ w32 (getD (st .args .l .now) (lp .i) (pos 0))) ≡ getD (st .args .l .now) (lp .i) (pos 0) = toZ-ofZ (sfits-of (c .before .size-on-arg .given)) in (
       omega arith,
-      (length-set (lp .sizes) (lp .i) _ ∙ lp .inv .1 .0,
-      sizes-more (st .args .dropping) (st .args .l .now) (st .args .t3) (lp .sizes) (lp .i) _ (omega arith) (omega arith) (omega (arith, lp .inv .1 .0)) (lp .inv .1 .1)
-      (c .size-on .ensures ∙ ap (λ x. sizeOf (st .args .dropping) x (getD (st .args .t3) (lp .i) 0)) z)),
+      (
+        length-set (lp .sizes) (lp .i) _ ∙ lp .inv .1 .0,
+        sizes-more (st .args .dropping) (st .args .l .now) (st .args .t3) (lp .sizes) (lp .i) _ (omega arith) (omega arith) (omega (arith, lp .inv .1 .0)) (lp .inv .1 .1)
+            (c .size-on .ensures ∙ ap (λ x. sizeOf (st .args .dropping) x (getD (st .args .t3) (lp .i) 0)) z),
+      ),
     )
 
--- src/lib.rt:107:1
 returns : tie.Need-returns Inv-loop μ-loop
 returns c =
     let e : c .before .loop .i ≡ c .before .before .args .rank = omega arith in

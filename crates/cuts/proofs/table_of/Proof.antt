@@ -1,4 +1,4 @@
-use Prim.Native.Nat.{_*_, _-_, _≤_}
+use Prim.Native.Nat.{_*_, _-_}
 use native.Mathlib.Omega.{arith}
 use mathlib.Core.Path.{_≡_, refl, ap, _∙_}
 use lib.IntN.{pos}
@@ -7,14 +7,11 @@ use mir.Syntax.{w32}
 use mir.Val.{toZ, ofZ}
 use mir.Facts.{toZ-ofZ}
 use borrow.Author.Needs.{needs, sfits-of}
-use Rattle.shape.specs.Shape.{maxRank, maxCount}
+use Rattle.shape.specs.Shape.{maxRank}
 use Rattle.cuts.specs.Windows.{windowOf}
 use Rattle.cuts.proofs.Building.{Built, built-none, built-more, built-all, step-small, block-small}
 use Rattle.cuts.proofs.table_of.Statement.{statement}
 use Rattle.cuts.proofs.table_of.Tie as tie
-use Rattle.cuts.proofs.table_of.Reads as reads
-use Rattle.cuts.proofs.table_of.Lts as lts
-use Rattle.cuts.proofs.window_on.Reads as window-on-reads
 
 abbrev Inv-loop : tie.InvT-loop
 Inv-loop dropping rank l lens table₀ step₀ block₀ i₀ table step block i = Built dropping rank lens l table step block i
@@ -37,102 +34,78 @@ window-is c =
     let z : toZ w32 (ofZ w32 (getD (a .l .now) k (pos 0))) ≡ getD (a .l .now) k (pos 0) = toZ-ofZ (sfits-of (c .before .window-on-arg .given)) in
     c .window-on .ensures ∙ ap (λ x. windowOf (a .dropping) x (getD (a .t3) k 0)) z
 
--- src/lib.rt:129:5
 loop-holds : tie.Need-loop-holds Inv-loop μ-loop
 loop-holds c = built-none (c .args .dropping) (c .args .rank) (c .args .t3) (c .args .l .now) (c .pre) (long c) _ refl
 
--- src/lib.rt:130:9
 sub-i : tie.Need-sub-i Inv-loop μ-loop
 sub-i c = search needs
 
--- src/lib.rt:131:17
 mul-n : tie.Need-mul-n Inv-loop μ-loop
 mul-n c = search needs
 
--- src/lib.rt:131:17
 array-read-n : tie.Need-array-read-n Inv-loop μ-loop
 array-read-n c = search needs
 
--- src/lib.rt:132:37
 mul-window-on : tie.Need-mul-window-on Inv-loop μ-loop
 mul-window-on c = search needs
 
--- src/lib.rt:132:37
 shared-slice-copy-out-window-on : tie.Need-shared-slice-copy-out-window-on Inv-loop μ-loop
 shared-slice-copy-out-window-on c = search needs
 
--- src/lib.rt:132:13
 window-on-requires : tie.Need-window-on-requires Inv-loop μ-loop
 window-on-requires c κs = search needs
 
--- src/lib.rt:133:17
 mul-k : tie.Need-mul-k Inv-loop μ-loop
 mul-k c = search needs
 
--- src/lib.rt:134:9
 mul-table : tie.Need-mul-table Inv-loop μ-loop
 mul-table c = search needs
 
--- src/lib.rt:134:9
 array-write-table : tie.Need-array-write-table Inv-loop μ-loop
 array-write-table c = search needs
 
--- src/lib.rt:135:15
 add-table : tie.Need-add-table Inv-loop μ-loop
 add-table c = search needs
 
--- src/lib.rt:135:9
 mul-table-2 : tie.Need-mul-table-2 Inv-loop μ-loop
 mul-table-2 c = search needs
 
--- src/lib.rt:135:9
 array-write-table-2 : tie.Need-array-write-table-2 Inv-loop μ-loop
 array-write-table-2 c = search needs
 
--- src/lib.rt:136:15
 add-table-2 : tie.Need-add-table-2 Inv-loop μ-loop
 add-table-2 c = search needs
 
--- src/lib.rt:136:9
 mul-table-3 : tie.Need-mul-table-3 Inv-loop μ-loop
 mul-table-3 c = search needs
 
--- src/lib.rt:136:9
 array-write-table-3 : tie.Need-array-write-table-3 Inv-loop μ-loop
 array-write-table-3 c = search needs
 
--- src/lib.rt:137:15
 add-table-3 : tie.Need-add-table-3 Inv-loop μ-loop
 add-table-3 c = search needs
 
--- src/lib.rt:137:9
 mul-table-4 : tie.Need-mul-table-4 Inv-loop μ-loop
 mul-table-4 c = search needs
 
--- src/lib.rt:137:9
 array-write-table-4 : tie.Need-array-write-table-4 Inv-loop μ-loop
 array-write-table-4 c = search needs
 
--- src/lib.rt:138:15
 add-table-4 : tie.Need-add-table-4 Inv-loop μ-loop
 add-table-4 c = search needs
 
--- src/lib.rt:138:9
 mul-table-5 : tie.Need-mul-table-5 Inv-loop μ-loop
 mul-table-5 c = search needs
 
--- src/lib.rt:138:9
 array-write-table-5 : tie.Need-array-write-table-5 Inv-loop μ-loop
 array-write-table-5 c = search needs
 
--- src/lib.rt:139:9
 mul-step : tie.Need-mul-step Inv-loop μ-loop
 mul-step c =
     let st = c .before .before .before .before in
     let lp = c .before .before .before .loop in
     omega (arith, step-small (st .args .dropping) (st .args .rank) (st .args .t3) (st .args .l .now) (st .pre) (long st) (lp .table) (lp .step) (lp .block) (lp .i) (lp .i - 1) (lp .inv) (omega arith))
 
--- src/lib.rt:140:9
 mul-block : tie.Need-mul-block Inv-loop μ-loop
 mul-block c =
     let st = c .before .before .before .before .before in
@@ -141,11 +114,9 @@ mul-block c =
     let same = ap (λ w. lp .block * w .size) (window-is (c .before)) in
     omega arith
 
--- src/lib.rt:129:5
 loop-less : tie.Need-loop-less Inv-loop μ-loop
 loop-less c = search needs
 
--- src/lib.rt:129:5
 loop-again : tie.Need-loop-again Inv-loop μ-loop
 loop-again c =
     let st = c .before .before .before .before .before in
@@ -153,7 +124,6 @@ loop-again c =
     built-more (st .args .dropping) (st .args .rank) (st .args .t3) (st .args .l .now) (st .pre) (long st) (lp .table) (lp .step) (lp .block) (lp .i) (lp .i - 1) (lp .inv) (omega arith)
     _ _ refl (window-is (c .before))
 
--- src/lib.rt:121:1
 returns : tie.Need-returns Inv-loop μ-loop
 returns c =
     let st = c .before .before in

@@ -1,10 +1,9 @@
-use Prim.Native.Nat.{_-_, _≤_}
+use Prim.Native.Nat.{_≤_}
 use native.Mathlib.Omega.{arith}
 use mathlib.Core.Path.{_≡_, sym, ap, _∙_}
 use mathlib.Core.Bool.{_&&_}
 use lib.ListN.{length}
-use Rattle.shape.specs.declared.Shape.{Shape}
-use Rattle.shape.specs.Shape.{maxRank, maxCount, count, countOf, shapeOf, shapeRule}
+use Rattle.shape.specs.Shape.{maxRank, maxCount, count, countOf, shapeOf}
 use Rattle.shape.proofs.Bools.{both}
 use Rattle.meaning.specs.Array.{arrayOf, goodForm}
 use Rattle.meaning.specs.Terms.{rank, asRank}
@@ -12,21 +11,11 @@ use Rattle.signed.proofs.Reading.{read32}
 use Rattle.answer.specs.Answer.{lent, early}
 use Rattle.answer.proofs.Order.{early-reply, own-reply, limit-reply, space-reply, given-reply, replied-refused, replied-given}
 use Rattle.answer.proofs.Lent.{Lent, lent-good, early-fine}
-use Rattle.cuts.specs.Windows.{cutMeaning, refusalOf}
+use Rattle.cuts.specs.Windows.{cutMeaning}
 use Rattle.cuts.proofs.Calls.{cut-names, own-is, own-none, too-many, enough, shape-is, rule-broken, rule-kept, count-kept, parts-are, result-out}
 use borrow.Author.Needs.{needs}
 use Rattle.cuts.proofs.take_or_drop.Statement.{statement}
 use Rattle.cuts.proofs.take_or_drop.Tie as tie
-use Rattle.cuts.proofs.take_or_drop.Reads as reads
-use Rattle.cuts.proofs.take_or_drop.Lts as lts
-use Rattle.answer.proofs.Answer.refused.Reads as refused-reads
-use Rattle.answer.proofs.early_two.Reads as early-two-reads
-use Rattle.cuts.proofs.cut_refusal.Reads as cut-refusal-reads
-use Rattle.cuts.proofs.fill.Reads as fill-reads
-use Rattle.cuts.proofs.lengths_of.Reads as lengths-of-reads
-use Rattle.cuts.proofs.sizes_of.Reads as sizes-of-reads
-use Rattle.shape.proofs.Shape.count.Reads as count-reads
-use Rattle.shape.proofs.Shape.of_lengths.Reads as of-lengths-reads
 
 -- FORM and ORIGIN, and what is known of L and R where neither was met.
 early-is : (c : tie.After-early-two)
@@ -71,30 +60,24 @@ counted : (c : tie.After-count2)
     ≡ countOf (shapeOf (cutMeaning (c .before .before .before .before .before .before .before .before .before .before .args .dropping) (arrayOf (lent (c .before .before .before .before .before .before .before .before .before .before .args .ls) (c .before .before .before .before .before .before .before .before .before .before .args .l .now))) (arrayOf (lent (c .before .before .before .before .before .before .before .before .before .before .args .rs) (c .before .before .before .before .before .before .before .before .before .before .args .r .now))) .lengths))
 counted c = c .count2 .ensures ∙ ap countOf (shape c)
 
--- src/lib.rt:221:9
 early-two-requires : tie.Need-early-two-requires
 early-two-requires c κs = search needs
 
--- src/lib.rt:223:9
 refused-requires : tie.Need-refused-requires
 refused-requires c κs = search needs
 
--- src/lib.rt:223:9
 returns : tie.Need-returns
 returns c K =
     let a = c .before .before .before .args in
     replied-refused (c .refused .result) _ (a .out .now) (c .refused .ensures)
     (early-reply (cut-names (a .dropping) (a .g) K (lent (a .ls) (a .l .now)) (lent (a .rs) (a .r .now))) (a .out .now) _ (early-is (c .before .before)) (c .before .if1 .taken))
 
--- src/lib.rt:225:9
 cut-refusal-requires : tie.Need-cut-refusal-requires
 cut-refusal-requires c κs = search needs
 
--- src/lib.rt:227:9
 refused-requires-2 : tie.Need-refused-requires-2
 refused-requires-2 c κs = search needs
 
--- src/lib.rt:227:9
 returns-2 : tie.Need-returns-2
 returns-2 c K =
     let a = c .before .before .before .before .before .args in
@@ -102,15 +85,12 @@ returns-2 c K =
     replied-refused (c .refused2 .result) _ (a .out .now) (c .refused2 .ensures)
     (own-reply (cut-names (a .dropping) (a .g) K (lent (a .ls) (a .l .now)) (lent (a .rs) (a .r .now))) (a .out .now) (fine (c .before .before .before)) _ (c .before .before .cut-refusal .ensures ∙ own-is (a .ls) (a .l .now) (a .rs) (a .r .now) (g .0) (g .1) (a .dropping)) (c .before .if2 .taken))
 
--- src/lib.rt:229:9
 count-requires : tie.Need-count-requires
 count-requires c κs = search needs
 
--- src/lib.rt:231:9
 refused-requires-3 : tie.Need-refused-requires-3
 refused-requires-3 c κs = search needs
 
--- src/lib.rt:231:9
 returns-3 : tie.Need-returns-3
 returns-3 c K =
     let a = c .before .before .before .before .before .before .before .args in
@@ -119,30 +99,24 @@ returns-3 c K =
     (limit-reply (cut-names (a .dropping) (a .g) K (lent (a .ls) (a .l .now)) (lent (a .rs) (a .r .now))) (a .out .now) (fine (c .before .before .before .before .before)) (sym (own-is (a .ls) (a .l .now) (a .rs) (a .r .now) (g .0) (g .1) (a .dropping)) ∙ sym (c .before .before .before .before .cut-refusal .ensures) ∙ c .before .before .before .if2 .left)
     (too-many (a .ls) (a .l .now) (a .rs) (a .r .now) (g .0) (g .1) (a .dropping) (fit (c .before .before .before)) (c .before .before .count .result) (c .before .before .count .ensures) (omega arith)))
 
--- src/lib.rt:233:9
 lengths-of-requires : tie.Need-lengths-of-requires
 lengths-of-requires c κs = search needs
 
--- src/lib.rt:234:9
 sizes-of-requires : tie.Need-sizes-of-requires
 sizes-of-requires c κs =
     let a = c .before .before .before .before .before .before .before .args in
     let g = forms (c .before .before .before .before .before) in
     (omega arith, enough (a .ls) (a .l .now) (a .rs) (a .r .now) (g .0) (g .1) (a .dropping) (fit (c .before .before .before)) (c .before .before .count .result) (c .before .before .count .ensures))
 
--- src/lib.rt:235:9
 of-lengths-requires : tie.Need-of-lengths-requires
 of-lengths-requires c κs = search needs
 
--- src/lib.rt:236:9
 count-requires-2 : tie.Need-count-requires-2
 count-requires-2 c κs = search needs
 
--- src/lib.rt:238:9
 refused-requires-4 : tie.Need-refused-requires-4
 refused-requires-4 c κs = search needs
 
--- src/lib.rt:238:9
 returns-4 : tie.Need-returns-4
 returns-4 c K =
     let a = c .before .before .before .before .before .before .before .before .before .before .before .before .args in
@@ -152,11 +126,9 @@ returns-4 c K =
     (limit-reply (cut-names (a .dropping) (a .g) K (lent (a .ls) (a .l .now)) (lent (a .rs) (a .r .now))) (a .out .now) (fine (c .before .before .before .before .before .before .before .before .before .before)) (sym (own-is (a .ls) (a .l .now) (a .rs) (a .r .now) (g .0) (g .1) (a .dropping)) ∙ sym (c .before .before .before .before .before .before .before .before .before .cut-refusal .ensures) ∙ c .before .before .before .before .before .before .before .before .if2 .left)
     (rule-broken ms _ (counted (c .before .before)) (omega arith)))
 
--- src/lib.rt:241:9
 refused-requires-5 : tie.Need-refused-requires-5
 refused-requires-5 c κs = search needs
 
--- src/lib.rt:241:9
 returns-5 : tie.Need-returns-5
 returns-5 c K =
     let a = c .before .before .before .before .before .before .before .before .before .before .before .before .before .args in
@@ -167,37 +139,29 @@ returns-5 c K =
     (space-reply (cut-names (a .dropping) (a .g) K (lent (a .ls) (a .l .now)) (lent (a .rs) (a .r .now))) (a .out .now) (fine (c .before .before .before .before .before .before .before .before .before .before .before)) (sym (own-is (a .ls) (a .l .now) (a .rs) (a .r .now) (g .0) (g .1) (a .dropping)) ∙ sym (c .before .before .before .before .before .before .before .before .before .before .cut-refusal .ensures) ∙ c .before .before .before .before .before .before .before .before .before .if2 .left)
     (rule-kept ms _ n (omega arith)) (omega (arith, count-kept ms _ n (omega arith))))
 
--- src/lib.rt:243:9
 count-requires-3 : tie.Need-count-requires-3
 count-requires-3 c κs = search needs
 
--- src/lib.rt:244:42
 sub-fill : tie.Need-sub-fill
 sub-fill c = search needs
 
--- src/lib.rt:244:42
 part-fill-start : tie.Need-part-fill-start
 part-fill-start c = search needs
 
--- src/lib.rt:244:42
 part-fill-end : tie.Need-part-fill-end
 part-fill-end c =
     let g = forms (c .before .before .before .before .before .before .before .before .before .before .before) .1 in
     omega (arith, g .room, g .count-is, c .count3 .ensures)
 
--- src/lib.rt:244:57
 sub-fill-2 : tie.Need-sub-fill-2
 sub-fill-2 c = search needs
 
--- src/lib.rt:244:57
 part-fill-start-2 : tie.Need-part-fill-start-2
 part-fill-start-2 c = search needs
 
--- src/lib.rt:244:57
 part-fill-end-2 : tie.Need-part-fill-end-2
 part-fill-end-2 c = search needs
 
--- src/lib.rt:244:5
 fill-requires : tie.Need-fill-requires
 fill-requires c κs =
     let a = c .before .before .before .before .before .before .before .before .before .before .before .before .before .before .before .args in
@@ -205,11 +169,9 @@ fill-requires c κs =
     parts-are (a .ls) (a .l .now) (a .rs) (a .r .now) (g .0) (g .1) (a .dropping) (fit (c .before .before .before .before .before .before .before .before .before .before .before)) (c .before .before .before .before .before .before .before .before .before .before .count .result) (c .before .before .before .before .before .before .before .before .before .before .count .ensures) (omega arith) _ _ (c .before .before .before .before .before .before .before .before .lengths-of .ensures) (c .before .before .before .before .before .before .before .sizes-of .ensures)
     (a .out .now) (c .before .before .count3 .result) (c .before .before .before .before .before .count2 .result) (c .before .before .count3 .ensures) (omega arith) (omega arith) (count-kept _ _ (counted (c .before .before .before .before .before)) (omega arith))
 
--- src/lib.rt:215:1
 same-length : tie.Need-same-length
 same-length c = search needs
 
--- src/lib.rt:215:1
 returns-6 : tie.Need-returns-6
 returns-6 c K =
     let a = c .before .before .before .before .before .before .before .before .before .before .before .before .before .before .before .before .before .args in

@@ -1,17 +1,10 @@
-use Prim.Native.Nat.{_-_}
 use mathlib.Core.Path.{_≡_, sym, ap, _∙_}
-use mathlib.Core.Bool.{Bool}
 use Rattle.signed.proofs.Reading.{read32}
 use Rattle.cuts.specs.Windows.{sizeOf, endOf}
 use Rattle.cuts.proofs.Building.{window-end, window-front}
 use borrow.Author.Needs.{needs}
 use Rattle.cuts.proofs.window_on.Statement.{statement}
 use Rattle.cuts.proofs.window_on.Tie as tie
-use Rattle.cuts.proofs.window_on.Reads as reads
-use Rattle.cuts.proofs.window_on.Lts as lts
-use Rattle.cuts.proofs.beyond.Reads as beyond-reads
-use Rattle.cuts.proofs.keeps_end.Reads as keeps-end-reads
-use Rattle.cuts.proofs.size_on.Reads as size-on-reads
 
 size-is : (c : tie.After-size-on) → c .size-on .result ≡ sizeOf (c .before .args .dropping) (c .before .args .z) (c .before .args .n)
 size-is c = c .size-on .ensures ∙ ap (λ z. sizeOf (c .before .args .dropping) z (c .before .args .n)) (read32 _ (c .before .fits .z))
@@ -19,36 +12,29 @@ size-is c = c .size-on .ensures ∙ ap (λ z. sizeOf (c .before .args .dropping)
 end-is : (c : tie.After-keeps-end) → c .keeps-end .result ≡ endOf (c .before .before .before .args .dropping) (c .before .before .before .args .z)
 end-is c = c .keeps-end .ensures ∙ ap (endOf (c .before .before .before .args .dropping)) (read32 _ (c .before .before .before .fits .z))
 
--- src/lib.rt:86:9
 size-on-requires : tie.Need-size-on-requires
 size-on-requires c κs = search needs
 
--- src/lib.rt:87:9
 beyond-requires : tie.Need-beyond-requires
 beyond-requires c κs = search needs
 
--- src/lib.rt:88:15
 sub-len : tie.Need-sub-len
 sub-len c = search needs
 
--- src/lib.rt:89:8
 keeps-end-requires : tie.Need-keeps-end-requires
 keeps-end-requires c κs = search needs
 
--- src/lib.rt:92:19
 sub-t9 : tie.Need-sub-t9
 sub-t9 c = search needs
 
--- src/lib.rt:83:1
 returns : tie.Need-returns
-returns c = 
+returns c =
     let st = c .before .before .before .before in
     let e = sym (end-is (c .before)) ∙ c .if1 .taken in
     rw e (window-end (sizeOf (st .args .dropping) (st .args .z) (st .args .n)) (st .args .n) _ _ (size-is (c .before .before .before)) (c .before .before .beyond .ensures))
 
--- src/lib.rt:83:1
 returns-2 : tie.Need-returns-2
-returns-2 c = 
+returns-2 c =
     let st = c .before .before .before .before in
     let e = sym (end-is (c .before)) ∙ c .if1 .left in
     rw e (window-front (sizeOf (st .args .dropping) (st .args .z) (st .args .n)) (st .args .n) _ _ (size-is (c .before .before .before)) (c .before .before .beyond .ensures))
