@@ -1,1 +1,3 @@
+pub mod Vector
+pub mod Lengths
 pub mod Ravelling

@@ -1,21 +1,20 @@
 -- What 12 gives, as its code finds it.
 use mathlib.Core.Path.{_≡_, refl, sym, ap, ap₂, _∙_}
 use mathlib.Core.List.{List, [], _∷_, _++_}
-use Prim.Native.Nat.{ℕ, _-_, _*_, _/_, _≤_, _<_}
-use native.Mathlib.Nat.{mul-one, div-one, sub-zero}
+use Prim.Native.Nat.{ℕ, _-_, _≤_}
+use native.Mathlib.Nat.{sub-zero}
 use native.Mathlib.Omega.{arith}
 use lib.ListN.{length, take, drop, getD}
 use lib.IntN.{ℤ, pos}
 use mathlib.Core.Bool.{true}
 use Rattle.shape.specs.Shape.{maxCount, counted, count, countOf, shapeOf, shapeRule}
 use Rattle.shape.proofs.Rule.{vector-rule}
-use Rattle.shape.specs.Place.{place}
-use Rattle.meaning.specs.Array.{Operand, Array, arrayOf, tab, build}
+use Rattle.meaning.specs.Array.{Operand, Array, arrayOf, build}
 use Rattle.meaning.specs.Refusal.{number, meets}
 use Rattle.meaning.specs.Terms.{eqZ}
 use Rattle.meaning.specs.Primitives.{ravel}
 use Rattle.meaning.specs.Reply.{Primitive, primitives, named, reply}
-use Rattle.meaning.proofs.Tab.{tab-ext, tab-getD}
+use Rattle.meaning.proofs.Tab.{tab-getD}
 use lib.Seq.{length-take-le}
 use Rattle.shape.specs.declared.Shape.{Shape}
 use Rattle.meaning.specs.Refusal.{winner}
@@ -24,6 +23,7 @@ use Rattle.copying.proofs.Runs.{copied-fits}
 use Rattle.answer.specs.Answer.{lent, ownOrder, own}
 use Rattle.answer.proofs.Lent.{Lent}
 use Rattle.answer.proofs.Order.{Names}
+use Rattle.vectors.proofs.Vector.{vector-elements, vector-count}
 
 abbrev pub ravelled : Primitive
 ravelled = record { number = 12; operands = 1; meaning = λ G K L R. ravel R }
@@ -38,15 +38,12 @@ ravel-names G K L R = record {
 
 -- Its elements are R's.
 pub ravel-elements : (a : Array) → build (ravel a .lengths) (ravel a .element) .elements ≡ a .elements
-unfolding ravel build count place
-ravel-elements a =
-    ap (λ n. tab n (λ j. getD (a .elements) (j / 1) (pos 0))) (mul-one (length (a .elements)))
-    ∙ tab-ext (length (a .elements)) _ _ (λ j h. ap (λ i. getD (a .elements) i (pos 0)) (div-one j))
-    ∙ tab-getD (a .elements) (pos 0)
+unfolding ravel
+ravel-elements a = vector-elements (length (a .elements)) (λ i. getD (a .elements) i (pos 0)) ∙ tab-getD (a .elements) (pos 0)
 
 pub ravel-count : (a : Array) → count (ravel a .lengths) ≡ length (a .elements)
-unfolding ravel count
-ravel-count a = mul-one (length (a .elements))
+unfolding ravel
+ravel-count a = vector-count (length (a .elements))
 
 pub ravel-rule : (a : Array) → length (a .elements) ≤ maxCount → shapeRule (length (ravel a .lengths)) (ravel a .lengths) ≡ true
 unfolding ravel
