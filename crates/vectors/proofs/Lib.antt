@@ -1,3 +1,4 @@
 pub mod Vector
 pub mod Lengths
 pub mod Ravelling
+pub mod Counting

@@ -59,3 +59,55 @@ pub fn ravel(g: i32, rs: Shape, r: &[i32], out: &mut [i32]) -> Answer
     let shape = Shape::vector(count);
     Answer { number: 0, shape }
 }
+
+// 13, whatever K and L are: they are not looked at.
+pub fn interval(g: i32, rs: Shape, r: &[i32], out: &mut [i32]) -> Answer
+    ensures { λ a. ⌜ ((K : ℤ) (L : Operand) → Replied a (now (out .exit)) (reply (pos 13) g K L (lent rs (now (r .entry))) (now (out .entry)))) ⌝ }
+{
+    let early = answer::early_one(g, rs, r);
+    if early != 0 {
+        return Answer::refused(early);
+    }
+    let own = interval_refusal(rs, r);
+    if own != 0 {
+        return Answer::refused(own);
+    }
+    let n = signed::size(r[0]);
+    if Shape::MAX_COUNT < n {
+        return Answer::refused(9);
+    }
+    if out.len() < n {
+        return Answer::refused(10);
+    }
+    let first = signed::size(g);
+    count_up(first, n, out);
+    let shape = Shape::vector(n);
+    Answer { number: 0, shape }
+}
+
+// RANK, LENGTH and DOMAIN, which G does not touch.
+fn interval_refusal(rs: Shape, r: &[i32]) -> usize
+    requires { ⌜ goodForm (lent rs (now r)) ≡ true ⌝ }
+    ensures { λ n. ⌜ ((G : ℤ) → n ≡ own 13 (interval G (arrayOf (lent rs (now (r .entry)))) .refusals)) ⌝ }
+{
+    if 1 < rs.rank {
+        return 4;
+    }
+    let count = rs.count();
+    if count != 1 {
+        return 6;
+    }
+    if signed::negative(r[0]) { 7 } else { 0 }
+}
+
+// The n numbers from `first` up.
+fn count_up(first: usize, n: usize, out: &mut [i32])
+    requires { ⌜ (first ≤ 1) × ((n ≤ maxCount) × (n ≤ length (now out))) ⌝ }
+    ensures { λ _. ⌜ now (out .exit) ≡ filled (λ i. pos (first + i)) n (now (out .entry)) ⌝ }
+{
+    let mut i = 0;
+    while i < n {
+        out[i] = (first + i) as i32;
+        i += 1;
+    }
+}
