@@ -2,7 +2,8 @@
 use mathlib.Core.Path.{_≡_, refl, sym, ap, _∙_}
 use mathlib.Core.List.{List}
 use mathlib.Core.Bool.{Bool, true, false, cond, _&&_}
-use Prim.Native.Nat.{ℕ, suc, _≤_, _<_}
+use Prim.Native.Nat.{ℕ, suc, _-_, _≤_, _<_}
+use native.Mathlib.Nat.{sub-zero}
 use native.Mathlib.Omega.{arith}
 use borrow.Author.Tests.{leb-true, le-leb}
 use lib.ListN.{length, getD, take}
@@ -69,6 +70,10 @@ lent-good s b l h =
 -- The length of an axis that counts.
 pub axis-is : (s : Shape) (b : List ℤ) (k : ℕ) → k < s .rank → axis (arrayOf (lent s b)) k ≡ getD (s .lens) k 0
 axis-is s b k h = getD-take (s .rank) (s .lens) k 0 h
+
+-- The part `&b[0..n]`, n the count, is the array's elements.
+pub lent-part : (s : Shape) (b : List ℤ) → Lent s b → (n : ℕ) → n ≡ countOf s → take (n - 0) b ≡ arrayOf (lent s b) .elements
+lent-part s b g n e = ap (λ k. take k b) (sub-zero n ∙ e ∙ g .count-is)
 
 -- FORM and ORIGIN were not met.
 pub record Fine (form : Bool) (G : ℤ) : Type 0 where

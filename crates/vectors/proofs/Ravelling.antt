@@ -2,12 +2,11 @@
 use mathlib.Core.Path.{_≡_, refl, sym, ap, ap₂, _∙_}
 use mathlib.Core.List.{List, [], _∷_, _++_}
 use Prim.Native.Nat.{ℕ, _-_, _≤_}
-use native.Mathlib.Nat.{sub-zero}
 use native.Mathlib.Omega.{arith}
 use lib.ListN.{length, take, drop, getD}
 use lib.IntN.{ℤ, pos}
 use mathlib.Core.Bool.{true}
-use Rattle.shape.specs.Shape.{maxCount, counted, count, countOf, shapeOf, shapeRule}
+use Rattle.shape.specs.Shape.{maxCount, count, countOf, shapeOf, shapeRule}
 use Rattle.shape.proofs.Rule.{vector-rule}
 use Rattle.meaning.specs.Array.{Operand, Array, arrayOf, build}
 use Rattle.meaning.specs.Refusal.{number, meets}
@@ -15,13 +14,12 @@ use Rattle.meaning.specs.Terms.{eqZ}
 use Rattle.meaning.specs.Primitives.{ravel}
 use Rattle.meaning.specs.Reply.{Primitive, primitives, named, reply}
 use Rattle.meaning.proofs.Tab.{tab-getD}
-use lib.Seq.{length-take-le}
 use Rattle.shape.specs.declared.Shape.{Shape}
 use Rattle.meaning.specs.Refusal.{winner}
 use Rattle.copying.specs.Runs.{copied}
 use Rattle.copying.proofs.Runs.{copied-fits}
 use Rattle.answer.specs.Answer.{lent, ownOrder, own}
-use Rattle.answer.proofs.Lent.{Lent}
+use Rattle.answer.proofs.Lent.{Lent, lent-part}
 use Rattle.answer.proofs.Order.{Names}
 use Rattle.vectors.proofs.Vector.{vector-elements, vector-count}
 
@@ -58,10 +56,10 @@ pub ravel-out : (s : Shape) (r out : List ℤ) → Lent s r → (n : ℕ) → n 
     → last ≡ build (ravel (arrayOf (lent s r)) .lengths) (ravel (arrayOf (lent s r)) .element) .elements ++ drop (count (ravel (arrayOf (lent s r)) .lengths)) out
 ravel-out s r out g n e h last q =
     let a : Array = arrayOf (lent s r) in
-    let m : n ≡ count (counted s) = e ∙ g .count-is in
-    let len : length (take (n - 0) r) ≡ n = rw (sub-zero n) (length-take-le n r (omega (arith, g .room))) in
-    q ∙ copied-fits (take (n - 0) r) out (omega arith)
-    ∙ ap₂ (λ x k. x ++ drop k out) (ap (λ k. take k r) (sub-zero n ∙ m) ∙ sym (ravel-elements a)) (len ∙ m ∙ sym (g .whole) ∙ sym (ravel-count a))
+    q
+    ∙ ap (λ x. copied x out) (lent-part s r g n e)
+    ∙ copied-fits (a .elements) out (omega (arith, g .whole, g .count-is))
+    ∙ ap₂ (λ x k. x ++ drop k out) (sym (ravel-elements a)) (sym (ravel-count a))
 
 pub ravel-shape : (s : Shape) (r : List ℤ) → Lent s r → (n : ℕ) → n ≡ countOf s → shapeOf (n ∷ []) ≡ shapeOf (ravel (arrayOf (lent s r)) .lengths)
 unfolding ravel

@@ -1,14 +1,17 @@
 // Results that are vectors or take R's elements in their order: shape, ravel, interval, reshape.
 ghost use mathlib.Core.Path.{_≡_};
-ghost use mathlib.Core.Bool.{true};
-ghost use Prim.Native.Nat.{_+_, _≤_};
+ghost use mathlib.Core.Bool.{true, not};
+ghost use mathlib.Core.List.{map};
+ghost use Prim.Native.Nat.{_+_, _≤_, _<_};
 ghost use lib.ListN.{length, getD};
-ghost use lib.IntN.{ℤ, pos};
-ghost use Rattle.shape.specs.Shape.{maxCount, goodShape};
-ghost use Rattle.meaning.specs.Array.{Operand, arrayOf, goodForm};
-ghost use Rattle.meaning.specs.Primitives.{interval};
+ghost use lib.IntN.{ℤ, pos, natAbs};
+ghost use Rattle.shape.specs.Shape.{maxRank, maxCount, goodShape, shapeOf};
+ghost use Rattle.meaning.specs.Array.{Operand, Array, arrayOf, goodForm};
+ghost use Rattle.meaning.specs.Terms.{negative, every};
+ghost use Rattle.meaning.specs.Primitives.{interval, reshape};
 ghost use Rattle.meaning.specs.Reply.{reply};
 ghost use Rattle.copying.proofs.Runs.{filled};
+ghost use Rattle.vectors.specs.Cycle.{cycled};
 ghost use Rattle.answer.specs.Answer.{lent, own, Replied};
 use answer::Answer;
 use shape::Shape;
@@ -110,4 +113,110 @@ fn count_up(first: usize, n: usize, out: &mut [i32])
         out[i] = (first + i) as i32;
         i += 1;
     }
+}
+
+// 21, whatever K is: it is not looked at.
+pub fn reshape(g: i32, ls: Shape, l: &[i32], rs: Shape, r: &[i32], out: &mut [i32]) -> Answer
+    ensures { λ a. ⌜ ((K : ℤ) → Replied a (now (out .exit)) (reply (pos 21) g K (lent ls (now (l .entry))) (lent rs (now (r .entry))) (now (out .entry)))) ⌝ }
+{
+    let early = answer::early_two(g, ls, l, rs, r);
+    if early != 0 {
+        return Answer::refused(early);
+    }
+    let own = reshape_refusal(ls, l);
+    if own != 0 {
+        return Answer::refused(own);
+    }
+    let rank = ls.count();
+    if Shape::MAX_RANK < rank {
+        return Answer::refused(9);
+    }
+    let shape = shape_from(&l[0..rank]);
+    let total = shape.count();
+    if Shape::MAX_COUNT < total {
+        return Answer::refused(9);
+    }
+    if out.len() < total {
+        return Answer::refused(10);
+    }
+    let n = rs.count();
+    repeat_run(&r[0..n], total, out);
+    Answer { number: 0, shape }
+}
+
+// RANK and DOMAIN, which R does not touch.
+fn reshape_refusal(ls: Shape, l: &[i32]) -> usize
+    requires { ⌜ goodForm (lent ls (now l)) ≡ true ⌝ }
+    ensures { λ n. ⌜ ((R : Array) → n ≡ own 21 (reshape (arrayOf (lent ls (now (l .entry)))) R .refusals)) ⌝ }
+{
+    if 1 < ls.rank {
+        return 4;
+    }
+    let count = ls.count();
+    if none_negative(&l[0..count]) { 0 } else { 7 }
+}
+
+fn none_negative(l: &[i32]) -> bool
+    ensures { λ b. ⌜ b ≡ every (λ z. not (negative z)) (now (l .entry)) ⌝ }
+{
+    let n = l.len();
+    let mut i = 0;
+    while i < n {
+        if signed::negative(l[i]) {
+            return false;
+        }
+        i += 1;
+    }
+    true
+}
+
+// The shape whose lengths are the elements.
+fn shape_from(l: &[i32]) -> Shape
+    requires { ⌜ length (now l) ≤ maxRank ⌝ }
+    ensures { λ s. ⌜ s ≡ shapeOf (map natAbs (now (l .entry))) ⌝ }
+{
+    let rank = l.len();
+    let mut lens = [0; Shape::MAX_RANK];
+    let mut i = 0;
+    while i < rank {
+        lens[i] = signed::size(l[i]);
+        i += 1;
+    }
+    Shape { rank, lens }
+}
+
+// n elements: those of `src` again and again, zeros where it has none.
+fn repeat_run(src: &[i32], n: usize, out: &mut [i32])
+    requires { ⌜ n ≤ length (now out) ⌝ }
+    ensures { λ _. ⌜ now (out .exit) ≡ filled (cycled (now (src .entry))) n (now (out .entry)) ⌝ }
+{
+    if 1 < src.len() {
+        cycle_run(src, n, out);
+        return;
+    }
+    let x = first_element(src);
+    copying::fill_run(x, &mut out[0..n]);
+}
+
+// 0 where there is none.
+fn first_element(src: &[i32]) -> i32
+    ensures { λ x. ⌜ x ≡ getD (now (src .entry)) 0 (pos 0) ⌝ }
+{
+    if 0 < src.len() { src[0] } else { 0 }
+}
+
+// Whole runs of `src`, and its front for what is left.
+fn cycle_run(src: &[i32], n: usize, out: &mut [i32])
+    requires { ⌜ (0 < length (now src)) × (n ≤ length (now out)) ⌝ }
+    ensures { λ _. ⌜ now (out .exit) ≡ filled (cycled (now (src .entry))) n (now (out .entry)) ⌝ }
+{
+    let m = src.len();
+    let mut i = 0;
+    while m <= n - i {
+        let end = i + m;
+        copying::copy_run(&src[0..m], &mut out[i..end]);
+        i = end;
+    }
+    let rest = n - i;
+    copying::copy_run(&src[0..rest], &mut out[i..n]);
 }
