@@ -175,14 +175,14 @@ fn shape_from(l: &[i32]) -> Shape
     requires { ⌜ length (now l) ≤ maxRank ⌝ }
     ensures { λ s. ⌜ s ≡ shapeOf (map natAbs (now (l .entry))) ⌝ }
 {
-    let rank = l.len();
+    let n = l.len();
     let mut lens = [0; Shape::MAX_RANK];
     let mut i = 0;
-    while i < rank {
+    while i < n {
         lens[i] = signed::size(l[i]);
         i += 1;
     }
-    Shape { rank, lens }
+    Shape { rank: n, lens }
 }
 
 // n elements: those of `src` again and again, zeros where it has none.

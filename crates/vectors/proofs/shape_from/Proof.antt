@@ -16,10 +16,10 @@ use Rattle.vectors.proofs.shape_from.Lts as lts
 use Rattle.signed.proofs.size.Reads as size-reads
 
 abbrev Inv-loop : tie.InvT-loop
-Inv-loop l rank lens₀ i₀ lens i = (i ≤ rank) × (lens ≡ take i (map natAbs l) ++ replicate (maxRank - i) 0)
+Inv-loop l n lens₀ i₀ lens i = (i ≤ n) × (lens ≡ take i (map natAbs l) ++ replicate (maxRank - i) 0)
 
 abbrev μ-loop : tie.MeasureT-loop
-μ-loop l rank lens₀ i₀ lens i = rank - i
+μ-loop l n lens₀ i₀ lens i = n - i
 
 -- src/lib.rt:181:5
 loop-holds : tie.Need-loop-holds Inv-loop μ-loop
