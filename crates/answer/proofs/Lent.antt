@@ -36,6 +36,7 @@ module _ (s : Shape) (b : List ℤ) where
 
 -- An operand of good form, as the program sees it.
 pub record Lent (s : Shape) (b : List ℤ) : Type 0 where
+  pub form : goodForm (lent s b) ≡ true
   pub good : goodShape s ≡ true
   pub high : s .rank ≤ maxRank
   pub long : length (s .lens) ≡ maxRank
@@ -56,6 +57,7 @@ lent-good s b l h =
     let room : count (counted s) ≤ length b = leb-true (count (counted s)) (length b) (t .1) in
     let rank-is : rank (arrayOf (lent s b)) ≡ s .rank = length-take-le (s .rank) (s .lens) (omega arith) in
     record {
+      form = h;
       good = g;
       high = high;
       long = l;
@@ -113,3 +115,27 @@ module _ (G : ℤ) where
 -- The shape of a result that has the operand's lengths.
 pub made-is : (s : Shape) (b : List ℤ) → Lent s b → madeOf (s .rank) (s .lens) ≡ shapeOf (counted s)
 made-is s b g = rw (le-leb (s .rank) maxRank (g .high))
+
+-- All that a call knows where neither was met, of one operand and of two.
+pub record FineOne (G : ℤ) (s : Shape) (b : List ℤ) : Type 0 where
+  pub none : early (goodForm (lent s b)) G ≡ 0
+  pub origin : isOrigin G ≡ true
+  pub operand : Lent s b
+
+pub fine-one : (G : ℤ) (s : Shape) (b : List ℤ) → length (s .lens) ≡ maxRank → early (goodForm (lent s b)) G ≡ 0 → FineOne G s b
+fine-one G s b long h =
+    let f = early-fine G (goodForm (lent s b)) h in
+    record { none = h; origin = f .origin; operand = lent-good s b long (f .forms) }
+
+pub record FineTwo (G : ℤ) (ls : Shape) (l : List ℤ) (rs : Shape) (r : List ℤ) : Type 0 where
+  pub none : early (goodForm (lent ls l) && goodForm (lent rs r)) G ≡ 0
+  pub origin : isOrigin G ≡ true
+  pub left : Lent ls l
+  pub right : Lent rs r
+
+pub fine-two : (G : ℤ) (ls : Shape) (l : List ℤ) (rs : Shape) (r : List ℤ) → length (ls .lens) ≡ maxRank → length (rs .lens) ≡ maxRank
+    → early (goodForm (lent ls l) && goodForm (lent rs r)) G ≡ 0 → FineTwo G ls l rs r
+fine-two G ls l rs r a b h =
+    let f = early-fine G (goodForm (lent ls l) && goodForm (lent rs r)) h in
+    let t = both (goodForm (lent ls l)) (goodForm (lent rs r)) (f .forms) in
+    record { none = h; origin = f .origin; left = lent-good ls l a (t .0); right = lent-good rs r b (t .1) }

@@ -2,7 +2,7 @@
 use mathlib.Core.Path.{_≡_, refl, sym, ap, _∙_}
 use mathlib.Core.List.{List, _++_}
 use mathlib.Core.Bool.{true, cond}
-use Prim.Native.Nat.{ℕ, _≤_}
+use Prim.Native.Nat.{_≤_}
 use borrow.Author.Tests.{le-leb, eq-eqb, ne-eqb}
 use lib.ListN.{length, drop, getD}
 use lib.IntN.{ℤ, pos, natAbs, _+ℤ_}

@@ -2,12 +2,12 @@
 use mathlib.Core.Path.{_≡_, refl, sym, ap, ap₂, _∙_}
 use mathlib.Core.List.{List, [], _∷_, _++_}
 use mathlib.Core.Bool.{Bool, true, false}
-use Prim.Native.Nat.{ℕ, _+_, _≤_, _<_}
+use Prim.Native.Nat.{_+_, _≤_, _<_}
 use native.Mathlib.Omega.{arith}
 use native.Mathlib.Decide.{decLe}
 use lib.Dec.{eqb}
 use borrow.Author.Tests.{le-leb, lt-leb, eqb-true, eqb-false, eq-eqb, ne-eqb}
-use lib.ListN.{length, take, drop, getD}
+use lib.ListN.{length, drop, getD}
 use lib.Seq.{getD-take}
 use lib.IntN.{ℤ, pos, natAbs, _+ℤ_}
 use Rattle.shape.specs.declared.Shape.{Shape}
@@ -22,7 +22,6 @@ use Rattle.meaning.proofs.Tab.{tab-ext}
 use Rattle.signed.proofs.Equal.{origin-is}
 use Rattle.copying.proofs.Runs.{filled}
 use Rattle.answer.specs.Answer.{lent, ownOrder, own}
-use Rattle.answer.proofs.Lent.{Lent}
 use Rattle.answer.proofs.Order.{Names}
 use Rattle.vectors.proofs.Vector.{vector-elements, vector-count, vector-no-rule}
 

@@ -12,7 +12,7 @@ use Rattle.meaning.specs.Array.{Operand, Array, arrayOf, build}
 use Rattle.meaning.specs.Refusal.{number, meets}
 use Rattle.meaning.specs.Terms.{eqZ}
 use Rattle.meaning.specs.Primitives.{ravel}
-use Rattle.meaning.specs.Reply.{Primitive, primitives, named, reply}
+use Rattle.meaning.specs.Reply.{Primitive, primitives, named}
 use Rattle.meaning.proofs.Tab.{tab-getD}
 use Rattle.shape.specs.declared.Shape.{Shape}
 use Rattle.meaning.specs.Refusal.{winner}

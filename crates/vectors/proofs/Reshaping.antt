@@ -1,11 +1,10 @@
 -- What 21 gives, as its code finds it.
-use mathlib.Core.Path.{_≡_, refl, sym, ap, ap₂, _∙_}
-use mathlib.Core.List.{List, [], _∷_, _++_, map}
+use mathlib.Core.Path.{_≡_, refl, sym, ap, ap₂}
+use mathlib.Core.List.{List, _++_, map}
 use mathlib.Core.Bool.{Bool, true, false, not}
-use Prim.Native.Nat.{ℕ, _≤_, _<_}
-use native.Mathlib.Omega.{arith}
+use Prim.Native.Nat.{_≤_, _<_}
 use borrow.Author.Tests.{le-leb, lt-leb}
-use lib.ListN.{length, drop, getD}
+use lib.ListN.{length, drop}
 use lib.IntN.{ℤ, pos, natAbs}
 use Rattle.shape.specs.Shape.{count, shapeRule}
 use Rattle.shape.proofs.Places.{index-place}

@@ -1,6 +1,6 @@
 -- A result that is a vector.
 use mathlib.Core.Path.{_≡_, ap, _∙_}
-use mathlib.Core.List.{List, [], _∷_}
+use mathlib.Core.List.{[], _∷_}
 use Prim.Native.Nat.{ℕ, _/_, _<_}
 use native.Mathlib.Nat.{mul-one, div-one}
 use lib.ListN.{getD}

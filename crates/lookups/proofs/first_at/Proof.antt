@@ -11,9 +11,6 @@ use Rattle.signed.proofs.Reading.{read32}
 use Rattle.lookups.proofs.Finding.{first-here, first-later, first-nowhere}
 use Rattle.lookups.proofs.first_at.Statement.{statement}
 use Rattle.lookups.proofs.first_at.Tie as tie
-use Rattle.lookups.proofs.first_at.Reads as reads
-use Rattle.lookups.proofs.first_at.Lts as lts
-use Rattle.signed.proofs.same.Reads as same-reads
 
 abbrev Inv-loop : tie.InvT-loop
 Inv-loop l x n i₀ i = (i ≤ n) × (firstAt (toZ w32 x) l ≡ i + firstAt (toZ w32 x) (drop i l))
@@ -35,23 +32,18 @@ same-is c =
 found : (st : tie.Start Inv-loop μ-loop) (n : ℕ) → n ≡ firstAt (sought st) (st .args .l .now) → n ≡ firstAt (st .args .x) (st .args .l .now)
 found st n e = e ∙ ap (λ z. firstAt z (st .args .l .now)) (read32 (st .args .x) (st .fits .x))
 
--- src/lib.rt:96:5
 loop-holds : tie.Need-loop-holds Inv-loop μ-loop
 loop-holds c = (omega arith, omega arith)
 
--- src/lib.rt:97:28
 mul-same : tie.Need-mul-same Inv-loop μ-loop
 mul-same c = search needs
 
--- src/lib.rt:97:28
 shared-slice-copy-out-same : tie.Need-shared-slice-copy-out-same Inv-loop μ-loop
 shared-slice-copy-out-same c = search needs
 
--- src/lib.rt:97:12
 same-requires : tie.Need-same-requires Inv-loop μ-loop
 same-requires c κs = search needs
 
--- src/lib.rt:98:13
 returns : tie.Need-returns Inv-loop μ-loop
 returns c =
     let lp = c .before .before .before .before in
@@ -59,15 +51,12 @@ returns c =
     found st (lp .loop .i)
     (omega (arith, lp .loop .inv .1, first-here (sought st) (st .args .l .now) (lp .loop .i) (omega arith) (sym (same-is (c .before)) ∙ c .if1 .taken)))
 
--- src/lib.rt:100:9
 add-i : tie.Need-add-i Inv-loop μ-loop
 add-i c = search needs
 
--- src/lib.rt:96:5
 loop-less : tie.Need-loop-less Inv-loop μ-loop
 loop-less c = search needs
 
--- src/lib.rt:96:5
 loop-again : tie.Need-loop-again Inv-loop μ-loop
 loop-again c =
     let lp = c .before .before .before .before in
@@ -76,7 +65,6 @@ loop-again c =
       omega (arith, lp .loop .inv .1, first-later (sought st) (st .args .l .now) (lp .loop .i) (omega arith) (sym (same-is (c .before)) ∙ c .if1 .left)),
     )
 
--- src/lib.rt:91:1
 returns-2 : tie.Need-returns-2 Inv-loop μ-loop
 returns-2 c =
     let lp = c .before in

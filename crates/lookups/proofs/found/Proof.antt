@@ -10,24 +10,18 @@ use Rattle.signed.proofs.Reading.{read32}
 use borrow.Author.Needs.{needs}
 use Rattle.lookups.proofs.found.Statement.{statement}
 use Rattle.lookups.proofs.found.Tie as tie
-use Rattle.lookups.proofs.found.Reads as reads
-use Rattle.lookups.proofs.found.Lts as lts
-use Rattle.lookups.proofs.first_at.Reads as first-at-reads
 
 at-is : (c : tie.After-first-at) → c .first-at .result ≡ firstAt (c .before .args .x) (c .before .args .l .now)
 at-is c = c .first-at .ensures ∙ ap (λ z. firstAt z (c .before .args .l .now)) (read32 _ (c .before .fits .x))
 
--- src/lib.rt:88:9
 first-at-requires : tie.Need-first-at-requires
 first-at-requires c κs = search needs
 
--- src/lib.rt:85:1
 returns : tie.Need-returns
 returns c =
     let n = length (c .before .before .args .l .now) in
     sym (ap (λ k. cond (ltb k n) (pos 1) (pos 0)) (sym (at-is (c .before))) ∙ ap (λ b. cond b (pos 1) (pos 0)) (lt-ltb (c .before .first-at .result) n (omega arith)))
 
--- src/lib.rt:85:1
 returns-2 : tie.Need-returns-2
 returns-2 c =
     let n = length (c .before .before .args .l .now) in

@@ -1,33 +1,22 @@
 use borrow.Author.Needs.{needs}
 use native.Mathlib.Omega.{arith}
 use mathlib.Core.Path.{_≡_, sym, ap, ap₂, _∙_}
-use mathlib.Core.Bool.{true, _&&_}
+use mathlib.Core.Bool.{_&&_}
 use lib.ListN.{length}
 use Rattle.signed.proofs.Reading.{read32}
 use Rattle.shape.specs.Shape.{maxRank, shapeOf}
-use Rattle.shape.proofs.Bools.{both}
 use Rattle.meaning.specs.Array.{Operand, arrayOf, goodForm}
 use Rattle.meaning.specs.Primitives.{indexOf}
 use Rattle.copying.proofs.Runs.{filled}
 use Rattle.answer.specs.Answer.{lent, early, own}
 use Rattle.answer.proofs.Order.{early-reply, own-reply, space-reply, given-reply, replied-refused, replied-given}
-use Rattle.answer.proofs.Lent.{Lent, lent-good, lent-part, Fine, early-fine}
+use Rattle.answer.proofs.Lent.{lent-part, FineTwo, fine-two}
 use lib.IntN.{natAbs}
-use lib.Seq.{length-take-le}
 use Rattle.signed.proofs.Equal.{origin-is}
-use Rattle.meaning.specs.Terms.{rank}
 use Rattle.lookups.specs.Found.{positions}
 use Rattle.lookups.proofs.Lookup.{same-shape, index-names, index-rank, index-none, index-lengths, index-count, index-rule, index-out}
 use Rattle.lookups.proofs.index_of.Statement.{statement}
 use Rattle.lookups.proofs.index_of.Tie as tie
-use Rattle.lookups.proofs.index_of.Reads as reads
-use Rattle.lookups.proofs.index_of.Lts as lts
-use Rattle.answer.proofs.Answer.refused.Reads as refused-reads
-use Rattle.answer.proofs.early_two.Reads as early-two-reads
-use Rattle.lookups.proofs.put_positions.Reads as put-positions-reads
-use Rattle.shape.proofs.Shape.count.Reads as count-reads
-use Rattle.shape.proofs.Shape.of_lengths.Reads as of-lengths-reads
-use Rattle.signed.proofs.size.Reads as size-reads
 
 -- The operands.
 abbrev left : tie.Start → Operand
@@ -40,145 +29,113 @@ right st = lent (st .args .rs) (st .args .r .now)
 early-is : (c : tie.After-early-two) → c .early-two .result ≡ early (goodForm (left (c .before)) && goodForm (right (c .before))) (c .before .args .g)
 early-is c = c .early-two .ensures ∙ ap (early _) (read32 _ (c .before .fits .g))
 
-none-early : (c : tie.Else1) → early (goodForm (left (c .before .before)) && goodForm (right (c .before .before))) (c .before .before .args .g) ≡ 0
-none-early c = sym (early-is (c .before)) ∙ c .if1 .left
-
-fine : (c : tie.Else1) → Fine (goodForm (left (c .before .before)) && goodForm (right (c .before .before))) (c .before .before .args .g)
-fine c = early-fine (c .before .before .args .g) _ (none-early c)
-
-forms : (c : tie.Else1) → (goodForm (left (c .before .before)) ≡ true) × (goodForm (right (c .before .before)) ≡ true)
-forms c = both _ _ (fine c .forms)
-
-good-left : (c : tie.Else1) → Lent (c .before .before .args .ls) (c .before .before .args .l .now)
-good-left c =
-    let long : length (c .before .before .args .ls .lens) ≡ maxRank = search needs in
-    lent-good (c .before .before .args .ls) (c .before .before .args .l .now) long (forms c .0)
-
-good-right : (c : tie.Else1) → Lent (c .before .before .args .rs) (c .before .before .args .r .now)
-good-right c =
-    let long : length (c .before .before .args .rs .lens) ≡ maxRank = search needs in
-    lent-good (c .before .before .args .rs) (c .before .before .args .r .now) long (forms c .1)
+fine : (c : tie.Else1) → FineTwo (c .before .before .args .g) (c .before .before .args .ls) (c .before .before .args .l .now) (c .before .before .args .rs) (c .before .before .args .r .now)
+fine c =
+    let st = c .before .before in
+    let a : length (st .args .ls .lens) ≡ maxRank = search needs in
+    let b : length (st .args .rs .lens) ≡ maxRank = search needs in
+    fine-two (st .args .g) (st .args .ls) (st .args .l .now) (st .args .rs) (st .args .r .now) a b (sym (early-is (c .before)) ∙ c .if1 .left)
 
 -- RANK was not met.
 none-own : (c : tie.Else2)
     → own 29 (indexOf (c .before .before .before .before .args .g) (arrayOf (left (c .before .before .before .before))) (arrayOf (right (c .before .before .before .before))) .refusals) ≡ 0
-none-own c = index-none _ _ _ (good-left (c .before .before) .rank-is ∙ c .if2 .left)
+none-own c = index-none _ _ _ (fine (c .before .before) .left .rank-is ∙ c .if2 .left)
 
 -- G as a number from 0 up.
 first-is : (c : tie.After-size) → c .size .result ≡ natAbs (c .before .before .before .before .before .before .before .before .args .g)
 first-is c = c .size .ensures ∙ ap natAbs (read32 _ (c .before .before .before .before .before .before .before .before .fits .g))
 
--- src/lib.rt:20:9
 early-two-requires : tie.Need-early-two-requires
 early-two-requires c κs = search needs
 
--- src/lib.rt:22:9
 refused-requires : tie.Need-refused-requires
 refused-requires c κs = search needs
 
--- src/lib.rt:22:9
 returns : tie.Need-returns
 returns c K =
     let st = c .before .before .before in
     replied-refused (c .refused .result) _ (st .args .out .now) (c .refused .ensures)
     (early-reply (index-names (st .args .g) K (left st) (right st)) (st .args .out .now) _ (early-is (c .before .before)) (c .before .if1 .taken))
 
--- src/lib.rt:25:9
 refused-requires-2 : tie.Need-refused-requires-2
 refused-requires-2 c κs = search needs
 
--- src/lib.rt:25:9
 returns-2 : tie.Need-returns-2
 returns-2 c K =
     let e = c .before .before .before in
     let st = e .before .before in
     replied-refused (c .refused2 .result) 4 (st .args .out .now) (c .refused2 .ensures)
-    (own-reply (index-names (st .args .g) K (left st) (right st)) (st .args .out .now) (none-early e) 4
-    (sym (index-rank (st .args .g) (arrayOf (left st)) (arrayOf (right st)) (λ h. c .before .if2 .taken (sym (good-left e .rank-is) ∙ h)))) (λ z. omega arith))
+    (own-reply (index-names (st .args .g) K (left st) (right st)) (st .args .out .now) (fine e .none) 4
+    (sym (index-rank (st .args .g) (arrayOf (left st)) (arrayOf (right st)) (λ h. c .before .if2 .taken (sym (fine e .left .rank-is) ∙ h)))) (λ z. omega arith))
 
--- src/lib.rt:27:9
 count-requires : tie.Need-count-requires
 count-requires c κs = search needs
 
--- src/lib.rt:28:9
 count-requires-2 : tie.Need-count-requires-2
 count-requires-2 c κs = search needs
 
--- src/lib.rt:30:9
 refused-requires-3 : tie.Need-refused-requires-3
 refused-requires-3 c κs = search needs
 
--- src/lib.rt:30:9
 returns-3 : tie.Need-returns-3
 returns-3 c K =
     let m = c .before .before in
     let o = m .before .before in
     let e = o .before .before in
     let st = e .before .before in
-    let g = good-right e in
+    let g = fine e .right in
     let l = arrayOf (left st) in
     let r = arrayOf (right st) in
     replied-refused (c .refused3 .result) 10 (st .args .out .now) (c .refused3 .ensures)
-    (space-reply (index-names (st .args .g) K (left st) (right st)) (st .args .out .now) (none-early e) (none-own o) (index-rule (st .args .g) l r (g .rule))
+    (space-reply (index-names (st .args .g) K (left st) (right st)) (st .args .out .now) (fine e .none) (none-own o) (index-rule (st .args .g) l r (g .rule))
     (rw (index-count (st .args .g) l r) (omega (arith, g .count-is, m .count2 .ensures, c .before .if3 .taken))))
 
--- src/lib.rt:32:9
 size-requires : tie.Need-size-requires
 size-requires c κs = search needs
 
--- src/lib.rt:33:26
 sub-put-positions : tie.Need-sub-put-positions
 sub-put-positions c = search needs
 
--- src/lib.rt:33:26
 part-put-positions-start : tie.Need-part-put-positions-start
 part-put-positions-start c = search needs
 
--- src/lib.rt:33:26
 part-put-positions-end : tie.Need-part-put-positions-end
 part-put-positions-end c =
     let n = c .before .before .before in
-    let g = good-left (n .before .before .before) in
+    let g = fine (n .before .before .before) .left in
     omega (arith, g .room, g .count-is, n .count .ensures)
 
--- src/lib.rt:33:36
 sub-put-positions-2 : tie.Need-sub-put-positions-2
 sub-put-positions-2 c = search needs
 
--- src/lib.rt:33:36
 part-put-positions-start-2 : tie.Need-part-put-positions-start-2
 part-put-positions-start-2 c = search needs
 
--- src/lib.rt:33:36
 part-put-positions-end-2 : tie.Need-part-put-positions-end-2
 part-put-positions-end-2 c =
     let m = c .before .before .before in
-    let g = good-right (m .before .before .before .before) in
+    let g = fine (m .before .before .before .before) .right in
     omega (arith, g .room, g .count-is, m .count2 .ensures)
 
--- src/lib.rt:33:5
 put-positions-requires : tie.Need-put-positions-requires
 put-positions-requires c κs =
     let z = c .before .before .before in
     let m = z .before .before in
     let e = m .before .before .before .before in
     let st = e .before .before in
-    let gl = good-left e in
-    let gr = good-right e in
+    let gl = fine e .left in
+    let gr = fine e .right in
     let a = ap length (lent-part (st .args .ls) (st .args .l .now) gl _ (m .before .count .ensures)) ∙ gl .whole in
     let b = ap length (lent-part (st .args .rs) (st .args .r .now) gr _ (m .count2 .ensures)) ∙ gr .whole in
     let f = origin-is (st .args .g) (fine e .origin) in
     (omega (arith, first-is z, f .1), (omega (arith, a, gl .count-small), omega (arith, b, gr .count-is, m .count2 .ensures, z .before .if3 .left)))
 
--- src/lib.rt:35:9
 of-lengths-requires : tie.Need-of-lengths-requires
 of-lengths-requires c κs = search needs
 
--- src/lib.rt:17:1
 same-length : tie.Need-same-length
 same-length c = search needs
 
--- src/lib.rt:17:1
 returns-4 : tie.Need-returns-4
 returns-4 c K =
     let z = c .before .before .before .before .before .before .before in
@@ -188,17 +145,17 @@ returns-4 c K =
     let st = e .before .before in
     let G = st .args .g in
     let out = st .args .out .now in
-    let g = good-right e in
+    let g = fine e .right in
     let l = arrayOf (left st) in
     let r = arrayOf (right st) in
     replied-given _ (indexOf G l r) out _
     (ap (λ y. record { number = 0; shape = y }) (c .of-lengths .ensures ∙ same-shape (st .args .rs) (g .high) ∙ ap shapeOf (sym (index-lengths G l r))))
     (c .before .before .before .put-positions .ensures
-    ∙ ap₂ (λ x y. filled (positions (z .size .result) x y) (length y) out) (lent-part (st .args .ls) (st .args .l .now) (good-left e) _ (m .before .count .ensures))
+    ∙ ap₂ (λ x y. filled (positions (z .size .result) x y) (length y) out) (lent-part (st .args .ls) (st .args .l .now) (fine e .left) _ (m .before .count .ensures))
     (lent-part (st .args .rs) (st .args .r .now) g _ (m .count2 .ensures))
     ∙ ap (λ f. filled (positions f (l .elements) (r .elements)) (length (r .elements)) out) (first-is z)
     ∙ index-out G l r out (fine e .origin) (g .whole))
-    (given-reply (index-names G K (left st) (right st)) out (none-early e) (none-own o) (index-rule G l r (g .rule))
+    (given-reply (index-names G K (left st) (right st)) out (fine e .none) (none-own o) (index-rule G l r (g .rule))
     (rw (index-count G l r) (omega (arith, g .count-is, m .count2 .ensures, z .before .if3 .left))))
 
 pub index-of-spec : {M : Type 1} → statement M

@@ -1,28 +1,20 @@
 use borrow.Author.Needs.{needs}
 use native.Mathlib.Omega.{arith}
 use mathlib.Core.Path.{_≡_, sym, ap, ap₂, _∙_}
-use mathlib.Core.Bool.{true, _&&_}
+use mathlib.Core.Bool.{_&&_}
 use lib.ListN.{length}
 use Rattle.signed.proofs.Reading.{read32}
 use Rattle.shape.specs.Shape.{maxRank, shapeOf}
-use Rattle.shape.proofs.Bools.{both}
 use Rattle.meaning.specs.Array.{Operand, arrayOf, goodForm}
 use Rattle.meaning.specs.Primitives.{member}
 use Rattle.copying.proofs.Runs.{filled}
 use Rattle.answer.specs.Answer.{lent, early}
 use Rattle.answer.proofs.Order.{early-reply, space-reply, given-reply, replied-refused, replied-given}
-use Rattle.answer.proofs.Lent.{Lent, lent-good, lent-part, Fine, early-fine}
+use Rattle.answer.proofs.Lent.{lent-part, FineTwo, fine-two}
 use Rattle.lookups.specs.Found.{members}
 use Rattle.lookups.proofs.Lookup.{same-shape, member-names, member-none, member-lengths, member-count, member-rule, member-out}
 use Rattle.lookups.proofs.member.Statement.{statement}
 use Rattle.lookups.proofs.member.Tie as tie
-use Rattle.lookups.proofs.member.Reads as reads
-use Rattle.lookups.proofs.member.Lts as lts
-use Rattle.answer.proofs.Answer.refused.Reads as refused-reads
-use Rattle.answer.proofs.early_two.Reads as early-two-reads
-use Rattle.lookups.proofs.put_found.Reads as put-found-reads
-use Rattle.shape.proofs.Shape.count.Reads as count-reads
-use Rattle.shape.proofs.Shape.of_lengths.Reads as of-lengths-reads
 
 -- The operands.
 abbrev left : tie.Start → Operand
@@ -35,101 +27,72 @@ right st = lent (st .args .rs) (st .args .r .now)
 early-is : (c : tie.After-early-two) → c .early-two .result ≡ early (goodForm (left (c .before)) && goodForm (right (c .before))) (c .before .args .g)
 early-is c = c .early-two .ensures ∙ ap (early _) (read32 _ (c .before .fits .g))
 
-none-early : (c : tie.Else1) → early (goodForm (left (c .before .before)) && goodForm (right (c .before .before))) (c .before .before .args .g) ≡ 0
-none-early c = sym (early-is (c .before)) ∙ c .if1 .left
+fine : (c : tie.Else1) → FineTwo (c .before .before .args .g) (c .before .before .args .ls) (c .before .before .args .l .now) (c .before .before .args .rs) (c .before .before .args .r .now)
+fine c =
+    let st = c .before .before in
+    let a : length (st .args .ls .lens) ≡ maxRank = search needs in
+    let b : length (st .args .rs .lens) ≡ maxRank = search needs in
+    fine-two (st .args .g) (st .args .ls) (st .args .l .now) (st .args .rs) (st .args .r .now) a b (sym (early-is (c .before)) ∙ c .if1 .left)
 
-fine : (c : tie.Else1) → Fine (goodForm (left (c .before .before)) && goodForm (right (c .before .before))) (c .before .before .args .g)
-fine c = early-fine (c .before .before .args .g) _ (none-early c)
-
-forms : (c : tie.Else1) → (goodForm (left (c .before .before)) ≡ true) × (goodForm (right (c .before .before)) ≡ true)
-forms c = both _ _ (fine c .forms)
-
-good-left : (c : tie.Else1) → Lent (c .before .before .args .ls) (c .before .before .args .l .now)
-good-left c =
-    let long : length (c .before .before .args .ls .lens) ≡ maxRank = search needs in
-    lent-good (c .before .before .args .ls) (c .before .before .args .l .now) long (forms c .0)
-
-good-right : (c : tie.Else1) → Lent (c .before .before .args .rs) (c .before .before .args .r .now)
-good-right c =
-    let long : length (c .before .before .args .rs .lens) ≡ maxRank = search needs in
-    lent-good (c .before .before .args .rs) (c .before .before .args .r .now) long (forms c .1)
-
--- src/lib.rt:57:9
 early-two-requires : tie.Need-early-two-requires
 early-two-requires c κs = search needs
 
--- src/lib.rt:59:9
 refused-requires : tie.Need-refused-requires
 refused-requires c κs = search needs
 
--- src/lib.rt:59:9
 returns : tie.Need-returns
 returns c K =
     let st = c .before .before .before in
     replied-refused (c .refused .result) _ (st .args .out .now) (c .refused .ensures)
     (early-reply (member-names (st .args .g) K (left st) (right st)) (st .args .out .now) _ (early-is (c .before .before)) (c .before .if1 .taken))
 
--- src/lib.rt:61:9
 count-requires : tie.Need-count-requires
 count-requires c κs = search needs
 
--- src/lib.rt:62:9
 count-requires-2 : tie.Need-count-requires-2
 count-requires-2 c κs = search needs
 
--- src/lib.rt:64:9
 refused-requires-2 : tie.Need-refused-requires-2
 refused-requires-2 c κs = search needs
 
--- src/lib.rt:64:9
 returns-2 : tie.Need-returns-2
 returns-2 c K =
     let n = c .before .before .before in
     let e = n .before in
     let st = e .before .before in
-    let g = good-left e in
+    let g = fine e .left in
     replied-refused (c .refused2 .result) 10 (st .args .out .now) (c .refused2 .ensures)
-    (space-reply (member-names (st .args .g) K (left st) (right st)) (st .args .out .now) (none-early e) (member-none (arrayOf (left st)) (arrayOf (right st)))
+    (space-reply (member-names (st .args .g) K (left st) (right st)) (st .args .out .now) (fine e .none) (member-none (arrayOf (left st)) (arrayOf (right st)))
     (member-rule (arrayOf (left st)) (arrayOf (right st)) (g .rule))
     (rw (member-count (arrayOf (left st)) (arrayOf (right st))) (omega (arith, g .count-is, n .count .ensures, c .before .if2 .taken))))
 
--- src/lib.rt:66:15
 sub-put-found : tie.Need-sub-put-found
 sub-put-found c = search needs
 
--- src/lib.rt:66:15
 part-put-found-start : tie.Need-part-put-found-start
 part-put-found-start c = search needs
 
--- src/lib.rt:66:15
 part-put-found-end : tie.Need-part-put-found-end
-part-put-found-end c = let g = good-left (c .before .before .before) in omega (arith, g .room, g .count-is, c .before .before .count .ensures)
+part-put-found-end c = let g = fine (c .before .before .before) .left in omega (arith, g .room, g .count-is, c .before .before .count .ensures)
 
--- src/lib.rt:66:25
 sub-put-found-2 : tie.Need-sub-put-found-2
 sub-put-found-2 c = search needs
 
--- src/lib.rt:66:25
 part-put-found-start-2 : tie.Need-part-put-found-start-2
 part-put-found-start-2 c = search needs
 
--- src/lib.rt:66:25
 part-put-found-end-2 : tie.Need-part-put-found-end-2
-part-put-found-end-2 c = let g = good-right (c .before .before .before .before) in omega (arith, g .room, g .count-is, c .before .before .count2 .ensures)
+part-put-found-end-2 c = let g = fine (c .before .before .before .before) .right in omega (arith, g .room, g .count-is, c .before .before .count2 .ensures)
 
--- src/lib.rt:66:5
 put-found-requires : tie.Need-put-found-requires
 put-found-requires c κs = search needs
 
--- src/lib.rt:68:9
 of-lengths-requires : tie.Need-of-lengths-requires
 of-lengths-requires c κs = search needs
 
--- src/lib.rt:54:1
 same-length : tie.Need-same-length
 same-length c = search needs
 
--- src/lib.rt:54:1
 returns-3 : tie.Need-returns-3
 returns-3 c K =
     let t = c .before .before .before .before .before .before .before in
@@ -137,16 +100,16 @@ returns-3 c K =
     let e = m .before .before in
     let st = e .before .before in
     let out = st .args .out .now in
-    let g = good-left e in
+    let g = fine e .left in
     let l = arrayOf (left st) in
     let r = arrayOf (right st) in
     replied-given _ (member l r) out _
     (ap (λ z. record { number = 0; shape = z }) (c .of-lengths .ensures ∙ same-shape (st .args .ls) (g .high) ∙ ap shapeOf (sym (member-lengths l r))))
     (c .before .before .before .put-found .ensures
     ∙ ap₂ (λ x y. filled (members x y) (length x) out) (lent-part (st .args .ls) (st .args .l .now) g _ (m .before .count .ensures))
-    (lent-part (st .args .rs) (st .args .r .now) (good-right e) _ (m .count2 .ensures))
+    (lent-part (st .args .rs) (st .args .r .now) (fine e .right) _ (m .count2 .ensures))
     ∙ member-out l r out (g .whole))
-    (given-reply (member-names (st .args .g) K (left st) (right st)) out (none-early e) (member-none l r) (member-rule l r (g .rule))
+    (given-reply (member-names (st .args .g) K (left st) (right st)) out (fine e .none) (member-none l r) (member-rule l r (g .rule))
     (rw (member-count l r) (omega (arith, g .count-is, m .before .count .ensures, t .if2 .left))))
 
 pub member-spec : {M : Type 1} → statement M

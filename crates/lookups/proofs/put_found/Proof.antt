@@ -9,9 +9,6 @@ use Rattle.signed.proofs.Reading.{read32}
 use Rattle.copying.proofs.Runs.{filled, filled-none, filled-one}
 use Rattle.lookups.proofs.put_found.Statement.{statement}
 use Rattle.lookups.proofs.put_found.Tie as tie
-use Rattle.lookups.proofs.put_found.Reads as reads
-use Rattle.lookups.proofs.put_found.Lts as lts
-use Rattle.lookups.proofs.found.Reads as found-reads
 
 abbrev Inv-loop : tie.InvT-loop
 Inv-loop l r out₀ n i₀ out i = (i ≤ n) × ((length out ≡ length out₀) × (out ≡ filled (members l r) i out₀))
@@ -19,39 +16,30 @@ Inv-loop l r out₀ n i₀ out i = (i ≤ n) × ((length out ≡ length out₀) 
 abbrev μ-loop : tie.MeasureT-loop
 μ-loop l r out₀ n i₀ out i = n - i
 
--- src/lib.rt:79:5
 loop-holds : tie.Need-loop-holds Inv-loop μ-loop
 loop-holds c = (omega arith, (refl, filled-none _ _))
 
--- src/lib.rt:80:27
 mul-found : tie.Need-mul-found Inv-loop μ-loop
 mul-found c = search needs
 
--- src/lib.rt:80:27
 shared-slice-copy-out-found : tie.Need-shared-slice-copy-out-found Inv-loop μ-loop
 shared-slice-copy-out-found c = search needs
 
--- src/lib.rt:80:18
 found-requires : tie.Need-found-requires Inv-loop μ-loop
 found-requires c κs = search needs
 
--- src/lib.rt:80:9
 mul-t11 : tie.Need-mul-t11 Inv-loop μ-loop
 mul-t11 c = search needs
 
--- src/lib.rt:80:9
 slice-set-from-out : tie.Need-slice-set-from-out Inv-loop μ-loop
 slice-set-from-out c = search needs
 
--- src/lib.rt:81:9
 add-i : tie.Need-add-i Inv-loop μ-loop
 add-i c = search needs
 
--- src/lib.rt:79:5
 loop-less : tie.Need-loop-less Inv-loop μ-loop
 loop-less c = search needs
 
--- src/lib.rt:79:5
 loop-again : tie.Need-loop-again Inv-loop μ-loop
 loop-again c =
     let lp = c .before .before .before in
@@ -64,11 +52,9 @@ loop-again c =
       (simp length-set (lp .loop .inv .1 .0), rw (lp .loop .inv .1 .1) (filled-one _ (pos 0) _ (lp .loop .i) (st .args .out .now) (omega arith) e)),
     )
 
--- src/lib.rt:73:1
 same-length : tie.Need-same-length Inv-loop μ-loop
 same-length c = search needs
 
--- src/lib.rt:73:1
 returns : tie.Need-returns Inv-loop μ-loop
 returns c =
     let e : c .before .loop .i ≡ length (c .before .before .args .l .now) = omega arith in

@@ -12,9 +12,6 @@ use Rattle.shape.specs.Shape.{maxCount}
 use Rattle.lookups.proofs.Finding.{first-le}
 use Rattle.lookups.proofs.put_positions.Statement.{statement}
 use Rattle.lookups.proofs.put_positions.Tie as tie
-use Rattle.lookups.proofs.put_positions.Reads as reads
-use Rattle.lookups.proofs.put_positions.Lts as lts
-use Rattle.lookups.proofs.first_at.Reads as first-at-reads
 
 abbrev Inv-loop : tie.InvT-loop
 Inv-loop first l r out₀ n i₀ out i = (i ≤ n) × ((length out ≡ length out₀) × (out ≡ filled (positions first l r) i out₀))
@@ -34,47 +31,36 @@ at-small c =
     let st = c .before .before .before .before in
     omega (arith, at-is c, first-le (getD (st .args .r .now) (c .before .before .before .loop .i) (pos 0)) (st .args .l .now), st .pre)
 
--- src/lib.rt:46:5
 loop-holds : tie.Need-loop-holds Inv-loop μ-loop
 loop-holds c = (omega arith, (refl, filled-none _ _))
 
--- src/lib.rt:47:30
 mul-first-at : tie.Need-mul-first-at Inv-loop μ-loop
 mul-first-at c = search needs
 
--- src/lib.rt:47:30
 shared-slice-copy-out-first-at : tie.Need-shared-slice-copy-out-first-at Inv-loop μ-loop
 shared-slice-copy-out-first-at c = search needs
 
--- src/lib.rt:47:13
 first-at-requires : tie.Need-first-at-requires Inv-loop μ-loop
 first-at-requires c κs = search needs
 
--- src/lib.rt:48:19
 add-out : tie.Need-add-out Inv-loop μ-loop
 add-out c = let h = at-small c in omega arith
 
--- src/lib.rt:48:18
 cast-out : tie.Need-cast-out Inv-loop μ-loop
 cast-out c = let h = at-small c in search needs
 
--- src/lib.rt:48:9
 mul-t12 : tie.Need-mul-t12 Inv-loop μ-loop
 mul-t12 c = search needs
 
--- src/lib.rt:48:9
 slice-set-from-out : tie.Need-slice-set-from-out Inv-loop μ-loop
 slice-set-from-out c = search needs
 
--- src/lib.rt:49:9
 add-i : tie.Need-add-i Inv-loop μ-loop
 add-i c = search needs
 
--- src/lib.rt:46:5
 loop-less : tie.Need-loop-less Inv-loop μ-loop
 loop-less c = search needs
 
--- src/lib.rt:46:5
 loop-again : tie.Need-loop-again Inv-loop μ-loop
 loop-again c =
     let lp = c .before .before .before in
@@ -85,11 +71,9 @@ loop-again c =
       (simp length-set (lp .loop .inv .1 .0), rw (lp .loop .inv .1 .1) (filled-one _ (pos 0) _ (lp .loop .i) (st .args .out .now) (omega arith) e)),
     )
 
--- src/lib.rt:40:1
 same-length : tie.Need-same-length Inv-loop μ-loop
 same-length c = search needs
 
--- src/lib.rt:40:1
 returns : tie.Need-returns Inv-loop μ-loop
 returns c =
     let e : c .before .loop .i ≡ length (c .before .before .args .r .now) = omega arith in

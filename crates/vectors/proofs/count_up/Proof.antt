@@ -8,8 +8,6 @@ use Rattle.signed.proofs.Reading.{read-pos}
 use Rattle.copying.proofs.Runs.{filled, filled-none, filled-one}
 use Rattle.vectors.proofs.count_up.Statement.{statement}
 use Rattle.vectors.proofs.count_up.Tie as tie
-use Rattle.vectors.proofs.count_up.Reads as reads
-use Rattle.vectors.proofs.count_up.Lts as lts
 
 abbrev Inv-loop : tie.InvT-loop
 Inv-loop first n out₀ i₀ out i = (i ≤ n) × ((length out ≡ length out₀) × (out ≡ filled (λ j. pos (first + j)) i out₀))
@@ -17,35 +15,27 @@ Inv-loop first n out₀ i₀ out i = (i ≤ n) × ((length out ≡ length out₀
 abbrev μ-loop : tie.MeasureT-loop
 μ-loop first n out₀ i₀ out i = n - i
 
--- src/lib.rt:109:5
 loop-holds : tie.Need-loop-holds Inv-loop μ-loop
 loop-holds c = (omega arith, (refl, filled-none _ _))
 
--- src/lib.rt:110:19
 add-out : tie.Need-add-out Inv-loop μ-loop
 add-out c = search needs
 
--- src/lib.rt:110:18
 cast-out : tie.Need-cast-out Inv-loop μ-loop
 cast-out c = search needs
 
--- src/lib.rt:110:9
 mul-t8 : tie.Need-mul-t8 Inv-loop μ-loop
 mul-t8 c = search needs
 
--- src/lib.rt:110:9
 slice-set-from-out : tie.Need-slice-set-from-out Inv-loop μ-loop
 slice-set-from-out c = search needs
 
--- src/lib.rt:111:9
 add-i : tie.Need-add-i Inv-loop μ-loop
 add-i c = search needs
 
--- src/lib.rt:109:5
 loop-less : tie.Need-loop-less Inv-loop μ-loop
 loop-less c = search needs
 
--- src/lib.rt:109:5
 loop-again : tie.Need-loop-again Inv-loop μ-loop
 loop-again c =
     let st = c .before .before in
@@ -54,11 +44,9 @@ loop-again c =
       (simp length-set (lp .inv .1 .0), rw (lp .inv .1 .1) (filled-one _ (pos 0) _ (lp .i) (st .args .out .now) (omega arith) (read-pos (st .args .first + lp .i) (omega arith)))),
     )
 
--- src/lib.rt:104:1
 same-length : tie.Need-same-length Inv-loop μ-loop
 same-length c = search needs
 
--- src/lib.rt:104:1
 returns : tie.Need-returns Inv-loop μ-loop
 returns c =
     let e : c .before .loop .i ≡ c .before .before .args .n = omega arith in

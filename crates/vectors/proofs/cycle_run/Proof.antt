@@ -9,9 +9,6 @@ use Rattle.vectors.specs.Cycle.{cycled}
 use Rattle.vectors.proofs.Cycling.{cycle-put, cycled-next}
 use Rattle.vectors.proofs.cycle_run.Statement.{statement}
 use Rattle.vectors.proofs.cycle_run.Tie as tie
-use Rattle.vectors.proofs.cycle_run.Reads as reads
-use Rattle.vectors.proofs.cycle_run.Lts as lts
-use Rattle.copying.proofs.copy_run.Reads as copy-run-reads
 
 abbrev Inv-loop : tie.InvT-loop
 Inv-loop src n out₀ m i₀ out i = (i ≤ n) × ((length out ≡ length out₀) × ((i % length src ≡ 0) × (out ≡ filled (cycled src) i out₀)))
@@ -19,55 +16,42 @@ Inv-loop src n out₀ m i₀ out i = (i ≤ n) × ((length out ≡ length out₀
 abbrev μ-loop : tie.MeasureT-loop
 μ-loop src n out₀ m i₀ out i = n - i
 
--- src/lib.rt:215:5
 loop-holds : tie.Need-loop-holds Inv-loop μ-loop
 loop-holds c = (omega arith, (refl, (zero-mod _, filled-none _ _)))
 
--- src/lib.rt:215:16
 sub-loop : tie.Need-sub-loop Inv-loop μ-loop
 sub-loop c = search needs
 
--- src/lib.rt:216:19
 add-end : tie.Need-add-end Inv-loop μ-loop
 add-end c = search needs
 
--- src/lib.rt:217:27
 sub-copy-run : tie.Need-sub-copy-run Inv-loop μ-loop
 sub-copy-run c = search needs
 
--- src/lib.rt:217:27
 part-copy-run-start : tie.Need-part-copy-run-start Inv-loop μ-loop
 part-copy-run-start c = search needs
 
--- src/lib.rt:217:27
 part-copy-run-end : tie.Need-part-copy-run-end Inv-loop μ-loop
 part-copy-run-end c = search needs
 
--- src/lib.rt:217:39
 mul-copy-run : tie.Need-mul-copy-run Inv-loop μ-loop
 mul-copy-run c = search needs
 
--- src/lib.rt:217:39
 sub-copy-run-2 : tie.Need-sub-copy-run-2 Inv-loop μ-loop
 sub-copy-run-2 c = search needs
 
--- src/lib.rt:217:39
 part-copy-run-start-2 : tie.Need-part-copy-run-start-2 Inv-loop μ-loop
 part-copy-run-start-2 c = search needs
 
--- src/lib.rt:217:39
 part-copy-run-end-2 : tie.Need-part-copy-run-end-2 Inv-loop μ-loop
 part-copy-run-end-2 c = search needs
 
--- src/lib.rt:217:9
 copy-run-requires : tie.Need-copy-run-requires Inv-loop μ-loop
 copy-run-requires c κs = search needs
 
--- src/lib.rt:215:5
 loop-less : tie.Need-loop-less Inv-loop μ-loop
 loop-less c = search needs
 
--- src/lib.rt:215:5
 loop-again : tie.Need-loop-again Inv-loop μ-loop
 loop-again c =
     let lp = c .before .before .before .before .before in
@@ -77,47 +61,36 @@ loop-again c =
     let put = cycle-put src (lp .loop .out) out₀ _ (lp .loop .i) (length src) e (lp .loop .inv .1 .1 .0) (omega arith) (lp .loop .inv .1 .1 .1) refl (omega arith) (c .before .copy-run .ensures) in
     (omega arith, (ap length put ∙ length-filled (cycled src) e out₀ (omega arith), (cycled-next src (lp .loop .i) (lp .loop .inv .1 .1 .0), put)))
 
--- src/lib.rt:220:16
 sub-rest : tie.Need-sub-rest Inv-loop μ-loop
 sub-rest c = search needs
 
--- src/lib.rt:221:23
 sub-copy-run-3 : tie.Need-sub-copy-run-3 Inv-loop μ-loop
 sub-copy-run-3 c = search needs
 
--- src/lib.rt:221:23
 part-copy-run-start-3 : tie.Need-part-copy-run-start-3 Inv-loop μ-loop
 part-copy-run-start-3 c = search needs
 
--- src/lib.rt:221:23
 part-copy-run-end-3 : tie.Need-part-copy-run-end-3 Inv-loop μ-loop
 part-copy-run-end-3 c = search needs
 
--- src/lib.rt:221:38
 mul-copy-run-2 : tie.Need-mul-copy-run-2 Inv-loop μ-loop
 mul-copy-run-2 c = search needs
 
--- src/lib.rt:221:38
 sub-copy-run-4 : tie.Need-sub-copy-run-4 Inv-loop μ-loop
 sub-copy-run-4 c = search needs
 
--- src/lib.rt:221:38
 part-copy-run-start-4 : tie.Need-part-copy-run-start-4 Inv-loop μ-loop
 part-copy-run-start-4 c = search needs
 
--- src/lib.rt:221:38
 part-copy-run-end-4 : tie.Need-part-copy-run-end-4 Inv-loop μ-loop
 part-copy-run-end-4 c = search needs
 
--- src/lib.rt:221:5
 copy-run-requires-2 : tie.Need-copy-run-requires-2 Inv-loop μ-loop
 copy-run-requires-2 c κs = search needs
 
--- src/lib.rt:209:1
 same-length : tie.Need-same-length Inv-loop μ-loop
 same-length c = search needs
 
--- src/lib.rt:209:1
 returns : tie.Need-returns Inv-loop μ-loop
 returns c =
     let lp = c .before .before .before .before .before in

@@ -1,32 +1,22 @@
 use borrow.Author.Needs.{needs, sfits-of}
-use Prim.Native.Nat.{_≤_, _+_}
+use Prim.Native.Nat.{_+_}
 use native.Mathlib.Omega.{arith}
 use mathlib.Core.Path.{_≡_, sym, ap, ap₂, _∙_}
-use mathlib.Core.Bool.{true}
 use mathlib.Core.List.{[], _∷_}
 use lib.IntN.{pos, natAbs}
 use lib.ListN.{length, getD}
 use Rattle.signed.proofs.Reading.{read32}
 use Rattle.signed.proofs.Equal.{origin-is}
-use Rattle.shape.specs.Shape.{maxRank, maxCount, shapeOf}
+use Rattle.shape.specs.Shape.{maxRank, shapeOf}
 use Rattle.meaning.specs.Array.{Array, arrayOf, goodForm}
 use Rattle.meaning.specs.Primitives.{interval}
-use Rattle.meaning.specs.Reply.{isOrigin}
 use Rattle.copying.proofs.Runs.{filled}
 use Rattle.answer.specs.Answer.{lent, early, own}
 use Rattle.answer.proofs.Order.{early-reply, own-reply, limit-reply, space-reply, given-reply, replied-refused, replied-given}
-use Rattle.answer.proofs.Lent.{Lent, lent-good, Fine, early-fine}
+use Rattle.answer.proofs.Lent.{FineOne, fine-one}
 use Rattle.vectors.proofs.Counting.{Single, ends, ends-is, interval-names, interval-single, interval-rule, interval-no-rule, interval-count, interval-shape, interval-out}
 use Rattle.vectors.proofs.interval.Statement.{statement}
 use Rattle.vectors.proofs.interval.Tie as tie
-use Rattle.vectors.proofs.interval.Reads as reads
-use Rattle.vectors.proofs.interval.Lts as lts
-use Rattle.answer.proofs.Answer.refused.Reads as refused-reads
-use Rattle.answer.proofs.early_one.Reads as early-one-reads
-use Rattle.shape.proofs.Shape.vector.Reads as vector-reads
-use Rattle.signed.proofs.size.Reads as size-reads
-use Rattle.vectors.proofs.count_up.Reads as count-up-reads
-use Rattle.vectors.proofs.interval_refusal.Reads as interval-refusal-reads
 
 -- R.
 abbrev of : tie.Start → Array
@@ -36,17 +26,11 @@ of st = arrayOf (lent (st .args .rs) (st .args .r .now))
 early-is : (c : tie.After-early-one) → c .early-one .result ≡ early (goodForm (lent (c .before .args .rs) (c .before .args .r .now))) (c .before .args .g)
 early-is c = c .early-one .ensures ∙ ap (early _) (read32 _ (c .before .fits .g))
 
-none-early : (c : tie.Else1) → early (goodForm (lent (c .before .before .args .rs) (c .before .before .args .r .now))) (c .before .before .args .g) ≡ 0
-none-early c = sym (early-is (c .before)) ∙ c .if1 .left
-
-fine : (c : tie.Else1) → Fine (goodForm (lent (c .before .before .args .rs) (c .before .before .args .r .now))) (c .before .before .args .g)
-fine c = early-fine (c .before .before .args .g) _ (none-early c)
-
-good : (c : tie.Else1) → Lent (c .before .before .args .rs) (c .before .before .args .r .now)
-good c =
-    let s = c .before .before .args .rs in
-    let long : length (s .lens) ≡ maxRank = search needs in
-    lent-good s (c .before .before .args .r .now) long (fine c .forms)
+fine : (c : tie.Else1) → FineOne (c .before .before .args .g) (c .before .before .args .rs) (c .before .before .args .r .now)
+fine c =
+    let st = c .before .before in
+    let long : length (st .args .rs .lens) ≡ maxRank = search needs in
+    fine-one (st .args .g) (st .args .rs) (st .args .r .now) long (sym (early-is (c .before)) ∙ c .if1 .left)
 
 -- RANK, LENGTH and DOMAIN, and what is known where none was met.
 none-own : (c : tie.Else2) → own 13 (interval (c .before .before .before .before .args .g) (of (c .before .before .before .before)) .refusals) ≡ 0
@@ -60,7 +44,7 @@ size-is : (c : tie.After-size) → c .size .result ≡ natAbs (ends (of (c .befo
 size-is c =
     let e = c .before .before in
     let st = e .before .before .before .before in
-    let g = good (e .before .before) in
+    let g = fine (e .before .before) .operand in
     c .size .ensures
     ∙ ap natAbs
     (read32 (getD (st .args .r .now) 0 (pos 0)) (sfits-of (c .before .size-arg .given)) ∙ sym (ends-is (st .args .rs) (st .args .r .now) (omega (arith, single e .one, g .whole))))
@@ -69,80 +53,66 @@ size-is c =
 first-is : (c : tie.After-size2) → c .size2 .result ≡ natAbs (c .before .before .before .before .before .before .before .before .before .args .g)
 first-is c = c .size2 .ensures ∙ ap natAbs (read32 _ (c .before .before .before .before .before .before .before .before .before .fits .g))
 
--- src/lib.rt:67:9
 early-one-requires : tie.Need-early-one-requires
 early-one-requires c κs = search needs
 
--- src/lib.rt:69:9
 refused-requires : tie.Need-refused-requires
 refused-requires c κs = search needs
 
--- src/lib.rt:69:9
 returns : tie.Need-returns
 returns c K L =
     let st = c .before .before .before in
     replied-refused (c .refused .result) _ (st .args .out .now) (c .refused .ensures)
     (early-reply (interval-names (st .args .g) K L (lent (st .args .rs) (st .args .r .now))) (st .args .out .now) _ (early-is (c .before .before)) (c .before .if1 .taken))
 
--- src/lib.rt:71:9
 interval-refusal-requires : tie.Need-interval-refusal-requires
-interval-refusal-requires c κs = fine c .forms
+interval-refusal-requires c κs = fine c .operand .form
 
--- src/lib.rt:73:9
 refused-requires-2 : tie.Need-refused-requires-2
 refused-requires-2 c κs = search needs
 
--- src/lib.rt:73:9
 returns-2 : tie.Need-returns-2
 returns-2 c K L =
     let e = c .before .before .before in
     let st = e .before .before in
     replied-refused (c .refused2 .result) _ (st .args .out .now) (c .refused2 .ensures)
-    (own-reply (interval-names (st .args .g) K L (lent (st .args .rs) (st .args .r .now))) (st .args .out .now) (none-early e) _
+    (own-reply (interval-names (st .args .g) K L (lent (st .args .rs) (st .args .r .now))) (st .args .out .now) (fine e .none) _
     (c .before .before .interval-refusal .ensures (st .args .g)) (c .before .if2 .taken))
 
--- src/lib.rt:75:26
 shared-slice-copy-out-size : tie.Need-shared-slice-copy-out-size
-shared-slice-copy-out-size c = let g = good (c .before .before) in omega (arith, single c .one, g .whole, g .room)
+shared-slice-copy-out-size c = let g = fine (c .before .before) .operand in omega (arith, single c .one, g .whole, g .room)
 
--- src/lib.rt:75:9
 size-requires : tie.Need-size-requires
 size-requires c κs = search needs
 
--- src/lib.rt:77:9
 refused-requires-3 : tie.Need-refused-requires-3
 refused-requires-3 c κs = search needs
 
--- src/lib.rt:77:9
 returns-3 : tie.Need-returns-3
 returns-3 c K L =
     let z = c .before .before in
     let e = z .before .before in
     let st = e .before .before .before .before in
     replied-refused (c .refused3 .result) 9 (st .args .out .now) (c .refused3 .ensures)
-    (limit-reply (interval-names (st .args .g) K L (lent (st .args .rs) (st .args .r .now))) (st .args .out .now) (none-early (e .before .before)) (none-own e)
+    (limit-reply (interval-names (st .args .g) K L (lent (st .args .rs) (st .args .r .now))) (st .args .out .now) (fine (e .before .before) .none) (none-own e)
     (interval-no-rule (st .args .g) (of st) (omega (arith, size-is z, c .before .if3 .taken))))
 
--- src/lib.rt:80:9
 refused-requires-4 : tie.Need-refused-requires-4
 refused-requires-4 c κs = search needs
 
--- src/lib.rt:80:9
 returns-4 : tie.Need-returns-4
 returns-4 c K L =
     let z = c .before .before .before in
     let e = z .before .before in
     let st = e .before .before .before .before in
     replied-refused (c .refused4 .result) 10 (st .args .out .now) (c .refused4 .ensures)
-    (space-reply (interval-names (st .args .g) K L (lent (st .args .rs) (st .args .r .now))) (st .args .out .now) (none-early (e .before .before)) (none-own e)
+    (space-reply (interval-names (st .args .g) K L (lent (st .args .rs) (st .args .r .now))) (st .args .out .now) (fine (e .before .before) .none) (none-own e)
     (interval-rule (st .args .g) (of st) (omega (arith, size-is z, c .before .before .if3 .left)))
     (rw (interval-count (st .args .g) (of st)) (omega (arith, size-is z, c .before .if4 .taken))))
 
--- src/lib.rt:82:9
 size-requires-2 : tie.Need-size-requires-2
 size-requires-2 c κs = search needs
 
--- src/lib.rt:83:5
 count-up-requires : tie.Need-count-up-requires
 count-up-requires c κs =
     let z = c .before .before .before .before in
@@ -151,15 +121,12 @@ count-up-requires c κs =
     let f = origin-is (st .args .g) (fine (e .before .before) .origin) in
     (omega (arith, first-is (c .before), f .1), (omega arith, omega arith))
 
--- src/lib.rt:84:9
 vector-requires : tie.Need-vector-requires
 vector-requires c κs = search needs
 
--- src/lib.rt:64:1
 same-length : tie.Need-same-length
 same-length c = search needs
 
--- src/lib.rt:64:1
 returns-5 : tie.Need-returns-5
 returns-5 c K L =
     let t = c .before .before .before .before in
@@ -172,7 +139,7 @@ returns-5 c K L =
     (c .before .before .count-up .ensures
     ∙ ap₂ (λ f n. filled (λ i. pos (f + i)) n out) (first-is t) (size-is z)
     ∙ interval-out (st .args .g) (of st) out (fine (e .before .before) .origin))
-    (given-reply (interval-names (st .args .g) K L (lent (st .args .rs) (st .args .r .now))) out (none-early (e .before .before)) (none-own e)
+    (given-reply (interval-names (st .args .g) K L (lent (st .args .rs) (st .args .r .now))) out (fine (e .before .before) .none) (none-own e)
     (interval-rule (st .args .g) (of st) (omega (arith, size-is z, t .before .before .if3 .left)))
     (rw (interval-count (st .args .g) (of st)) (omega (arith, size-is z, t .before .if4 .left))))
 

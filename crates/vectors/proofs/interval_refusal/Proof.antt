@@ -13,10 +13,6 @@ use Rattle.answer.proofs.Lent.{Lent, lent-good}
 use Rattle.vectors.proofs.Counting.{ends, ends-is, interval-rank, interval-length, interval-domain, interval-none}
 use Rattle.vectors.proofs.interval_refusal.Statement.{statement}
 use Rattle.vectors.proofs.interval_refusal.Tie as tie
-use Rattle.vectors.proofs.interval_refusal.Reads as reads
-use Rattle.vectors.proofs.interval_refusal.Lts as lts
-use Rattle.shape.proofs.Shape.count.Reads as count-reads
-use Rattle.signed.proofs.negative.Reads as negative-reads
 
 -- R, and what is known of it.
 abbrev of : tie.Start → Array
@@ -41,37 +37,30 @@ sign c =
     c .negative .ensures
     ∙ ap negative (read32 (getD (st .args .r .now) 0 (pos 0)) (sfits-of (c .before .negative-arg .given)) ∙ sym (ends-is (st .args .rs) (st .args .r .now) (omega (arith, one e, g .whole))))
 
--- src/lib.rt:94:9
 returns : tie.Need-returns
 returns c G = let st = c .before .before in sym (interval-rank G (of st) (omega (arith, good st .rank-is)))
 
--- src/lib.rt:96:9
 count-requires : tie.Need-count-requires
 count-requires c κs = search needs
 
--- src/lib.rt:98:9
 returns-2 : tie.Need-returns-2
 returns-2 c G =
     let e = c .before .before in
     let g = good (e .before .before) in
     sym (interval-length G (of (e .before .before)) (list e) (λ h. c .if2 .taken (omega (arith, g .whole, g .count-is, c .before .count .ensures))))
 
--- src/lib.rt:100:25
 shared-slice-copy-out-negative : tie.Need-shared-slice-copy-out-negative
 shared-slice-copy-out-negative c = let g = good (c .before .before .before .before) in omega (arith, one c, g .whole, g .room)
 
--- src/lib.rt:100:8
 negative-requires : tie.Need-negative-requires
 negative-requires c κs = search needs
 
--- src/lib.rt:89:1
 returns-3 : tie.Need-returns-3
 returns-3 c G =
     let e = c .before .before .before in
     let st = e .before .before .before .before in
     sym (interval-domain G (of st) (list (e .before .before)) (one e) (sym (sign (c .before)) ∙ c .if3 .taken))
 
--- src/lib.rt:89:1
 returns-4 : tie.Need-returns-4
 returns-4 c G =
     let e = c .before .before .before in

@@ -10,9 +10,6 @@ use Rattle.signed.proofs.Reading.{read32}
 use Rattle.vectors.proofs.Every.{every-next, every-stop, every-end}
 use Rattle.vectors.proofs.none_negative.Statement.{statement}
 use Rattle.vectors.proofs.none_negative.Tie as tie
-use Rattle.vectors.proofs.none_negative.Reads as reads
-use Rattle.vectors.proofs.none_negative.Lts as lts
-use Rattle.signed.proofs.negative.Reads as negative-reads
 
 abbrev Inv-loop : tie.InvT-loop
 Inv-loop l n i₀ i = (i ≤ n) × (every (λ z. not (negative z)) l ≡ every (λ z. not (negative z)) (drop i l))
@@ -26,45 +23,36 @@ sign c =
     c .negative .ensures
     ∙ ap negative (read32 (getD (c .before .before .before .before .args .l .now) (c .before .before .before .loop .i) (pos 0)) (sfits-of (c .before .negative-arg .given)))
 
--- src/lib.rt:164:5
 loop-holds : tie.Need-loop-holds Inv-loop μ-loop
 loop-holds c = (omega arith, refl)
 
--- src/lib.rt:165:29
 mul-negative : tie.Need-mul-negative Inv-loop μ-loop
 mul-negative c = search needs
 
--- src/lib.rt:165:29
 shared-slice-copy-out-negative : tie.Need-shared-slice-copy-out-negative Inv-loop μ-loop
 shared-slice-copy-out-negative c = search needs
 
--- src/lib.rt:165:12
 negative-requires : tie.Need-negative-requires Inv-loop μ-loop
 negative-requires c κs = search needs
 
--- src/lib.rt:166:13
 returns : tie.Need-returns Inv-loop μ-loop
 returns c =
     let lp = c .before .before .before .before in
     let l = lp .before .args .l .now in
     sym (lp .loop .inv .1 ∙ every-stop (λ z. not (negative z)) l (lp .loop .i) (pos 0) (omega arith) (ap not (sym (sign (c .before)) ∙ c .if1 .taken)))
 
--- src/lib.rt:168:9
 add-i : tie.Need-add-i Inv-loop μ-loop
 add-i c = search needs
 
--- src/lib.rt:164:5
 loop-less : tie.Need-loop-less Inv-loop μ-loop
 loop-less c = search needs
 
--- src/lib.rt:164:5
 loop-again : tie.Need-loop-again Inv-loop μ-loop
 loop-again c =
     let lp = c .before .before .before .before in
     let l = lp .before .args .l .now in
     (omega arith, lp .loop .inv .1 ∙ every-next (λ z. not (negative z)) l (lp .loop .i) (pos 0) (omega arith) (ap not (sym (sign (c .before)) ∙ c .if1 .left)))
 
--- src/lib.rt:159:1
 returns-2 : tie.Need-returns-2 Inv-loop μ-loop
 returns-2 c =
     let lp = c .before in

@@ -1,18 +1,15 @@
 use Rattle.shape.specs.Shape.{maxRank}
 use Rattle.shape.proofs.Counts.{good-rank}
 use Rattle.vectors.proofs.Lengths.{length-small, whole-stored}
-use Prim.Native.Nat.{_+_, _-_, _≤_}
-use mathlib.Core.Path.{_≡_, refl, ap, _∙_}
+use Prim.Native.Nat.{_-_, _≤_}
+use mathlib.Core.Path.{_≡_, refl, _∙_}
 use lib.IntN.{pos}
-use lib.ListN.{length, getD, set, length-set}
+use lib.ListN.{length, getD, length-set}
 use Rattle.copying.proofs.Runs.{filled, filled-none, filled-one}
 use borrow.Author.Needs.{needs}
 use native.Mathlib.Omega.{arith}
 use Rattle.vectors.proofs.put_lengths.Statement.{statement}
 use Rattle.vectors.proofs.put_lengths.Tie as tie
-use Rattle.vectors.proofs.put_lengths.Reads as reads
-use Rattle.vectors.proofs.put_lengths.Lts as lts
-use Rattle.signed.proofs.whole.Reads as whole-reads
 
 abbrev Inv-loop : tie.InvT-loop
 Inv-loop out₀ s rank i₀ out i = (i ≤ rank) × ((length out ≡ length out₀) × (out ≡ filled (λ j. pos (getD (s .lens) j 0)) i out₀))
@@ -23,39 +20,30 @@ abbrev μ-loop : tie.MeasureT-loop
 rank-high : (st : tie.Start Inv-loop μ-loop) → st .args .t1 .rank ≤ maxRank
 rank-high st = good-rank (st .args .t1) (st .pre .0)
 
--- src/lib.rt:40:5
 loop-holds : tie.Need-loop-holds Inv-loop μ-loop
 loop-holds c = (omega arith, (refl, filled-none _ _))
 
--- src/lib.rt:41:32
 mul-whole : tie.Need-mul-whole Inv-loop μ-loop
 mul-whole c = search needs
 
--- src/lib.rt:41:32
 element-copy-out-whole : tie.Need-element-copy-out-whole Inv-loop μ-loop
 element-copy-out-whole c = let h = rank-high (c .before .before) in search needs
 
--- src/lib.rt:41:18
 whole-requires : tie.Need-whole-requires Inv-loop μ-loop
 whole-requires c κs = search needs
 
--- src/lib.rt:41:9
 mul-t12 : tie.Need-mul-t12 Inv-loop μ-loop
 mul-t12 c = search needs
 
--- src/lib.rt:41:9
 slice-set-from-out : tie.Need-slice-set-from-out Inv-loop μ-loop
 slice-set-from-out c = search needs
 
--- src/lib.rt:42:9
 add-i : tie.Need-add-i Inv-loop μ-loop
 add-i c = search needs
 
--- src/lib.rt:40:5
 loop-less : tie.Need-loop-less Inv-loop μ-loop
 loop-less c = search needs
 
--- src/lib.rt:40:5
 loop-again : tie.Need-loop-again Inv-loop μ-loop
 loop-again c =
     let st = c .before .before .before .before in
@@ -68,11 +56,9 @@ loop-again c =
       (simp length-set (lp .inv .1 .0), rw (lp .inv .1 .1) (filled-one _ (pos 0) _ (lp .i) (st .args .out .now) (omega arith) e)),
     )
 
--- src/lib.rt:34:1
 same-length : tie.Need-same-length Inv-loop μ-loop
 same-length c = search needs
 
--- src/lib.rt:34:1
 returns : tie.Need-returns Inv-loop μ-loop
 returns c =
     let e : c .before .loop .i ≡ c .before .before .args .t1 .rank = omega arith in

@@ -7,91 +7,68 @@ use Rattle.shape.specs.Shape.{maxRank}
 use Rattle.meaning.specs.Array.{arrayOf, goodForm}
 use Rattle.meaning.specs.Primitives.{ravel}
 use Rattle.answer.specs.Answer.{lent, early}
-use Rattle.answer.proofs.Order.{early-reply, own-reply, space-reply, given-reply, replied-refused, replied-given}
-use Rattle.answer.proofs.Lent.{Lent, lent-good, early-fine}
+use Rattle.answer.proofs.Order.{early-reply, space-reply, given-reply, replied-refused, replied-given}
+use Rattle.answer.proofs.Lent.{FineOne, fine-one}
 use Rattle.vectors.proofs.Ravelling.{ravel-names, ravel-count, ravel-rule, ravel-none, ravel-out, ravel-shape}
 use Rattle.vectors.proofs.ravel.Statement.{statement}
 use Rattle.vectors.proofs.ravel.Tie as tie
-use Rattle.vectors.proofs.ravel.Reads as reads
-use Rattle.vectors.proofs.ravel.Lts as lts
-use Rattle.answer.proofs.Answer.refused.Reads as refused-reads
-use Rattle.answer.proofs.early_one.Reads as early-one-reads
-use Rattle.copying.proofs.copy_run.Reads as copy-run-reads
-use Rattle.shape.proofs.Shape.count.Reads as count-reads
-use Rattle.shape.proofs.Shape.vector.Reads as vector-reads
 
 -- FORM and ORIGIN, and what is known of R where neither was met.
 early-is : (c : tie.After-early-one) → c .early-one .result ≡ early (goodForm (lent (c .before .args .rs) (c .before .args .r .now))) (c .before .args .g)
 early-is c = c .early-one .ensures ∙ ap (early _) (read32 _ (c .before .fits .g))
 
-fine : (c : tie.Else1) → early (goodForm (lent (c .before .before .args .rs) (c .before .before .args .r .now))) (c .before .before .args .g) ≡ 0
-fine c = sym (early-is (c .before)) ∙ c .if1 .left
+fine : (c : tie.Else1) → FineOne (c .before .before .args .g) (c .before .before .args .rs) (c .before .before .args .r .now)
+fine c =
+    let st = c .before .before in
+    let long : length (st .args .rs .lens) ≡ maxRank = search needs in
+    fine-one (st .args .g) (st .args .rs) (st .args .r .now) long (sym (early-is (c .before)) ∙ c .if1 .left)
 
-good : (c : tie.Else1) → Lent (c .before .before .args .rs) (c .before .before .args .r .now)
-good c =
-    let s = c .before .before .args .rs in
-    let long : length (s .lens) ≡ maxRank = search needs in
-    lent-good s (c .before .before .args .r .now) long (early-fine (c .before .before .args .g) _ (fine c) .forms)
-
--- src/lib.rt:15:9
 early-one-requires : tie.Need-early-one-requires
 early-one-requires c κs = search needs
 
--- src/lib.rt:17:9
 refused-requires : tie.Need-refused-requires
 refused-requires c κs = search needs
 
--- src/lib.rt:17:9
 returns : tie.Need-returns
 returns c K L =
     let st = c .before .before .before in
     replied-refused (c .refused .result) _ (st .args .out .now) (c .refused .ensures)
     (early-reply (ravel-names (st .args .g) K L (lent (st .args .rs) (st .args .r .now))) (st .args .out .now) _ (early-is (c .before .before)) (c .before .if1 .taken))
 
--- src/lib.rt:19:9
 count-requires : tie.Need-count-requires
 count-requires c κs = search needs
 
--- src/lib.rt:21:9
 refused-requires-2 : tie.Need-refused-requires-2
 refused-requires-2 c κs = search needs
 
--- src/lib.rt:21:9
 returns-2 : tie.Need-returns-2
 returns-2 c K L =
     let st = c .before .before .before .before .before in
-    let g = good (c .before .before .before) in
+    let g = fine (c .before .before .before) .operand in
     let a = arrayOf (lent (st .args .rs) (st .args .r .now)) in
     replied-refused (c .refused2 .result) 10 (st .args .out .now) (c .refused2 .ensures)
-    (space-reply (ravel-names (st .args .g) K L (lent (st .args .rs) (st .args .r .now))) (st .args .out .now) (fine (c .before .before .before)) (ravel-none a)
+    (space-reply (ravel-names (st .args .g) K L (lent (st .args .rs) (st .args .r .now))) (st .args .out .now) (fine (c .before .before .before) .none) (ravel-none a)
     (ravel-rule a (omega (arith, g .whole, g .count-small)))
     (rw (ravel-count a) (omega (arith, g .whole, g .count-is, c .before .before .count .ensures))))
 
--- src/lib.rt:23:23
 sub-copy-run : tie.Need-sub-copy-run
 sub-copy-run c = search needs
 
--- src/lib.rt:23:23
 part-copy-run-start : tie.Need-part-copy-run-start
 part-copy-run-start c = search needs
 
--- src/lib.rt:23:23
 part-copy-run-end : tie.Need-part-copy-run-end
-part-copy-run-end c = let g = good (c .before .before) in omega (arith, g .room, g .count-is, c .before .count .ensures)
+part-copy-run-end c = let g = fine (c .before .before) .operand in omega (arith, g .room, g .count-is, c .before .count .ensures)
 
--- src/lib.rt:23:5
 copy-run-requires : tie.Need-copy-run-requires
 copy-run-requires c κs = search needs
 
--- src/lib.rt:24:9
 vector-requires : tie.Need-vector-requires
 vector-requires c κs = search needs
 
--- src/lib.rt:10:1
 same-length : tie.Need-same-length
 same-length c = search needs
 
--- src/lib.rt:10:1
 returns-3 : tie.Need-returns-3
 returns-3 c K L =
     let st = c .before .before .before .before .before .before .before .before .before in
@@ -99,12 +76,12 @@ returns-3 c K L =
     let s = st .args .rs in
     let r = st .args .r .now in
     let out = st .args .out .now in
-    let g = good e in
+    let g = fine e .operand in
     let a = arrayOf (lent s r) in
     let n = c .before .before .before .before .before .before .count .ensures in
     replied-given _ (ravel a) out _ (ap (λ z. record { number = 0; shape = z }) (c .vector .ensures ∙ ravel-shape s r g _ n))
     (ravel-out s r out g _ n (omega arith) _ (c .before .before .copy-run .ensures))
-    (given-reply (ravel-names (st .args .g) K L (lent s r)) out (fine e) (ravel-none a) (ravel-rule a (omega (arith, g .whole, g .count-small)))
+    (given-reply (ravel-names (st .args .g) K L (lent s r)) out (fine e .none) (ravel-none a) (ravel-rule a (omega (arith, g .whole, g .count-small)))
     (rw (ravel-count a) (omega (arith, g .whole, g .count-is, n))))
 
 pub ravel-spec : {M : Type 1} → statement M

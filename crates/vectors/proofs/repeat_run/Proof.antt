@@ -7,49 +7,34 @@ use Rattle.vectors.proofs.Cycling.{few-put}
 use borrow.Author.Needs.{needs, sfits-of}
 use Rattle.vectors.proofs.repeat_run.Statement.{statement}
 use Rattle.vectors.proofs.repeat_run.Tie as tie
-use Rattle.vectors.proofs.repeat_run.Reads as reads
-use Rattle.vectors.proofs.repeat_run.Lts as lts
-use Rattle.copying.proofs.fill_run.Reads as fill-run-reads
-use Rattle.vectors.proofs.cycle_run.Reads as cycle-run-reads
-use Rattle.vectors.proofs.first_element.Reads as first-element-reads
 
--- src/lib.rt:194:9
 cycle-run-requires : tie.Need-cycle-run-requires
 cycle-run-requires c κs = search needs
 
--- src/lib.rt:195:9
 same-length : tie.Need-same-length
 same-length c = search needs
 
--- src/lib.rt:195:9
 returns : tie.Need-returns
 returns c = search needs
 
--- src/lib.rt:197:9
 first-element-requires : tie.Need-first-element-requires
 first-element-requires c κs = search needs
 
--- src/lib.rt:198:26
 sub-fill-run : tie.Need-sub-fill-run
 sub-fill-run c = search needs
 
--- src/lib.rt:198:26
 part-fill-run-start : tie.Need-part-fill-run-start
 part-fill-run-start c = search needs
 
--- src/lib.rt:198:26
 part-fill-run-end : tie.Need-part-fill-run-end
 part-fill-run-end c = search needs
 
--- src/lib.rt:198:5
 fill-run-requires : tie.Need-fill-run-requires
 fill-run-requires c κs = search needs
 
--- src/lib.rt:189:1
 same-length-2 : tie.Need-same-length-2
 same-length-2 c = search needs
 
--- src/lib.rt:189:1
 returns-2 : tie.Need-returns-2
 returns-2 c =
     let st = c .before .before .before .before .before in

@@ -1,5 +1,5 @@
 use borrow.Author.Needs.{needs}
-use Prim.Native.Nat.{ℕ, _≤_, _<_}
+use Prim.Native.Nat.{ℕ, _≤_}
 use native.Mathlib.Omega.{arith}
 use mathlib.Core.Path.{_≡_, sym, ap, ap₂, _∙_}
 use mathlib.Core.Bool.{true, false, _&&_}
@@ -8,26 +8,17 @@ use lib.IntN.{natAbs}
 use lib.ListN.{length, length-map}
 use Rattle.signed.proofs.Reading.{read32}
 use Rattle.shape.specs.Shape.{maxRank, maxCount, countOf, count, shapeOf, shapeRule}
-use Rattle.shape.proofs.Bools.{both}
 use Rattle.meaning.specs.Array.{Operand, arrayOf, goodForm}
 use Rattle.meaning.specs.Primitives.{reshape}
 use Rattle.copying.proofs.Runs.{filled}
 use Rattle.answer.specs.Answer.{lent, early, own}
 use Rattle.answer.proofs.Order.{early-reply, own-reply, limit-reply, space-reply, given-reply, replied-refused, replied-given}
-use Rattle.answer.proofs.Lent.{Lent, lent-good, lent-part, Fine, early-fine}
+use Rattle.answer.proofs.Lent.{lent-part, FineTwo, fine-two}
 use Rattle.vectors.specs.Cycle.{cycled}
 use Rattle.vectors.proofs.Made.{made-rule, made-no-rule, made-count, many-no-rule}
 use Rattle.vectors.proofs.Reshaping.{reshape-names, reshape-lengths, reshape-limit, reshape-count, reshape-out}
 use Rattle.vectors.proofs.reshape.Statement.{statement}
 use Rattle.vectors.proofs.reshape.Tie as tie
-use Rattle.vectors.proofs.reshape.Reads as reads
-use Rattle.vectors.proofs.reshape.Lts as lts
-use Rattle.answer.proofs.Answer.refused.Reads as refused-reads
-use Rattle.answer.proofs.early_two.Reads as early-two-reads
-use Rattle.shape.proofs.Shape.count.Reads as count-reads
-use Rattle.vectors.proofs.repeat_run.Reads as repeat-run-reads
-use Rattle.vectors.proofs.reshape_refusal.Reads as reshape-refusal-reads
-use Rattle.vectors.proofs.shape_from.Reads as shape-from-reads
 
 -- The operands, and the lengths that L asks for.
 abbrev left : tie.Start → Operand
@@ -43,21 +34,12 @@ asked st = map natAbs (arrayOf (left st) .elements)
 early-is : (c : tie.After-early-two) → c .early-two .result ≡ early (goodForm (left (c .before)) && goodForm (right (c .before))) (c .before .args .g)
 early-is c = c .early-two .ensures ∙ ap (early _) (read32 _ (c .before .fits .g))
 
-none-early : (c : tie.Else1) → early (goodForm (left (c .before .before)) && goodForm (right (c .before .before))) (c .before .before .args .g) ≡ 0
-none-early c = sym (early-is (c .before)) ∙ c .if1 .left
-
-forms : (c : tie.Else1) → (goodForm (left (c .before .before)) ≡ true) × (goodForm (right (c .before .before)) ≡ true)
-forms c = both _ _ (early-fine (c .before .before .args .g) _ (none-early c) .forms)
-
-good-left : (c : tie.Else1) → Lent (c .before .before .args .ls) (c .before .before .args .l .now)
-good-left c =
-    let long : length (c .before .before .args .ls .lens) ≡ maxRank = search needs in
-    lent-good (c .before .before .args .ls) (c .before .before .args .l .now) long (forms c .0)
-
-good-right : (c : tie.Else1) → Lent (c .before .before .args .rs) (c .before .before .args .r .now)
-good-right c =
-    let long : length (c .before .before .args .rs .lens) ≡ maxRank = search needs in
-    lent-good (c .before .before .args .rs) (c .before .before .args .r .now) long (forms c .1)
+fine : (c : tie.Else1) → FineTwo (c .before .before .args .g) (c .before .before .args .ls) (c .before .before .args .l .now) (c .before .before .args .rs) (c .before .before .args .r .now)
+fine c =
+    let st = c .before .before in
+    let a : length (st .args .ls .lens) ≡ maxRank = search needs in
+    let b : length (st .args .rs .lens) ≡ maxRank = search needs in
+    fine-two (st .args .g) (st .args .ls) (st .args .l .now) (st .args .rs) (st .args .r .now) a b (sym (early-is (c .before)) ∙ c .if1 .left)
 
 -- RANK and DOMAIN were not met.
 none-own : (c : tie.Else2) → own 21 (reshape (arrayOf (left (c .before .before .before .before))) (arrayOf (right (c .before .before .before .before))) .refusals) ≡ 0
@@ -67,7 +49,7 @@ none-own c = sym (c .before .reshape-refusal .ensures _) ∙ c .if2 .left
 many : (c : tie.After-count) → length (asked (c .before .before .before .before .before)) ≡ c .count .result
 many c =
     let e = c .before .before .before in
-    let g = good-left e in
+    let g = fine e .left in
     length-map (arrayOf (left (e .before .before)) .elements) natAbs ∙ g .whole ∙ sym (g .count-is) ∙ sym (c .count .ensures)
 
 -- The shape is that of the lengths asked for, and its count is held at the limit.
@@ -75,7 +57,7 @@ shape-is : (c : tie.After-shape-from) → c .shape-from .result ≡ shapeOf (ask
 shape-is c =
     let n = c .before .before .before in
     let e = n .before .before .before in
-    c .shape-from .ensures ∙ ap (λ x. shapeOf (map natAbs x)) (lent-part (e .before .before .args .ls) (e .before .before .args .l .now) (good-left e) _ (n .count .ensures))
+    c .shape-from .ensures ∙ ap (λ x. shapeOf (map natAbs x)) (lent-part (e .before .before .args .ls) (e .before .before .args .l .now) (fine e .left) _ (n .count .ensures))
 
 total-is : (c : tie.After-count2) → c .count2 .result ≡ countOf (shapeOf (asked (c .before .before .before .before .before .before .before .before .before)))
 total-is c = c .count2 .ensures ∙ ap countOf (shape-is (c .before))
@@ -94,80 +76,64 @@ module _ (c : tie.Else4) where
   rule : shapeRule (length (reshape (arrayOf (left st)) (arrayOf (right st)) .lengths)) (reshape (arrayOf (left st)) (arrayOf (right st)) .lengths) ≡ true
   rule = reshape-limit (arrayOf (left st)) (arrayOf (right st)) true (made-rule (asked st) held)
 
--- src/lib.rt:122:9
 early-two-requires : tie.Need-early-two-requires
 early-two-requires c κs = search needs
 
--- src/lib.rt:124:9
 refused-requires : tie.Need-refused-requires
 refused-requires c κs = search needs
 
--- src/lib.rt:124:9
 returns : tie.Need-returns
 returns c K =
     let st = c .before .before .before in
     replied-refused (c .refused .result) _ (st .args .out .now) (c .refused .ensures)
     (early-reply (reshape-names (st .args .g) K (left st) (right st)) (st .args .out .now) _ (early-is (c .before .before)) (c .before .if1 .taken))
 
--- src/lib.rt:126:9
 reshape-refusal-requires : tie.Need-reshape-refusal-requires
-reshape-refusal-requires c κs = forms c .0
+reshape-refusal-requires c κs = fine c .left .form
 
--- src/lib.rt:128:9
 refused-requires-2 : tie.Need-refused-requires-2
 refused-requires-2 c κs = search needs
 
--- src/lib.rt:128:9
 returns-2 : tie.Need-returns-2
 returns-2 c K =
     let e = c .before .before .before in
     let st = e .before .before in
     replied-refused (c .refused2 .result) _ (st .args .out .now) (c .refused2 .ensures)
-    (own-reply (reshape-names (st .args .g) K (left st) (right st)) (st .args .out .now) (none-early e) _ (c .before .before .reshape-refusal .ensures _) (c .before .if2 .taken))
+    (own-reply (reshape-names (st .args .g) K (left st) (right st)) (st .args .out .now) (fine e .none) _ (c .before .before .reshape-refusal .ensures _) (c .before .if2 .taken))
 
--- src/lib.rt:130:9
 count-requires : tie.Need-count-requires
 count-requires c κs = search needs
 
--- src/lib.rt:132:9
 refused-requires-3 : tie.Need-refused-requires-3
 refused-requires-3 c κs = search needs
 
--- src/lib.rt:132:9
 returns-3 : tie.Need-returns-3
 returns-3 c K =
     let n = c .before .before in
     let e = n .before .before .before in
     let st = e .before .before in
     replied-refused (c .refused3 .result) 9 (st .args .out .now) (c .refused3 .ensures)
-    (limit-reply (reshape-names (st .args .g) K (left st) (right st)) (st .args .out .now) (none-early e) (none-own (n .before))
+    (limit-reply (reshape-names (st .args .g) K (left st) (right st)) (st .args .out .now) (fine e .none) (none-own (n .before))
     (reshape-limit (arrayOf (left st)) (arrayOf (right st)) false (many-no-rule (asked st) (omega (arith, many n, c .before .if3 .taken)))))
 
--- src/lib.rt:134:28
 sub-shape-from : tie.Need-sub-shape-from
 sub-shape-from c = search needs
 
--- src/lib.rt:134:28
 part-shape-from-start : tie.Need-part-shape-from-start
 part-shape-from-start c = search needs
 
--- src/lib.rt:134:28
 part-shape-from-end : tie.Need-part-shape-from-end
-part-shape-from-end c = let g = good-left (c .before .before .before .before) in omega (arith, g .room, g .count-is, c .before .count .ensures)
+part-shape-from-end c = let g = fine (c .before .before .before .before) .left in omega (arith, g .room, g .count-is, c .before .count .ensures)
 
--- src/lib.rt:134:9
 shape-from-requires : tie.Need-shape-from-requires
 shape-from-requires c κs = search needs
 
--- src/lib.rt:135:9
 count-requires-2 : tie.Need-count-requires-2
 count-requires-2 c κs = search needs
 
--- src/lib.rt:137:9
 refused-requires-4 : tie.Need-refused-requires-4
 refused-requires-4 c κs = search needs
 
--- src/lib.rt:137:9
 returns-4 : tie.Need-returns-4
 returns-4 c K =
     let t = c .before .before in
@@ -175,14 +141,12 @@ returns-4 c K =
     let e = n .before .before .before in
     let st = e .before .before in
     replied-refused (c .refused4 .result) 9 (st .args .out .now) (c .refused4 .ensures)
-    (limit-reply (reshape-names (st .args .g) K (left st) (right st)) (st .args .out .now) (none-early e) (none-own (n .before))
+    (limit-reply (reshape-names (st .args .g) K (left st) (right st)) (st .args .out .now) (fine e .none) (none-own (n .before))
     (reshape-limit (arrayOf (left st)) (arrayOf (right st)) false (made-no-rule (asked st) (omega (arith, total-is t, c .before .if4 .taken)))))
 
--- src/lib.rt:140:9
 refused-requires-5 : tie.Need-refused-requires-5
 refused-requires-5 c κs = search needs
 
--- src/lib.rt:140:9
 returns-5 : tie.Need-returns-5
 returns-5 c K =
     let t = c .before .before in
@@ -190,34 +154,27 @@ returns-5 c K =
     let e = n .before .before .before in
     let st = e .before .before in
     replied-refused (c .refused5 .result) 10 (st .args .out .now) (c .refused5 .ensures)
-    (space-reply (reshape-names (st .args .g) K (left st) (right st)) (st .args .out .now) (none-early e) (none-own (n .before)) (rule t)
+    (space-reply (reshape-names (st .args .g) K (left st) (right st)) (st .args .out .now) (fine e .none) (none-own (n .before)) (rule t)
     (rw (reshape-count (arrayOf (left st)) (arrayOf (right st))) (omega (arith, total t, c .before .if5 .taken))))
 
--- src/lib.rt:142:9
 count-requires-3 : tie.Need-count-requires-3
 count-requires-3 c κs = search needs
 
--- src/lib.rt:143:16
 sub-repeat-run : tie.Need-sub-repeat-run
 sub-repeat-run c = search needs
 
--- src/lib.rt:143:16
 part-repeat-run-start : tie.Need-part-repeat-run-start
 part-repeat-run-start c = search needs
 
--- src/lib.rt:143:16
 part-repeat-run-end : tie.Need-part-repeat-run-end
-part-repeat-run-end c = let g = good-right (c .before .before .before .before .before .before .before .before .before .before) in omega (arith, g .room, g .count-is, c .count3 .ensures)
+part-repeat-run-end c = let g = fine (c .before .before .before .before .before .before .before .before .before .before) .right in omega (arith, g .room, g .count-is, c .count3 .ensures)
 
--- src/lib.rt:143:5
 repeat-run-requires : tie.Need-repeat-run-requires
 repeat-run-requires c κs = search needs
 
--- src/lib.rt:119:1
 same-length : tie.Need-same-length
 same-length c = search needs
 
--- src/lib.rt:119:1
 returns-6 : tie.Need-returns-6
 returns-6 c K =
     let m = c .before .before .before .before in
@@ -231,9 +188,9 @@ returns-6 c K =
     replied-given _ (reshape l r) out _
     (ap (λ z. record { number = 0; shape = z }) (shape-is (t .before .before) ∙ ap shapeOf (sym (reshape-lengths l r))))
     (c .before .repeat-run .ensures
-    ∙ ap₂ (λ xs k. filled (cycled xs) k out) (lent-part (st .args .rs) (st .args .r .now) (good-right e) _ (m .count3 .ensures)) (total t)
+    ∙ ap₂ (λ xs k. filled (cycled xs) k out) (lent-part (st .args .rs) (st .args .r .now) (fine e .right) _ (m .count3 .ensures)) (total t)
     ∙ reshape-out l r out)
-    (given-reply (reshape-names (st .args .g) K (left st) (right st)) out (none-early e) (none-own (n .before)) (rule t)
+    (given-reply (reshape-names (st .args .g) K (left st) (right st)) out (fine e .none) (none-own (n .before)) (rule t)
     (rw (reshape-count l r) (omega (arith, total t, m .before .if5 .left))))
 
 pub reshape-spec : {M : Type 1} → statement M

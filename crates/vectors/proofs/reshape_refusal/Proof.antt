@@ -12,10 +12,6 @@ use Rattle.answer.proofs.Lent.{Lent, lent-good, lent-part}
 use Rattle.vectors.proofs.Reshaping.{reshape-rank, reshape-domain, reshape-none}
 use Rattle.vectors.proofs.reshape_refusal.Statement.{statement}
 use Rattle.vectors.proofs.reshape_refusal.Tie as tie
-use Rattle.vectors.proofs.reshape_refusal.Reads as reads
-use Rattle.vectors.proofs.reshape_refusal.Lts as lts
-use Rattle.shape.proofs.Shape.count.Reads as count-reads
-use Rattle.vectors.proofs.none_negative.Reads as none-negative-reads
 
 -- L, and what is known of it.
 abbrev of : tie.Start → Array
@@ -35,37 +31,29 @@ test c =
     let st = n .before .before .before in
     c .none-negative .ensures ∙ ap (every (λ z. not (negative z))) (lent-part (st .args .ls) (st .args .l .now) (good st) _ (n .count .ensures))
 
--- src/lib.rt:153:9
 returns : tie.Need-returns
 returns c R = let st = c .before .before in sym (reshape-rank (of st) R (omega (arith, good st .rank-is)))
 
--- src/lib.rt:155:9
 count-requires : tie.Need-count-requires
 count-requires c κs = search needs
 
--- src/lib.rt:156:22
 sub-none-negative : tie.Need-sub-none-negative
 sub-none-negative c = search needs
 
--- src/lib.rt:156:22
 part-none-negative-start : tie.Need-part-none-negative-start
 part-none-negative-start c = search needs
 
--- src/lib.rt:156:22
 part-none-negative-end : tie.Need-part-none-negative-end
 part-none-negative-end c = let g = good (c .before .before .before) in omega (arith, g .room, g .count-is, c .count .ensures)
 
--- src/lib.rt:156:8
 none-negative-requires : tie.Need-none-negative-requires
 none-negative-requires c κs = search needs
 
--- src/lib.rt:148:1
 returns-2 : tie.Need-returns-2
 returns-2 c R =
     let e = c .before .before .before .before in
     sym (reshape-none (of (e .before .before)) R (list e) (sym (test (c .before)) ∙ c .if2 .taken))
 
--- src/lib.rt:148:1
 returns-3 : tie.Need-returns-3
 returns-3 c R =
     let e = c .before .before .before .before in

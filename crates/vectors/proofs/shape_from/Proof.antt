@@ -11,9 +11,6 @@ use Rattle.signed.proofs.Reading.{read32}
 use Rattle.vectors.proofs.Made.{made-of}
 use Rattle.vectors.proofs.shape_from.Statement.{statement}
 use Rattle.vectors.proofs.shape_from.Tie as tie
-use Rattle.vectors.proofs.shape_from.Reads as reads
-use Rattle.vectors.proofs.shape_from.Lts as lts
-use Rattle.signed.proofs.size.Reads as size-reads
 
 abbrev Inv-loop : tie.InvT-loop
 Inv-loop l n lens₀ i₀ lens i = (i ≤ n) × (lens ≡ take i (map natAbs l) ++ replicate (maxRank - i) 0)
@@ -21,39 +18,30 @@ Inv-loop l n lens₀ i₀ lens i = (i ≤ n) × (lens ≡ take i (map natAbs l) 
 abbrev μ-loop : tie.MeasureT-loop
 μ-loop l n lens₀ i₀ lens i = n - i
 
--- src/lib.rt:181:5
 loop-holds : tie.Need-loop-holds Inv-loop μ-loop
 loop-holds c = (omega arith, refl)
 
--- src/lib.rt:182:32
 mul-size : tie.Need-mul-size Inv-loop μ-loop
 mul-size c = search needs
 
--- src/lib.rt:182:32
 shared-slice-copy-out-size : tie.Need-shared-slice-copy-out-size Inv-loop μ-loop
 shared-slice-copy-out-size c = search needs
 
--- src/lib.rt:182:19
 size-requires : tie.Need-size-requires Inv-loop μ-loop
 size-requires c κs = search needs
 
--- src/lib.rt:182:9
 mul-lens : tie.Need-mul-lens Inv-loop μ-loop
 mul-lens c = search needs
 
--- src/lib.rt:182:9
 array-write-lens : tie.Need-array-write-lens Inv-loop μ-loop
 array-write-lens c = search needs
 
--- src/lib.rt:183:9
 add-i : tie.Need-add-i Inv-loop μ-loop
 add-i c = search needs
 
--- src/lib.rt:181:5
 loop-less : tie.Need-loop-less Inv-loop μ-loop
 loop-less c = search needs
 
--- src/lib.rt:181:5
 loop-again : tie.Need-loop-again Inv-loop μ-loop
 loop-again c =
     let lp = c .before .before .before in
@@ -62,7 +50,6 @@ loop-again c =
     c .size .ensures ∙ ap natAbs (read32 (getD l (lp .loop .i) (pos 0)) (sfits-of (c .before .size-arg .given))) ∙ sym (List·getD-map natAbs l (lp .loop .i) (pos 0)) in
     (omega arith, rw (lp .loop .inv .1, size) (padded-more (map natAbs l) maxRank (lp .loop .i) (omega (arith, length-map l natAbs)) (omega arith)))
 
--- src/lib.rt:174:1
 returns : tie.Need-returns Inv-loop μ-loop
 returns c =
     let lp = c .before in

@@ -8,50 +8,36 @@ use Rattle.meaning.specs.Array.{arrayOf, goodForm}
 use Rattle.meaning.specs.Primitives.{lengthsOf}
 use Rattle.answer.specs.Answer.{lent, early}
 use Rattle.answer.proofs.Order.{early-reply, space-reply, given-reply, replied-refused, replied-given}
-use Rattle.answer.proofs.Lent.{Lent, lent-good, early-fine}
+use Rattle.answer.proofs.Lent.{FineOne, fine-one}
 use Rattle.vectors.proofs.Lengths.{shape-names, shape-none, shape-rule, shape-count, shape-shape, shape-out}
 use Rattle.vectors.proofs.shape_of.Statement.{statement}
 use Rattle.vectors.proofs.shape_of.Tie as tie
-use Rattle.vectors.proofs.shape_of.Reads as reads
-use Rattle.vectors.proofs.shape_of.Lts as lts
-use Rattle.answer.proofs.Answer.refused.Reads as refused-reads
-use Rattle.answer.proofs.early_one.Reads as early-one-reads
-use Rattle.shape.proofs.Shape.vector.Reads as vector-reads
-use Rattle.vectors.proofs.put_lengths.Reads as put-lengths-reads
 
 -- FORM and ORIGIN, and what is known of R where neither was met.
 early-is : (c : tie.After-early-one) → c .early-one .result ≡ early (goodForm (lent (c .before .args .rs) (c .before .args .r .now))) (c .before .args .g)
 early-is c = c .early-one .ensures ∙ ap (early _) (read32 _ (c .before .fits .g))
 
-fine : (c : tie.Else1) → early (goodForm (lent (c .before .before .args .rs) (c .before .before .args .r .now))) (c .before .before .args .g) ≡ 0
-fine c = sym (early-is (c .before)) ∙ c .if1 .left
+fine : (c : tie.Else1) → FineOne (c .before .before .args .g) (c .before .before .args .rs) (c .before .before .args .r .now)
+fine c =
+    let st = c .before .before in
+    let long : length (st .args .rs .lens) ≡ maxRank = search needs in
+    fine-one (st .args .g) (st .args .rs) (st .args .r .now) long (sym (early-is (c .before)) ∙ c .if1 .left)
 
-good : (c : tie.Else1) → Lent (c .before .before .args .rs) (c .before .before .args .r .now)
-good c =
-    let s = c .before .before .args .rs in
-    let long : length (s .lens) ≡ maxRank = search needs in
-    lent-good s (c .before .before .args .r .now) long (early-fine (c .before .before .args .g) _ (fine c) .forms)
-
--- src/lib.rt:20:9
 early-one-requires : tie.Need-early-one-requires
 early-one-requires c κs = search needs
 
--- src/lib.rt:22:9
 refused-requires : tie.Need-refused-requires
 refused-requires c κs = search needs
 
--- src/lib.rt:22:9
 returns : tie.Need-returns
 returns c K L =
     let st = c .before .before .before in
     replied-refused (c .refused .result) _ (st .args .out .now) (c .refused .ensures)
     (early-reply (shape-names (st .args .g) K L (lent (st .args .rs) (st .args .r .now))) (st .args .out .now) _ (early-is (c .before .before)) (c .before .if1 .taken))
 
--- src/lib.rt:26:9
 refused-requires-2 : tie.Need-refused-requires-2
 refused-requires-2 c κs = search needs
 
--- src/lib.rt:26:9
 returns-2 : tie.Need-returns-2
 returns-2 c K L =
     let e = c .before .before in
@@ -59,22 +45,18 @@ returns-2 c K L =
     let s = st .args .rs in
     let r = st .args .r .now in
     replied-refused (c .refused2 .result) 10 (st .args .out .now) (c .refused2 .ensures)
-    (space-reply (shape-names (st .args .g) K L (lent s r)) (st .args .out .now) (fine e) (shape-none (arrayOf (lent s r))) (shape-rule s r (good e))
-    (rw (shape-count s r (good e)) (omega arith)))
+    (space-reply (shape-names (st .args .g) K L (lent s r)) (st .args .out .now) (fine e .none) (shape-none (arrayOf (lent s r))) (shape-rule s r (fine e .operand))
+    (rw (shape-count s r (fine e .operand)) (omega arith)))
 
--- src/lib.rt:28:5
 put-lengths-requires : tie.Need-put-lengths-requires
-put-lengths-requires c κs = (good (c .before .before) .good, omega arith)
+put-lengths-requires c κs = (fine (c .before .before) .operand .good, omega arith)
 
--- src/lib.rt:29:9
 vector-requires : tie.Need-vector-requires
 vector-requires c κs = search needs
 
--- src/lib.rt:17:1
 same-length : tie.Need-same-length
 same-length c = search needs
 
--- src/lib.rt:17:1
 returns-3 : tie.Need-returns-3
 returns-3 c K L =
     let e = c .before .before .before .before .before in
@@ -82,10 +64,10 @@ returns-3 c K L =
     let s = st .args .rs in
     let r = st .args .r .now in
     let out = st .args .out .now in
-    replied-given _ (lengthsOf (arrayOf (lent s r))) out _ (ap (λ z. record { number = 0; shape = z }) (c .vector .ensures ∙ shape-shape s r (good e)))
-    (c .before .before .put-lengths .ensures ∙ shape-out s r (good e) out)
-    (given-reply (shape-names (st .args .g) K L (lent s r)) out (fine e) (shape-none (arrayOf (lent s r))) (shape-rule s r (good e))
-    (rw (shape-count s r (good e)) (omega arith)))
+    replied-given _ (lengthsOf (arrayOf (lent s r))) out _ (ap (λ z. record { number = 0; shape = z }) (c .vector .ensures ∙ shape-shape s r (fine e .operand)))
+    (c .before .before .put-lengths .ensures ∙ shape-out s r (fine e .operand) out)
+    (given-reply (shape-names (st .args .g) K L (lent s r)) out (fine e .none) (shape-none (arrayOf (lent s r))) (shape-rule s r (fine e .operand))
+    (rw (shape-count s r (fine e .operand)) (omega arith)))
 
 pub shape-of-spec : {M : Type 1} → statement M
 shape-of-spec =
