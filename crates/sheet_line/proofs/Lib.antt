@@ -1,0 +1,4 @@
+pub mod Options
+pub mod Digits
+pub mod Scan
+pub mod Round

@@ -1,0 +1,1 @@
+// One line of a sheet: reading a call, printing a reply.
