@@ -2,3 +2,5 @@ pub mod Options
 pub mod Digits
 pub mod Scan
 pub mod Round
+pub mod Sizes
+pub mod Cursor

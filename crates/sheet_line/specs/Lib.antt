@@ -1,3 +1,4 @@
 pub mod Text
 pub mod Numbers
 pub mod Call
+pub mod Steps

@@ -1,0 +1,154 @@
+-- Reading at a place of a line.
+use Prim.Native.Nat.{ℕ, zero, suc, _+_, _*_, _-_, _≤_, _<_, _^_}
+use native.Mathlib.Omega.{arith}
+use native.Mathlib.Numerals.{add-one}
+use mathlib.Core.Path.{_≡_, refl, sym, ap, _∙_}
+use mathlib.Core.List.{List, [], _∷_, _++_}
+use mathlib.Core.Option.{Option, none, some}
+use mathlib.Core.Bool.{Bool, true, false, cond, _&&_}
+use lib.Dec.{eqb, leb}
+use lib.ListN.{length, getD, drop, drop-of-length-le}
+use lib.Seq.{drop-cons}
+use lib.IntN.{ℤ, pos, negsuc}
+use borrow.Author.Tests.{le-leb, lt-leb, ne-eqb, eq-eqb, eqb-true, eqb-false}
+use Rattle.sheet_line.specs.Text as Text
+use Rattle.sheet_line.specs.Numbers.{andThen, Begun, nothing, minus, size, digitOf, first, more, ended, scan, numbers}
+use Rattle.sheet_line.specs.Call.{number}
+use Rattle.sheet_line.specs.Steps.{left, got, numberOf}
+use Rattle.sheet_line.proofs.Sizes.{size-over}
+use Rattle.sheet_line.proofs.Scan.{scan-on, scan-blank, sign}
+
+-- A test of a digit's value, and the digit.
+module _ (b r : ℕ) (e : digitOf b ≡ cond (leb r 9) (some r) none) where
+  pub is-digit : r ≤ 9 → digitOf b ≡ some r
+  is-digit h = e ∙ rw (le-leb r 9 h)
+
+  pub no-digit : 9 < r → digitOf b ≡ none
+  no-digit h = e ∙ rw (lt-leb r 9 h)
+
+-- A number's end, by what is left after it.
+abbrev pub Ends : List ℕ → ℕ → Type 0
+Ends line e = (s : Begun) → scan s (drop e line) ≡ andThen (ended s) (λ z. andThen (left line (e + 1)) (λ zs. some (z ∷ zs)))
+
+pub line-ends : (line : List ℕ) (e : ℕ) → length line ≡ e → Ends line e
+unfolding scan left
+line-ends line e h s = rw (drop-of-length-le line {i = e} (omega arith), lt-leb (e + 1) (length line) (omega arith))
+
+pub blank-ends : (line : List ℕ) (e : ℕ) → e < length line → getD line e 0 ≡ Text.blank → Ends line e
+unfolding left numbers
+blank-ends line e h b s = rw (drop-cons line e 0 h, b, le-leb (e + 1) (length line) (omega arith), add-one) (scan-blank s (drop (suc e) line))
+
+found : (o : Option ℤ) (rest : ℕ → Option (List ℤ)) (next : ℕ)
+    → andThen (andThen o (λ z. andThen (rest next) (λ zs. some (z ∷ zs)))) number ≡ got (numberOf o next .good) (numberOf o next .value) (rest (numberOf o next .next))
+found none rest next = refl
+found (some z) rest next = by-rest (rest next)
+  where
+    by-rest : (r : Option (List ℤ)) → andThen (andThen r (λ zs. some (z ∷ zs))) number ≡ got true z r
+    by-rest none = refl
+    by-rest (some zs) = refl
+
+-- The number that ends at e.
+pub number-ends : (line : List ℕ) (e : ℕ) (s : Begun) → Ends line e
+    → andThen (scan s (drop e line)) number ≡ got (numberOf (ended s) (e + 1) .good) (numberOf (ended s) (e + 1) .value) (left line (numberOf (ended s) (e + 1) .next))
+number-ends line e s h = rw (h s) (found (ended s) (left line) (e + 1))
+
+module _ (line : List ℕ) (i : ℕ) (h : i < length line) (b : getD line i 0 ≡ Text.blank → ⊥) where
+  pub scan-at : (s : Begun) → scan s (drop i line) ≡ andThen (more s (getD line i 0)) (λ t. scan t (drop (suc i) line))
+  scan-at s = rw (drop-cons line i 0 h) (scan-on s (getD line i 0) (drop (suc i) line) b)
+
+  -- Nothing follows a 0.
+  pub zero-stops : (negative : Bool) → scan (size negative 0) (drop i line) ≡ none
+  unfolding more
+  zero-stops negative = scan-at (size negative 0) ∙ by-digit (digitOf (getD line i 0))
+    where
+      by-digit : (o : Option ℕ) → andThen (andThen o (λ (d : ℕ). none)) (λ t. scan t (drop (suc i) line)) ≡ none
+      by-digit none = refl
+      by-digit (some d) = refl
+
+  pub stops : (negative : Bool) (n : ℕ) → digitOf (getD line i 0) ≡ none → scan (size negative n) (drop i line) ≡ none
+  unfolding more
+  stops negative n e = scan-at (size negative n) ∙ rw e
+
+  pub goes-on : (negative : Bool) (n d : ℕ) → 0 < n → digitOf (getD line i 0) ≡ some d → scan (size negative n) (drop i line) ≡ scan (size negative (n * 10 + d)) (drop (i + 1) line)
+  unfolding more
+  goes-on negative n d p e = scan-at (size negative n) ∙ rw (e, ne-eqb n 0 (λ q. omega arith), add-one)
+
+-- A size that is too large stays so.
+over-more : (negative : Bool) (n : ℕ) (o : Option ℕ) (t : Bool) (f : Begun → Option (List ℤ)) → ((d : ℕ) → f (size negative (n * 10 + d)) ≡ none)
+    → andThen (andThen o (λ d. cond t none (some (size negative (n * 10 + d))))) f ≡ none
+over-more negative n none t f h = refl
+over-more negative n (some d) true f h = refl
+over-more negative n (some d) false f h = h d
+
+pub over : (negative : Bool) (n : ℕ) (bs : List ℕ) → 2 ^ 31 < n → scan (size negative n) bs ≡ none
+unfolding scan more
+over negative n [] h = rw (size-over negative n h)
+over negative n (b ∷ bs) h =
+    rw (size-over negative n h, over-more negative n (digitOf b) (eqb n 0) (λ t. scan t bs) (λ d. over negative (n * 10 + d) bs (omega arith))) (same (eqb b Text.blank))
+  where
+    same : (t : Bool) → _≡_ {A = Option (List ℤ)} (cond t none none) none
+    same true = refl
+    same false = refl
+
+-- The first digit.
+module _ (b d : ℕ) (e : digitOf b ≡ some d) where
+  pub first-size : (negative : Bool) → 0 < d → first negative b ≡ some (size negative d)
+  unfolding first
+  first-size true h = rw (e, ne-eqb d 0 (λ q. omega arith))
+  first-size false h = rw e
+
+  pub first-zero : (negative : Bool) → d ≡ 0 → negative ≡ false → first negative b ≡ some (size false 0)
+  unfolding first
+  first-zero negative h q = rw (e, h, q)
+
+  pub minus-zero : (negative : Bool) → d ≡ 0 → negative ≡ true → first negative b ≡ none
+  unfolding first
+  minus-zero negative h q = rw (e, h, q)
+
+pub first-none : (b : ℕ) (negative : Bool) → digitOf b ≡ none → first negative b ≡ none
+unfolding first
+first-none b negative e = rw e
+
+no-blank-first : (negative : Bool) → first negative Text.blank ≡ none
+unfolding first digitOf
+no-blank-first negative = refl
+
+sign-blank : (negative : Bool) (bs : List ℕ) → scan (sign negative) (Text.blank ∷ bs) ≡ none
+unfolding ended
+sign-blank true bs = scan-blank minus bs
+sign-blank false bs = scan-blank nothing bs
+
+more-sign : (negative : Bool) (b : ℕ) → (negative ≡ false → b ≡ Text.minus → ⊥) → more (sign negative) b ≡ first negative b
+unfolding more
+more-sign true b m = refl
+more-sign false b m = rw (ne-eqb b Text.minus (m refl))
+
+module _ (negative : Bool) (line : List ℕ) (i : ℕ) (h : i < length line) (m : negative ≡ false → getD line i 0 ≡ Text.minus → ⊥) where
+  byte-case : (t : Bool) → eqb (getD line i 0) Text.blank ≡ t → scan (sign negative) (drop i line) ≡ andThen (first negative (getD line i 0)) (λ u. scan u (drop (i + 1) line))
+  byte-case true e = let q = eqb-true (getD line i 0) Text.blank e in rw (drop-cons line i 0 h, q, no-blank-first negative) (sign-blank negative (drop (suc i) line))
+  byte-case false e = scan-at line i h (eqb-false (getD line i 0) Text.blank e) (sign negative) ∙ rw (more-sign negative (getD line i 0) m, add-one)
+
+  pub first-byte : scan (sign negative) (drop i line) ≡ andThen (first negative (getD line i 0)) (λ t. scan t (drop (i + 1) line))
+  first-byte = byte-case (eqb (getD line i 0) Text.blank) refl
+
+-- No number starts at the end of a line, or past it.
+pub none-left : (line : List ℕ) (at : ℕ) → length line ≤ at → andThen (left line at) number ≡ none
+unfolding left numbers scan ended
+none-left line at h = rw (drop-of-length-le line {i = at} h) (by-test (leb at (length line)))
+  where
+    by-test : (t : Bool) → andThen (cond t none (some [])) number ≡ none
+    by-test true = refl
+    by-test false = refl
+
+pub left-here : (line : List ℕ) (at : ℕ) → at ≤ length line → left line at ≡ scan nothing (drop at line)
+unfolding left numbers
+left-here line at h = rw (le-leb at (length line) h)
+
+-- After `-`.
+pub minus-on : (line : List ℕ) (at : ℕ) → at < length line → getD line at 0 ≡ Text.minus → scan nothing (drop at line) ≡ scan minus (drop (at + 1) line)
+unfolding more
+minus-on line at h e = scan-at line at h (λ q. omega arith) nothing ∙ rw (e, add-one)
+
+pub minus-alone : (line : List ℕ) (at : ℕ) → length line ≤ at → scan minus (drop at line) ≡ none
+unfolding scan ended
+minus-alone line at h = rw (drop-of-length-le line {i = at} h)

@@ -1,0 +1,25 @@
+-- What the private functions' contracts cite: a place in a line, and what was taken from it.
+use Prim.Native.Nat.{ℕ, suc}
+use mathlib.Core.List.{List, [], _∷_}
+use mathlib.Core.Option.{Option, none, some}
+use mathlib.Core.Bool.{Bool, true, false, cond}
+use lib.Dec.{leb}
+use lib.ListN.{length, drop}
+use lib.IntN.{ℤ, pos}
+use Rattle.sheet_line.specs.declared.read.Number.{Number}
+use Rattle.sheet_line.specs.Numbers.{andThen, numbers}
+use Rattle.sheet_line.specs.Call.{Reader, give}
+
+-- The numbers left from a place on; none are past the end, where the last number ended.
+unfoldable pub left : List ℕ → ℕ → Option (List ℤ)
+left line at = cond (leb at (length line)) (numbers (drop at line)) (some [])
+
+-- A value taken, with the numbers left after it; or no value.
+abbrev pub got : {A : Type 0} → Bool → A → Option (List ℤ) → Option (A × List ℤ)
+got true a rest = andThen rest (give a)
+got false a rest = none
+
+-- A number that was found, or none.
+abbrev pub numberOf : Option ℤ → ℕ → Number
+numberOf (some z) next = record { good = true; value = z; next = next }
+numberOf none next = record { good = false; value = pos 0; next = 0 }

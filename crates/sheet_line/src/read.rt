@@ -1,0 +1,146 @@
+// The numbers of a line, from left to right. A place is where a number begins; the one past the end of the line is where none is left.
+ghost use mathlib.Core.Path.{_≡_};
+ghost use Prim.Native.Nat.{_≤_, _<_};
+ghost use mathlib.Core.List.{List, [], _∷_};
+ghost use mathlib.Core.Bool.{true, false, cond};
+ghost use mathlib.Core.Option.{none, some};
+ghost use lib.Dec.{leb};
+ghost use lib.ListN.{length, drop};
+ghost use Rattle.sheet_line.specs.Numbers.{andThen, Begun, digitOf, first, ended, scan};
+ghost use Rattle.sheet_line.specs.Call.{number};
+ghost use Rattle.sheet_line.specs.Steps.{left, got, numberOf};
+
+// A number, and the place of the next one.
+pub struct Number {
+    pub good: bool,
+    pub value: i32,
+    pub next: usize,
+}
+
+// The largest size of a number, of the least number.
+const MAX_SIZE: usize = 2147483648;
+
+fn no_number() -> Number
+    ensures { λ r. ⌜ r ≡ numberOf none 0 ⌝ }
+{
+    Number {
+        good: false,
+        value: 0,
+        next: 0,
+    }
+}
+
+// The number of a sign and a size. The least number has no opposite in 32 bits.
+fn whole(negative: bool, size: usize, next: usize) -> Number
+    ensures { λ r. ⌜ r ≡ numberOf (ended (Begun.size negative size)) next ⌝ }
+{
+    if MAX_SIZE < size {
+        return no_number();
+    }
+    if size == MAX_SIZE {
+        if negative {
+            return Number {
+                good: true,
+                value: -2147483648,
+                next,
+            };
+        }
+        return no_number();
+    }
+    let n = size as i32;
+    let value = if negative { 0 - n } else { n };
+    Number {
+        good: true,
+        value,
+        next,
+    }
+}
+
+// What a byte says as a digit, and 10 for a byte that is none.
+fn digit_value(b: u8) -> usize
+    ensures { λ r. ⌜ digitOf b ≡ cond (leb r 9) (some r) none ⌝ }
+{
+    if b < b'0' {
+        return 10;
+    }
+    if b'9' < b {
+        return 10;
+    }
+    (b - b'0') as usize
+}
+
+// What follows a 0: the number ends here.
+fn after_zero(line: &[u8], at: usize) -> Number
+    requires { ⌜ at ≤ length (now line) ⌝ }
+    ensures { λ r. ⌜ andThen (scan (Begun.size false 0) (drop at (now (line .entry)))) number ≡ got (r .good) (r .value) (left (now (line .entry)) (r .next)) ⌝ }
+{
+    if line.len() <= at {
+        return whole(false, 0, at + 1);
+    }
+    if line[at] == b' ' {
+        return whole(false, 0, at + 1);
+    }
+    no_number()
+}
+
+// The digits after the first one, which is not 0. A size that is too large stays so.
+fn after_digit(line: &[u8], at: usize, negative: bool, first: usize) -> Number
+    requires { ⌜ (at ≤ length (now line)) × (0 < first) ⌝ }
+    ensures { λ r. ⌜ andThen (scan (Begun.size negative first) (drop at (now (line .entry)))) number ≡ got (r .good) (r .value) (left (now (line .entry)) (r .next)) ⌝ }
+{
+    let mut n = first;
+    let mut i = at;
+    while i < line.len() {
+        let b = line[i];
+        if b == b' ' {
+            return whole(negative, n, i + 1);
+        }
+        let d = digit_value(b);
+        if 9 < d {
+            return no_number();
+        }
+        if MAX_SIZE < n {
+            return no_number();
+        }
+        n = n * 10 + d;
+        i += 1;
+    }
+    whole(negative, n, i + 1)
+}
+
+// A number from its first digit on, whose byte is b.
+fn from_digit(line: &[u8], at: usize, negative: bool, b: u8) -> Number
+    requires { ⌜ at ≤ length (now line) ⌝ }
+    ensures { λ r. ⌜ andThen (andThen (first negative b) (λ t. scan t (drop at (now (line .entry))))) number ≡ got (r .good) (r .value) (left (now (line .entry)) (r .next)) ⌝ }
+{
+    let d = digit_value(b);
+    if 9 < d {
+        return no_number();
+    }
+    if 0 < d {
+        return after_digit(line, at, negative, d);
+    }
+    if negative {
+        return no_number();
+    }
+    after_zero(line, at)
+}
+
+// The number at a place.
+pub fn number_at(line: &[u8], at: usize) -> Number
+    ensures { λ r. ⌜ andThen (left (now (line .entry)) at) number ≡ got (r .good) (r .value) (left (now (line .entry)) (r .next)) ⌝ }
+{
+    if line.len() <= at {
+        return no_number();
+    }
+    let b = line[at];
+    let next = at + 1;
+    if b != b'-' {
+        return from_digit(line, next, false, b);
+    }
+    if line.len() <= next {
+        return no_number();
+    }
+    let d = line[next];
+    from_digit(line, next + 1, true, d)
+}
