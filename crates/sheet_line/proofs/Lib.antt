@@ -4,3 +4,5 @@ pub mod Scan
 pub mod Round
 pub mod Sizes
 pub mod Cursor
+pub mod Readers
+pub mod Operands

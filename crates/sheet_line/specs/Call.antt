@@ -1,13 +1,14 @@
 -- Paper 01, "The sheet program": the call that a line says.
-use Prim.Native.Nat.{ℕ, zero, suc}
+use Prim.Native.Nat.{ℕ, zero, suc, min}
 use mathlib.Core.List.{List, [], _∷_, _++_, map}
 use mathlib.Core.Option.{Option, none, some}
 use mathlib.Core.Bool.{Bool, true, false, cond}
 use lib.Dec.{leb}
-use lib.ListN.{length}
+use lib.ListN.{length, drop}
 use lib.IntN.{ℤ, pos, negsuc}
-use Rattle.shape.specs.Shape.{maxRank, count}
+use Rattle.shape.specs.Shape.{maxRank, count, shapeOf, scalar}
 use Rattle.meaning.specs.Array.{Array}
+use Rattle.sheet_line.specs.declared.Read.{Read}
 use Rattle.sheet_line.specs.Numbers.{andThen, numbers}
 
 infixr 4 _then_
@@ -44,33 +45,37 @@ upTo m (negsuc k) = fail
 unfoldable pub natural : ℕ → Reader ℕ
 natural m = number then upTo m
 
-unfoldable pub lengths : ℕ → Reader (List ℕ)
-lengths zero = give []
-lengths (suc rank) = natural maxHeld then λ n. lengths rank then λ ns. give (n ∷ ns)
+-- So many values, one after the other.
+unfoldable pub many : {A : Type 0} → Reader A → ℕ → Reader (List A)
+many p zero = give []
+many p (suc n) = p then λ a. many p n then λ rest. give (a ∷ rest)
 
-unfoldable pub elements : ℕ → Reader (List ℤ)
-elements zero = give []
-elements (suc n) = number then λ z. elements n then λ zs. give (z ∷ zs)
-
--- An operand as rank, lengths, elements, of which there is room for some.
+-- An operand as rank, lengths, elements, where there is room for so many elements.
 unfoldable pub operand : ℕ → Reader Array
-operand room =
-    natural maxRank then λ rank. lengths rank then λ ns.
-    cond (leb (count ns) room) (elements (count ns) then λ zs. give (record { lengths = ns; elements = zs })) fail
+operand limit =
+    natural maxRank then λ rank. many (natural maxHeld) rank then λ ns.
+    cond (leb (count ns) limit) (many number (count ns) then λ zs. give (record { lengths = ns; elements = zs })) fail
 
--- A line's call.
-pub record Call : Type 0 where
+-- Number, origin and axis.
+pub record Head : Type 0 where
   pub primitive : ℤ
   pub origin : ℤ
   pub axis : ℤ
+
+unfoldable pub head : Reader Head
+head = number then λ n. number then λ G. number then λ K. give (record { primitive = n; origin = G; axis = K })
+
+-- A line's call.
+pub record Call : Type 0 where
+  pub head : Head
   pub left : Array
   pub right : Array
 
 -- Order: number, origin, axis, then L and R.
 unfoldable pub call : ℕ → ℕ → Reader Call
 call roomL roomR =
-    number then λ n. number then λ G. number then λ K. operand roomL then λ L. operand roomR then λ R.
-    give (record { primitive = n; origin = G; axis = K; left = L; right = R })
+    head then λ h. operand roomL then λ L. operand roomR then λ R.
+    give (record { head = h; left = L; right = R })
 
 -- No number is left over.
 abbrev pub allRead : {A : Type 0} → A × List ℤ → Option A
@@ -80,6 +85,35 @@ allRead (a, z ∷ zs) = none
 unfoldable pub callOf : ℕ → ℕ → List ℤ → Option Call
 callOf roomL roomR zs = andThen (call roomL roomR zs) allRead
 
--- The call that a line says, where there is room for some elements of L and of R; or none, and the line is bad.
+-- The call that a line says, where there is room for so many elements of L and of R; none, and the line is bad.
 unfoldable pub lineCall : ℕ → ℕ → List ℕ → Option Call
 lineCall roomL roomR line = cond (leb (length line) maxLine) (andThen (numbers line) (callOf roomL roomR)) none
+
+-- What is answered to a line. A bad one has numbers 0 and scalar shapes.
+abbrev pub readOf : Option Call → Read
+readOf (some c) = record {
+  good = true;
+  number = c .head .primitive;
+  origin = c .head .origin;
+  axis = c .head .axis;
+  left = shapeOf (c .left .lengths);
+  right = shapeOf (c .right .lengths);
+}
+readOf none = record { good = false; number = pos 0; origin = pos 0; axis = pos 0; left = scalar; right = scalar }
+
+-- The elements of a line's operands.
+abbrev pub leftOf : Option Call → List ℤ
+leftOf (some c) = c .left .elements
+leftOf none = []
+
+abbrev pub rightOf : Option Call → List ℤ
+rightOf (some c) = c .right .elements
+rightOf none = []
+
+-- Elements at the front of a buffer whose other elements stay.
+abbrev pub front {ℓ} : {A : Type ℓ} → List A → List A → List A
+front xs buffer = xs ++ drop (length xs) buffer
+
+-- A buffer takes as many elements as it has, and no more than the program holds.
+abbrev pub room : List ℤ → ℕ
+room buffer = min maxHeld (length buffer)

@@ -7,50 +7,50 @@ use lib.IntN.{pos}
 use mir.Facts.{toZ-pos, toZ-ofZ}
 use Rattle.sheet_line.proofs.Sizes.{size-fits, size-over, least, no-largest, opposite-fits, opposite, itself}
 use borrow.Author.Needs.{needs}
-use Rattle.sheet_line.proofs.read.whole.Statement.{statement}
-use Rattle.sheet_line.proofs.read.whole.Tie as tie
-use Rattle.sheet_line.proofs.read.whole.Reads as reads
-use Rattle.sheet_line.proofs.read.whole.Lts as lts
-use Rattle.sheet_line.proofs.read.no_number.Reads as no-number-reads
+use Rattle.sheet_line.proofs.numbers.whole.Statement.{statement}
+use Rattle.sheet_line.proofs.numbers.whole.Tie as tie
+use Rattle.sheet_line.proofs.numbers.whole.Reads as reads
+use Rattle.sheet_line.proofs.numbers.whole.Lts as lts
+use Rattle.sheet_line.proofs.numbers.no_number.Reads as no-number-reads
 
 read-size : (c : tie.Else2) → toZ w32 (c .before .before .args .size) ≡ pos (c .before .before .args .size)
 read-size c = toZ-pos w32 {n = c .before .before .args .size} (omega arith)
 
--- src/read.rt:36:9
+-- src/numbers.rt:36:9
 no-number-requires : tie.Need-no-number-requires
 no-number-requires c κs = search needs
 
--- src/read.rt:36:9
+-- src/numbers.rt:36:9
 returns : tie.Need-returns
 returns c = c .no-number .ensures ∙ rw (size-over (c .before .before .args .negative) (c .before .before .args .size) (c .before .if1 .taken))
 
--- src/read.rt:40:13
+-- src/numbers.rt:40:13
 returns-2 : tie.Need-returns-2
 returns-2 c = rw (least (c .before .before .before .args .negative) (c .before .before .before .args .size) (c .if3 .taken) (c .before .if2 .taken))
 
--- src/read.rt:46:9
+-- src/numbers.rt:46:9
 no-number-requires-2 : tie.Need-no-number-requires-2
 no-number-requires-2 c κs = search needs
 
--- src/read.rt:46:9
+-- src/numbers.rt:46:9
 returns-3 : tie.Need-returns-3
 returns-3 c = c .no-number2 .ensures ∙ rw (no-largest (c .before .before .before .before .args .negative) (c .before .before .before .before .args .size) (c .before .if3 .left) (c .before .before .if2 .taken))
 
--- src/read.rt:48:13
+-- src/numbers.rt:48:13
 cast-n : tie.Need-cast-n
 cast-n c = search needs
 
--- src/read.rt:49:31
+-- src/numbers.rt:49:31
 sub-value : tie.Need-sub-value
 sub-value c = rw (read-size (c .before)) (opposite-fits (c .before .before .before .args .size) (omega arith))
 
--- src/read.rt:32:1
+-- src/numbers.rt:32:1
 returns-4 : tie.Need-returns-4
 returns-4 c =
     let n = c .before .before .before .args .size in
     rw (toZ-ofZ (sub-value c), read-size (c .before), opposite n, c .if4 .taken, size-fits true n (omega arith))
 
--- src/read.rt:32:1
+-- src/numbers.rt:32:1
 returns-5 : tie.Need-returns-5
 returns-5 c =
     let n = c .before .before .before .args .size in
