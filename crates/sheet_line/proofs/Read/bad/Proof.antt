@@ -15,7 +15,7 @@ scalar-requires-2 c κs = search needs
 
 -- src/lib.rt:34:5
 returns : tie.Need-returns
-returns c = ?
+returns c = rw (c .before .scalar .ensures, c .scalar2 .ensures)
 
 pub bad-spec : {M : Type 1} → statement M
 bad-spec = tie.close (tie.spec scalar-requires scalar-requires-2 returns)
