@@ -6,3 +6,4 @@ pub mod Sizes
 pub mod Cursor
 pub mod Readers
 pub mod Operands
+pub mod Calls

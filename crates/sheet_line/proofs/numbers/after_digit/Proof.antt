@@ -91,12 +91,15 @@ loop-again : tie.Need-loop-again Inv-loop μ-loop
 loop-again c =
     let st = c .before .before .before .before .before .before .before .before in
     let lp = c .before .before .before .before .before .before .loop in
-    let e = c .before .before .digit-value in
-    ( omega arith
-    , ( omega arith
-      , lp .inv .1 .1
-      ∙ goes-on (st .args .line .now) (lp .i) (omega arith) (c .before .before .before .if1 .left) (st .args .negative) (lp .n) (e .result) (omega arith)
-        (is-digit (getD (st .args .line .now) (lp .i) 0) (e .result) (e .ensures) (c .before .if2 .left)) ) )
+    let e = c .before .before .digit-value in (
+      omega arith,
+      (
+        omega arith,
+        lp .inv .1 .1
+            ∙ goes-on (st .args .line .now) (lp .i) (omega arith) (c .before .before .before .if1 .left) (st .args .negative) (lp .n) (e .result) (omega arith)
+            (is-digit (getD (st .args .line .now) (lp .i) 0) (e .result) (e .ensures) (c .before .if2 .left)),
+      ),
+    )
 
 -- src/numbers.rt:108:24
 add-whole-2 : tie.Need-add-whole-2 Inv-loop μ-loop

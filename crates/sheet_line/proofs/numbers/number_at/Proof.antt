@@ -67,10 +67,11 @@ returns-4 : tie.Need-returns-4
 returns-4 c =
     let st = c .before .before .before .before .before .before .before in
     let line = st .args .line .now in
-    rw
-    (left-here line (st .args .at) (omega arith)
-    , minus-on line (st .args .at) (omega arith) (c .before .before .before .if2 .left)
-    , first-byte true line (st .args .at + 1) (omega arith) (λ t. no-way (sym t)))
+    rw (
+      left-here line (st .args .at) (omega arith),
+      minus-on line (st .args .at) (omega arith) (c .before .before .before .if2 .left),
+      first-byte true line (st .args .at + 1) (omega arith) (λ t. no-way (sym t)),
+    )
     (c .from-digit2 .ensures)
 
 pub number-at-spec : {M : Type 1} → statement M

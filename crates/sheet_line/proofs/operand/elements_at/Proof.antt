@@ -54,10 +54,11 @@ returns c =
     let st = c .before .before .before .before .before .before in
     let lp = c .before .before .before .before .loop in
     let z = c .before .before .number-at in
-    let j : st .args .count - lp .i ≡ suc (st .args .count - (lp .i + 1)) = omega arith in
-    ( lp .inv .1 .1 .1
-    ∙ many-stop number (take (lp .i) (lp .out)) (st .args .count - lp .i) (st .args .count - (lp .i + 1)) j (left (st .args .line .now) (lp .place)) (z .result .good) (z .result .value) (left (st .args .line .now) (z .result .next)) (z .ensures) (not-true (z .result .good) (c .if1 .taken))
-    , lp .inv .1 .1 .0 )
+    let j : st .args .count - lp .i ≡ suc (st .args .count - (lp .i + 1)) = omega arith in (
+      lp .inv .1 .1 .1
+          ∙ many-stop number (take (lp .i) (lp .out)) (st .args .count - lp .i) (st .args .count - (lp .i + 1)) j (left (st .args .line .now) (lp .place)) (z .result .good) (z .result .value) (left (st .args .line .now) (z .result .next)) (z .ensures) (not-true (z .result .good) (c .if1 .taken)),
+      lp .inv .1 .1 .0,
+    )
 
 -- src/operand.rt:115:9
 mul-value : tie.Need-mul-value Inv-loop μ-loop
@@ -84,13 +85,18 @@ loop-again c =
     let j : st .args .count - lp .i ≡ suc (st .args .count - (lp .i + 1)) = omega arith in
     let v = z .result .value in
     let one : take (lp .i + 1) (set (lp .out) (lp .i) v) ≡ take (lp .i) (lp .out) ++ v ∷ [] = rw add-one (take-suc-set (lp .out) (lp .i) v (omega arith)) in
-    rw (value-is (c .before))
-    ( omega arith
-    , ( length-set (lp .out) (lp .i) v ∙ lp .inv .1 .0
-      , ( drop-set-lt (st .args .count) (lp .out) (lp .i) v (omega arith) ∙ lp .inv .1 .1 .0
-        , rw one
-          (lp .inv .1 .1 .1
-          ∙ many-more number (take (lp .i) (lp .out)) (st .args .count - lp .i) (st .args .count - (lp .i + 1)) j (left (st .args .line .now) (lp .place)) (z .result .good) v (left (st .args .line .now) (z .result .next)) (z .ensures) (not-false (z .result .good) (c .if1 .left))) ) ) )
+    rw (value-is (c .before)) (
+      omega arith,
+      (
+        length-set (lp .out) (lp .i) v ∙ lp .inv .1 .0,
+        (
+          drop-set-lt (st .args .count) (lp .out) (lp .i) v (omega arith) ∙ lp .inv .1 .1 .0,
+          rw one
+              (lp .inv .1 .1 .1
+              ∙ many-more number (take (lp .i) (lp .out)) (st .args .count - lp .i) (st .args .count - (lp .i + 1)) j (left (st .args .line .now) (lp .place)) (z .result .good) v (left (st .args .line .now) (z .result .next)) (z .ensures) (not-false (z .result .good) (c .if1 .left))),
+        ),
+      ),
+    )
 
 -- src/operand.rt:98:1
 same-length-2 : tie.Need-same-length-2 Inv-loop μ-loop
@@ -101,9 +107,10 @@ returns-2 : tie.Need-returns-2 Inv-loop μ-loop
 returns-2 c =
     let st = c .before .before .before in
     let lp = c .before .loop in
-    let e : lp .i ≡ st .args .count = omega arith in
-    ( rw (← e) (rw (← e) at (lp .inv .1 .1 .1) ∙ many-end number (take (lp .i) (lp .out)) (lp .i - lp .i) (left (st .args .line .now) (lp .place)) (omega arith))
-    , lp .inv .1 .1 .0 )
+    let e : lp .i ≡ st .args .count = omega arith in (
+      rw (← e) (rw (← e) at (lp .inv .1 .1 .1) ∙ many-end number (take (lp .i) (lp .out)) (lp .i - lp .i) (left (st .args .line .now) (lp .place)) (omega arith)),
+      lp .inv .1 .1 .0,
+    )
 
 pub elements-at-spec : {M : Type 1} → statement M
 elements-at-spec =

@@ -48,9 +48,10 @@ returns c =
     let st = c .before .before .before .before .before in
     let lp = c .before .before .before .loop in
     let n = c .before .natural-at in
-    let j : st .args .rank - lp .i ≡ suc (st .args .rank - (lp .i + 1)) = omega arith in
-    ( lp .inv .1 .1 .1 ∙ many-stop (natural maxHeld) (take (lp .i) (lp .lens)) (st .args .rank - lp .i) (st .args .rank - (lp .i + 1)) j (left (st .args .line .now) (lp .place)) (n .result .good) (n .result .value) (left (st .args .line .now) (n .result .next)) (n .ensures .0) (not-true (n .result .good) (c .if1 .taken))
-    , small-zeros (st .args .rank) maxRank )
+    let j : st .args .rank - lp .i ≡ suc (st .args .rank - (lp .i + 1)) = omega arith in (
+      lp .inv .1 .1 .1 ∙ many-stop (natural maxHeld) (take (lp .i) (lp .lens)) (st .args .rank - lp .i) (st .args .rank - (lp .i + 1)) j (left (st .args .line .now) (lp .place)) (n .result .good) (n .result .value) (left (st .args .line .now) (n .result .next)) (n .ensures .0) (not-true (n .result .good) (c .if1 .taken)),
+      small-zeros (st .args .rank) maxRank,
+    )
 
 -- src/operand.rt:86:9
 mul-lens : tie.Need-mul-lens Inv-loop μ-loop
@@ -75,20 +76,26 @@ loop-again c =
     let lp = c .before .before .before .loop in
     let n = c .before .natural-at in
     let j : st .args .rank - lp .i ≡ suc (st .args .rank - (lp .i + 1)) = omega arith in
-    let one : take (lp .i + 1) (set (lp .lens) (lp .i) (n .result .value)) ≡ take (lp .i) (lp .lens) ++ n .result .value ∷ [] = rw add-one (take-suc-set (lp .lens) (lp .i) (n .result .value) (omega arith)) in
-    ( omega arith
-    , ( simp length-set (lp .inv .1 .0)
-      , ( rw one (small-snoc (take (lp .i) (lp .lens)) (n .result .value) (lp .inv .1 .1 .0) (omega (arith, n .ensures .1)))
-        , rw one (lp .inv .1 .1 .1 ∙ many-more (natural maxHeld) (take (lp .i) (lp .lens)) (st .args .rank - lp .i) (st .args .rank - (lp .i + 1)) j (left (st .args .line .now) (lp .place)) (n .result .good) (n .result .value) (left (st .args .line .now) (n .result .next)) (n .ensures .0) (not-false (n .result .good) (c .if1 .left))) ) ) )
+    let one : take (lp .i + 1) (set (lp .lens) (lp .i) (n .result .value)) ≡ take (lp .i) (lp .lens) ++ n .result .value ∷ [] = rw add-one (take-suc-set (lp .lens) (lp .i) (n .result .value) (omega arith)) in (
+      omega arith,
+      (
+        simp length-set (lp .inv .1 .0),
+        (
+          rw one (small-snoc (take (lp .i) (lp .lens)) (n .result .value) (lp .inv .1 .1 .0) (omega (arith, n .ensures .1))),
+          rw one (lp .inv .1 .1 .1 ∙ many-more (natural maxHeld) (take (lp .i) (lp .lens)) (st .args .rank - lp .i) (st .args .rank - (lp .i + 1)) j (left (st .args .line .now) (lp .place)) (n .result .good) (n .result .value) (left (st .args .line .now) (n .result .next)) (n .ensures .0) (not-false (n .result .good) (c .if1 .left))),
+        ),
+      ),
+    )
 
 -- src/operand.rt:68:1
 returns-2 : tie.Need-returns-2 Inv-loop μ-loop
 returns-2 c =
     let st = c .before .before .before in
     let lp = c .before .loop in
-    let e : lp .i ≡ st .args .rank = omega arith in
-    ( rw (← e) (rw (← e) at (lp .inv .1 .1 .1) ∙ many-end (natural maxHeld) (take (lp .i) (lp .lens)) (lp .i - lp .i) (left (st .args .line .now) (lp .place)) (omega arith))
-    , rw (← e) (lp .inv .1 .1 .0) )
+    let e : lp .i ≡ st .args .rank = omega arith in (
+      rw (← e) (rw (← e) at (lp .inv .1 .1 .1) ∙ many-end (natural maxHeld) (take (lp .i) (lp .lens)) (lp .i - lp .i) (left (st .args .line .now) (lp .place)) (omega arith)),
+      rw (← e) (lp .inv .1 .1 .0),
+    )
 
 pub lengths-at-spec : {M : Type 1} → statement M
 lengths-at-spec =

@@ -1,0 +1,122 @@
+-- A line's call, by what was taken of it.
+use Prim.Native.Nat.{ℕ, zero, suc, _≤_, _<_}
+use native.Mathlib.Omega.{arith}
+use mathlib.Core.Path.{_≡_, refl, sym, ap, _∙_}
+use mathlib.Core.List.{List, [], _∷_, _++_}
+use mathlib.Core.Option.{Option, none, some}
+use mathlib.Core.Bool.{Bool, true, false, cond}
+use lib.Dec.{leb}
+use lib.ListN.{length, drop}
+use lib.IntN.{ℤ}
+use borrow.Author.Tests.{le-leb, lt-leb}
+use Rattle.shape.specs.declared.Shape.{Shape}
+use Rattle.shape.proofs.Bools.{no-way}
+use Rattle.meaning.specs.Array.{Array}
+use Rattle.sheet_line.specs.declared.Read.{Read}
+use Rattle.sheet_line.specs.Numbers.{andThen, numbers}
+use Rattle.sheet_line.specs.Call.{maxLine, Reader, give, _then_, number, operand, Head, head, Call, call, allRead, callOf, lineCall, readOf, leftOf, rightOf, front, room}
+use Rattle.sheet_line.specs.Steps.{left, got}
+use Rattle.sheet_line.proofs.Readers.{then-both, then-bad, then-good}
+use Rattle.sheet_line.proofs.Round.{read-is-printing}
+
+-- Number, origin and axis, taken one after the other.
+module _ (o : Option (List ℤ)) (numbered : Bool) (n : ℤ) (o₁ : Option (List ℤ)) (e₁ : andThen o number ≡ got numbered n o₁) where
+  pub no-primitive : numbered ≡ false → andThen o head ≡ none
+  unfolding head
+  no-primitive g = then-bad number _ o (rw g at e₁)
+
+  module _ (t₁ : numbered ≡ true) (placed : Bool) (G : ℤ) (o₂ : Option (List ℤ)) (e₂ : andThen o₁ number ≡ got placed G o₂) where
+    numbered-on : andThen o head ≡ andThen o₁ (number then λ x. number then λ y. give (record { primitive = n; origin = x; axis = y }))
+    unfolding head
+    numbered-on = then-good number (λ w. number then λ x. number then λ y. give (record { primitive = w; origin = x; axis = y })) o n o₁ (rw t₁ at e₁)
+
+    pub no-origin : placed ≡ false → andThen o head ≡ none
+    no-origin g = numbered-on ∙ then-bad number _ o₁ (rw g at e₂)
+
+    module _ (t₂ : placed ≡ true) (turned : Bool) (K : ℤ) (o₃ : Option (List ℤ)) (e₃ : andThen o₂ number ≡ got turned K o₃) where
+      placed-on : andThen o head ≡ andThen o₂ (number then λ y. give (record { primitive = n; origin = G; axis = y }))
+      placed-on = numbered-on ∙ then-good number (λ x. number then λ y. give (record { primitive = n; origin = x; axis = y })) o₁ G o₂ (rw t₂ at e₂)
+
+      pub no-axis : turned ≡ false → andThen o head ≡ none
+      no-axis g = placed-on ∙ then-bad number _ o₂ (rw g at e₃)
+
+      pub whole-head : turned ≡ true → andThen o head ≡ andThen o₃ (give (record { primitive = n; origin = G; axis = K }))
+      whole-head g = placed-on ∙ then-good number (λ y. give (record { primitive = n; origin = G; axis = y })) o₂ K o₃ (rw g at e₃)
+
+-- Head, L and R, taken one after the other.
+module _ (a b : ℕ) (o : Option (List ℤ)) (headed : Bool) (h : Head) (o₁ : Option (List ℤ)) (e₁ : andThen o head ≡ got headed h o₁) where
+  pub no-head : headed ≡ false → andThen o (call a b) ≡ none
+  unfolding call
+  no-head g = then-bad head _ o (rw g at e₁)
+
+  module _ (t₁ : headed ≡ true) (lefted : Bool) (L : Array) (o₂ : Option (List ℤ)) (e₂ : andThen o₁ (operand a) ≡ got lefted L o₂) where
+    headed-on : andThen o (call a b) ≡ andThen o₁ (operand a then λ x. operand b then λ y. give (record { head = h; left = x; right = y }))
+    unfolding call
+    headed-on = then-good head (λ w. operand a then λ x. operand b then λ y. give (record { head = w; left = x; right = y })) o h o₁ (rw t₁ at e₁)
+
+    pub no-left : lefted ≡ false → andThen o (call a b) ≡ none
+    no-left g = headed-on ∙ then-bad (operand a) _ o₁ (rw g at e₂)
+
+    module _ (t₂ : lefted ≡ true) (righted : Bool) (R : Array) (o₃ : Option (List ℤ)) (e₃ : andThen o₂ (operand b) ≡ got righted R o₃) where
+      lefted-on : andThen o (call a b) ≡ andThen o₂ (operand b then λ y. give (record { head = h; left = L; right = y }))
+      lefted-on = headed-on ∙ then-good (operand a) (λ x. operand b then λ y. give (record { head = h; left = x; right = y })) o₁ L o₂ (rw t₂ at e₂)
+
+      pub no-right : righted ≡ false → andThen o (call a b) ≡ none
+      no-right g = lefted-on ∙ then-bad (operand b) _ o₂ (rw g at e₃)
+
+      pub whole-call : righted ≡ true → andThen o (call a b) ≡ andThen o₃ (give (record { head = h; left = L; right = R }))
+      whole-call g = lefted-on ∙ then-good (operand b) (λ y. give (record { head = h; left = L; right = y })) o₂ R o₃ (rw g at e₃)
+
+-- A line and the call at its start.
+module _ (a b : ℕ) (line : List ℕ) where
+  pub too-long : maxLine < length line → lineCall a b line ≡ none
+  unfolding lineCall
+  too-long h = rw (lt-leb (length line) maxLine h)
+
+  line-is : length line ≤ maxLine → lineCall a b line ≡ andThen (andThen (left line 0) (call a b)) allRead
+  unfolding lineCall callOf left
+  line-is h = rw (le-leb (length line) maxLine h, le-leb 0 (length line) (omega arith)) (by-case (numbers line))
+    where
+      by-case : (x : Option (List ℤ)) → andThen x (λ zs. andThen (call a b zs) allRead) ≡ andThen (andThen x (call a b)) allRead
+      by-case none = refl
+      by-case (some zs) = refl
+
+  pub no-call : length line ≤ maxLine → andThen (left line 0) (call a b) ≡ none → lineCall a b line ≡ none
+  no-call h e = line-is h ∙ rw e
+
+  module _ (h : length line ≤ maxLine) (c : Call) (end : ℕ) (e : andThen (left line 0) (call a b) ≡ andThen (left line end) (give c)) where
+    -- What follows the call has a number, or is bad.
+    pub left-over : end ≤ length line → lineCall a b line ≡ none
+    unfolding left
+    left-over k = line-is h ∙ rw (e, le-leb end (length line) k) (by-case (numbers (drop end line)) refl)
+      where
+        by-case : (x : Option (List ℤ)) → numbers (drop end line) ≡ x → andThen (andThen x (give c)) allRead ≡ none
+        by-case none q = refl
+        by-case (some []) q = absurd (omega (arith, read-is-printing (drop end line) [] q .some-number))
+        by-case (some (z ∷ zs)) q = refl
+
+    pub line-call : length line < end → lineCall a b line ≡ some c
+    unfolding left
+    line-call k = line-is h ∙ rw (e, lt-leb end (length line) k)
+
+-- What read_line promises.
+abbrev pub Promise : List ℕ → List ℤ → List ℤ → List ℤ → List ℤ → Read → Type 0
+Promise line l l′ r r′ answer =
+    (answer ≡ readOf (lineCall (room l) (room r) line))
+    × ((answer .good ≡ true → l′ ≡ front (leftOf (lineCall (room l) (room r) line)) l)
+    × ((answer .good ≡ true → r′ ≡ front (rightOf (lineCall (room l) (room r) line)) r)
+    × ((length l′ ≡ length l) × (length r′ ≡ length r))))
+
+module _ (line : List ℕ) (l l′ r r′ : List ℤ) (answer : Read) (kept : (length l′ ≡ length l) × (length r′ ≡ length r)) where
+  pub bad-line : answer ≡ readOf none → lineCall (room l) (room r) line ≡ none → Promise line l l′ r r′ answer
+  bad-line b e =
+      let not-good : answer .good ≡ false = ap (λ x. x .good) b in
+      (b ∙ rw e, (λ g. no-way (sym not-good ∙ g), (λ g. no-way (sym not-good ∙ g), kept)))
+
+  pub good-line : (c : Call) → answer ≡ readOf (some c) → lineCall (room l) (room r) line ≡ some c → l′ ≡ front (c .left .elements) l → r′ ≡ front (c .right .elements) r → Promise line l l′ r r′ answer
+  good-line c b e p q = (b ∙ rw e, (λ g. rw e p, (λ g. rw e q, kept)))
+
+-- An answer with the same shapes.
+pub same-answer : (n g k : ℤ) (s s′ t t′ : Shape) → s ≡ s′ → t ≡ t′
+    → _≡_ {A = Read} (record { good = true; number = n; origin = g; axis = k; left = s; right = t }) (record { good = true; number = n; origin = g; axis = k; left = s′; right = t′ })
+same-answer n g k s s′ t t′ p q = λ i. record { good = true; number = n; origin = g; axis = k; left = p i; right = q i }

@@ -1,0 +1,102 @@
+use mathlib.Core.Path.{_≡_}
+use mir.Syntax.{w32}
+use mir.Val.{SFits, toZ, ofZ}
+use mir.Facts.{toZ-ofZ}
+use borrow.Author.Tests.{not-true, not-false}
+use Rattle.sheet_line.specs.Steps.{left}
+use Rattle.sheet_line.proofs.Calls.{no-primitive, no-origin, no-axis, whole-head}
+use borrow.Author.Needs.{needs}
+use Rattle.sheet_line.proofs.head_at.Statement.{statement}
+use Rattle.sheet_line.proofs.head_at.Tie as tie
+use Rattle.sheet_line.proofs.head_at.Reads as reads
+use Rattle.sheet_line.proofs.head_at.Lts as lts
+use Rattle.sheet_line.proofs.no_head.Reads as no-head-reads
+use Rattle.sheet_line.proofs.numbers.number_at.Reads as number-at-reads
+
+first-fits : (c : tie.After-struct-told) → SFits w32 (c .before .number-at .result .value)
+first-fits c = search needs
+
+second-fits : (c : tie.After-struct-told2) → SFits w32 (c .before .number-at2 .result .value)
+second-fits c = search needs
+
+third-fits : (c : tie.After-struct-told3) → SFits w32 (c .before .number-at3 .result .value)
+third-fits c = search needs
+
+-- src/lib.rt:47:9
+number-at-requires : tie.Need-number-at-requires
+number-at-requires c κs = search needs
+
+-- src/lib.rt:51:9
+no-head-requires : tie.Need-no-head-requires
+no-head-requires c κs = search needs
+
+-- src/lib.rt:51:9
+returns : tie.Need-returns
+returns c =
+    let st = c .before .before .before .before .before in
+    let line = st .args .line .now in
+    let n = c .before .before .before .number-at in
+    rw (c .no-head .ensures) (no-primitive (left line (st .args .at)) (n .result .good) (n .result .value) (left line (n .result .next)) (n .ensures) (not-true (n .result .good) (c .before .if1 .taken)))
+
+-- src/lib.rt:53:9
+number-at-requires-2 : tie.Need-number-at-requires-2
+number-at-requires-2 c κs = search needs
+
+-- src/lib.rt:57:9
+no-head-requires-2 : tie.Need-no-head-requires-2
+no-head-requires-2 c κs = search needs
+
+-- src/lib.rt:57:9
+returns-2 : tie.Need-returns-2
+returns-2 c =
+    let st = c .before .before .before .before .before .before .before .before in
+    let line = st .args .line .now in
+    let n = c .before .before .before .before .before .before .number-at in
+    let g = c .before .before .before .number-at2 in
+    rw (c .no-head2 .ensures) (no-origin (left line (st .args .at)) (n .result .good) (n .result .value) (left line (n .result .next)) (n .ensures) (not-false (n .result .good) (c .before .before .before .before .if1 .left)) (g .result .good) (g .result .value) (left line (g .result .next)) (g .ensures) (not-true (g .result .good) (c .before .if2 .taken)))
+
+-- src/lib.rt:59:9
+number-at-requires-3 : tie.Need-number-at-requires-3
+number-at-requires-3 c κs = search needs
+
+-- src/lib.rt:63:9
+no-head-requires-3 : tie.Need-no-head-requires-3
+no-head-requires-3 c κs = search needs
+
+-- src/lib.rt:63:9
+returns-3 : tie.Need-returns-3
+returns-3 c =
+    let st = c .before .before .before .before .before .before .before .before .before .before .before in
+    let line = st .args .line .now in
+    let n = c .before .before .before .before .before .before .before .before .before .number-at in
+    let g = c .before .before .before .before .before .before .number-at2 in
+    let k = c .before .before .before .number-at3 in
+    rw (c .no-head3 .ensures) (no-axis (left line (st .args .at)) (n .result .good) (n .result .value) (left line (n .result .next)) (n .ensures) (not-false (n .result .good) (c .before .before .before .before .before .before .before .if1 .left)) (g .result .good) (g .result .value) (left line (g .result .next)) (g .ensures) (not-false (g .result .good) (c .before .before .before .before .if2 .left)) (k .result .good) (k .result .value) (left line (k .result .next)) (k .ensures) (not-true (k .result .good) (c .before .if3 .taken)))
+
+-- src/lib.rt:44:1
+returns-4 : tie.Need-returns-4
+returns-4 c =
+    let st = c .before .before .before .before .before .before .before .before .before .before in
+    let line = st .args .line .now in
+    let n = c .before .before .before .before .before .before .before .before .number-at in
+    let g = c .before .before .before .before .before .number-at2 in
+    let k = c .before .before .number-at3 in
+    let f₁ : toZ w32 (ofZ w32 (n .result .value)) ≡ n .result .value = toZ-ofZ (first-fits (c .before .before .before .before .before .before .before)) in
+    let f₂ : toZ w32 (ofZ w32 (g .result .value)) ≡ g .result .value = toZ-ofZ (second-fits (c .before .before .before .before)) in
+    let f₃ : toZ w32 (ofZ w32 (k .result .value)) ≡ k .result .value = toZ-ofZ (third-fits (c .before)) in
+    rw (f₁, f₂, f₃) (whole-head (left line (st .args .at)) (n .result .good) (n .result .value) (left line (n .result .next)) (n .ensures) (not-false (n .result .good) (c .before .before .before .before .before .before .if1 .left)) (g .result .good) (g .result .value) (left line (g .result .next)) (g .ensures) (not-false (g .result .good) (c .before .before .before .if2 .left)) (k .result .good) (k .result .value) (left line (k .result .next)) (k .ensures) (not-false (k .result .good) (c .if3 .left)))
+
+pub head-at-spec : {M : Type 1} → statement M
+head-at-spec =
+    tie.close
+    (tie.spec
+    number-at-requires
+    no-head-requires
+    returns
+    number-at-requires-2
+    no-head-requires-2
+    returns-2
+    number-at-requires-3
+    no-head-requires-3
+    returns-3
+    returns-4)
