@@ -1,6 +1,7 @@
 // One line of a sheet: reading a call, printing a reply.
 mod numbers;
 mod operand;
+mod print;
 
 ghost use mathlib.Core.Path.{_≡_};
 ghost use mathlib.Core.Bool.{true, false};
