@@ -8,3 +8,4 @@ pub mod Readers
 pub mod Operands
 pub mod Calls
 pub mod Writing
+pub mod Parts
