@@ -9,3 +9,4 @@ pub mod Operands
 pub mod Calls
 pub mod Writing
 pub mod Parts
+pub mod Answers

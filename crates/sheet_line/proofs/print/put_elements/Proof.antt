@@ -62,10 +62,13 @@ loop-again c =
     let lp = c .before .before .before .before .before .before .loop in
     let put = c .before .before .put-element in
     let xs = st .args .out .now in
-    let z : toZ w32 (ofZ w32 (getD xs (lp .i - 1) (pos 0))) ≡ getD xs (lp .i - 1) (pos 0) = toZ-ofZ (sfits-of (c .before .before .before .before .z .given)) in
-    ( omega arith
-    , ( part-put decimal xs (pos 0) (lp .i) (lp .i - 1) (omega arith) (omega arith) (st .args .text .now) (lp .text) (put .last .0) (put .result) (lp .at) (st .args .end) (st .pre .1) (lp .inv .1 .0) (rw z at (put .ensures))
-      , put .kept .0 ∙ lp .inv .1 .1 ) )
+    let z : toZ w32 (ofZ w32 (getD xs (lp .i - 1) (pos 0))) ≡ getD xs (lp .i - 1) (pos 0) = toZ-ofZ (sfits-of (c .before .before .before .before .z .given)) in (
+      omega arith,
+      (
+        part-put decimal xs (pos 0) (lp .i) (lp .i - 1) (omega arith) (omega arith) (st .args .text .now) (lp .text) (put .last .0) (put .result) (lp .at) (st .args .end) (st .pre .1) (lp .inv .1 .0) (rw z at (put .ensures)),
+        put .kept .0 ∙ lp .inv .1 .1,
+      ),
+    )
 
 -- src/print.rt:124:1
 same-length : tie.Need-same-length Inv-loop μ-loop

@@ -60,10 +60,13 @@ loop-again c =
     let st = c .before .before .before .before .before .before .before .before .before in
     let lp = c .before .before .before .before .before .before .loop in
     let put = c .before .before .put-part in
-    let xs = st .args .lens .now in
-    ( omega arith
-    , ( part-put digits xs 0 (lp .i) (lp .i - 1) (omega arith) (omega arith) (st .args .text .now) (lp .text) (put .last .0) (put .result) (lp .at) (st .args .end) (st .pre .1) (lp .inv .1 .0) (put .ensures)
-      , put .kept .0 ∙ lp .inv .1 .1 ) )
+    let xs = st .args .lens .now in (
+      omega arith,
+      (
+        part-put digits xs 0 (lp .i) (lp .i - 1) (omega arith) (omega arith) (st .args .text .now) (lp .text) (put .last .0) (put .result) (lp .at) (st .args .end) (st .pre .1) (lp .inv .1 .0) (put .ensures),
+        put .kept .0 ∙ lp .inv .1 .1,
+      ),
+    )
 
 -- src/print.rt:110:1
 same-length : tie.Need-same-length Inv-loop μ-loop
