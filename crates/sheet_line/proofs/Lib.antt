@@ -7,6 +7,3 @@ pub mod Cursor
 pub mod Readers
 pub mod Operands
 pub mod Calls
-pub mod Writing
-pub mod Parts
-pub mod Answers

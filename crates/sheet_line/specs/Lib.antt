@@ -1,5 +1,4 @@
 pub mod Text
 pub mod Numbers
 pub mod Call
-pub mod Answer
 pub mod Steps

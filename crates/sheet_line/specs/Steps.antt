@@ -1,6 +1,6 @@
 -- What the private functions' contracts cite: a place in a line, and what was taken from it.
-use Prim.Native.Nat.{ℕ, _+_}
-use mathlib.Core.List.{List, [], _∷_, _++_}
+use Prim.Native.Nat.{ℕ}
+use mathlib.Core.List.{List, [], _∷_}
 use mathlib.Core.Path.{_≡_}
 use mathlib.Core.Option.{Option, none, some}
 use mathlib.Core.Bool.{Bool, true, false, cond}
@@ -32,8 +32,3 @@ pub record Taken (line : List ℕ) (at : ℕ) (before after : List ℤ) (o : Ope
   pub read : andThen (left line at) (operand (room before)) ≡ got (o .good) (record { lengths = counted (o .shape); elements = take (count (counted (o .shape))) after }) (left line (o .next))
   pub shape : o .shape ≡ shapeOf (counted (o .shape))
   pub stored : o .good ≡ true → after ≡ front (take (count (counted (o .shape))) after) before
-
--- Some bytes were written to a text, from `start` up to `end`.
-pub record Written (before after : List ℕ) (start end : ℕ) (bytes : List ℕ) : Type 0 where
-  pub place : start + length bytes ≡ end
-  pub text : after ≡ take start before ++ (bytes ++ drop end before)

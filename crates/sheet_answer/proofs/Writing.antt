@@ -1,0 +1,83 @@
+-- Text written from its end to its start.
+use Prim.Native.Nat.{ℕ, zero, suc, _+_, _*_, _-_, _/_, _%_, _≤_, _<_, _^_}
+use native.Mathlib.Omega.{arith}
+use native.Mathlib.Nat.{pow-succ'}
+use native.Mathlib.Decide.{decLt}
+use mathlib.Core.Path.{_≡_, refl, sym, ap, _∙_}
+use mathlib.Core.List.{List, [], _∷_, _++_, append-assoc, append-nil, map}
+use lib.ListN.{length, take, drop, set, length-append, take-append-drop}
+use lib.Seq.{set-split, take-append-le, take-take, drop-at, length-take-le, append-snoc}
+use Rattle.sheet_line.specs.Text.{digit, digits}
+use Rattle.sheet_answer.specs.Steps.{Written}
+use Rattle.sheet_line.proofs.Digits.{digits-one, digits-more}
+
+pub write-none : (t : List ℕ) (e : ℕ) → Written t t e e []
+write-none t e = record { place = omega arith; text = sym (take-append-drop e t) }
+
+pub write-byte : (t : List ℕ) (j e b : ℕ) → e ≡ suc j → e ≤ length t → Written t (set t j b) j e (b ∷ [])
+write-byte t j e b h k = record { place = omega arith; text = rw h (set-split t j b (omega arith)) }
+
+-- More bytes before those that were written.
+pub write-more : (t₀ t₁ t₂ : List ℕ) (j i e : ℕ) (vs ws : List ℕ) → e ≤ length t₀ → Written t₀ t₁ i e ws → Written t₁ t₂ j i vs → Written t₀ t₂ j e (vs ++ ws)
+write-more t₀ t₁ t₂ j i e vs ws h p q =
+    let a = p .place in
+    let b = q .place in
+    let long : length (take i t₀) ≡ i = length-take-le i t₀ (omega arith) in
+    let front : take j t₁ ≡ take j t₀ = rw (p .text, take-append-le j (take i t₀) (ws ++ drop e t₀) (omega arith)) (take-take j i t₀ (omega arith)) in
+    let back : drop i t₁ ≡ ws ++ drop e t₀ = rw (p .text) (drop-at (take i t₀) (ws ++ drop e t₀) i long) in
+    record {
+      place = rw (length-append vs ws) (omega arith);
+      text = q .text ∙ rw (front, back, append-assoc vs ws (drop e t₀));
+    }
+
+-- The number of digits.
+pub digits-some : (n : ℕ) → 0 < length (digits n)
+digits-some n = by-case (decLt n 10)
+  where
+    by-case : Dec (n < 10) → 0 < length (digits n)
+    by-case (yes h) = rw (digits-one n h) (omega arith)
+    by-case (no h) = rw (digits-more n (omega arith), length-append (digits (n / 10)) (digit (n % 10) ∷ [])) (omega arith)
+
+pub width-more : (n : ℕ) → 10 ≤ n → length (digits n) ≡ length (digits (n / 10)) + 1
+width-more n h = rw (digits-more n h) (length-append (digits (n / 10)) (digit (n % 10) ∷ []))
+
+pub width-one : (n : ℕ) → n < 10 → length (digits n) ≡ 1
+width-one n h = rw (digits-one n h)
+
+width-case : (k n : ℕ) → n < 10 ^ suc (suc k) → (n / 10 < 10 ^ suc k → length (digits (n / 10)) ≤ suc k) → Dec (n < 10) → length (digits n) ≤ suc (suc k)
+width-case k n h shorter (yes q) = omega (arith, width-one n q)
+width-case k n h shorter (no q) = omega (arith, width-more n (omega arith), shorter (omega (arith, pow-succ' 10 (suc k))))
+
+pub width-most : (k n : ℕ) → n < 10 ^ suc k → length (digits n) ≤ suc k
+width-most zero n h = omega (arith, width-one n h)
+width-most (suc k) n h = width-case k n h (width-most k (n / 10)) (decLt n 10)
+
+-- The digits of n, of which those of `rest` are still to be written.
+pub record Spelt (before text : List ℕ) (i end n rest : ℕ) : Type 0 where
+  pub tail : List ℕ
+  pub spelt : digits rest ++ tail ≡ digits n
+  pub written : Written before text i end tail
+  pub kept : length text ≡ length before
+
+pub spell-none : (t : List ℕ) (end n : ℕ) → Spelt t t end end n n
+spell-none t end n = record { tail = []; spelt = append-nil (digits n); written = write-none t end; kept = refl }
+
+module _ (before text : List ℕ) (i end n rest : ℕ) (s : Spelt before text i end n rest) where
+  pub spell-room : length (digits n) ≤ end → 0 < i
+  spell-room h =
+      let l : length (digits rest) + length (s .tail) ≡ length (digits n) = sym (length-append (digits rest) (s .tail)) ∙ ap length (s .spelt) in
+      let p = s .written .place in
+      let q = digits-some rest in
+      omega arith
+
+  module _ (after : List ℕ) (j : ℕ) (h : end ≤ length before) where
+    pub spell-more : 10 ≤ rest → Written text after j i (digit (rest % 10) ∷ []) → length after ≡ length text → Spelt before after j end n (rest / 10)
+    spell-more k w l = record {
+      tail = digit (rest % 10) ∷ s .tail;
+      spelt = sym (append-snoc (digits (rest / 10)) (digit (rest % 10)) (s .tail)) ∙ rw (← digits-more rest k) (s .spelt);
+      written = write-more before text after j i end (digit (rest % 10) ∷ []) (s .tail) h (s .written) w;
+      kept = l ∙ s .kept;
+    }
+
+    pub spell-last : rest < 10 → Written text after j i (digit rest ∷ []) → Written before after j end (digits n)
+    spell-last k w = rw (← s .spelt, digits-one rest k) (write-more before text after j i end (digit rest ∷ []) (s .tail) h (s .written) w)

@@ -1,0 +1,86 @@
+use Prim.Native.Nat.{_+_, _≤_}
+use mathlib.Core.Path.{_≡_}
+use mathlib.Core.List.{[], _∷_, _++_}
+use native.Mathlib.Omega.{arith}
+use lib.ListN.{length}
+use Rattle.sheet_line.specs.Text.{newline, blank, digits}
+use Rattle.sheet_answer.specs.Answer.{noLine}
+use Rattle.sheet_answer.proofs.Writing.{write-more}
+use Rattle.sheet_answer.proofs.Answers.{no-room, all-printed, no-text, no-length}
+use borrow.Author.Needs.{needs}
+use Rattle.sheet_answer.proofs.answer.print_no.Statement.{statement}
+use Rattle.sheet_answer.proofs.answer.print_no.Tie as tie
+use Rattle.sheet_answer.proofs.answer.print_no.Reads as reads
+use Rattle.sheet_answer.proofs.answer.print_no.Lts as lts
+use Rattle.sheet_answer.proofs.print.put_byte.Reads as put-byte-reads
+use Rattle.sheet_answer.proofs.print.put_head.Reads as put-head-reads
+use Rattle.sheet_answer.proofs.print.put_part.Reads as put-part-reads
+use Rattle.sheet_answer.proofs.print.width.Reads as width-reads
+
+-- src/answer.rt:24:16
+width-requires : tie.Need-width-requires
+width-requires c κs = search needs
+
+-- src/answer.rt:24:30
+width-requires-2 : tie.Need-width-requires-2
+width-requires-2 c κs = search needs
+
+-- src/answer.rt:24:16
+add-need : tie.Need-add-need
+add-need c = search needs
+
+-- src/answer.rt:24:16
+add-need-2 : tie.Need-add-need-2
+add-need-2 c = search needs
+
+-- src/answer.rt:26:9
+returns : tie.Need-returns
+returns c =
+    let st = c .before .before .before .before in
+    no-room (noLine (st .args .line) (st .args .refusal)) (st .args .text .now) (omega (arith, no-length (st .args .line) (st .args .refusal), c .before .before .width .ensures .0, c .before .width2 .ensures .0))
+
+-- src/answer.rt:28:9
+put-byte-requires : tie.Need-put-byte-requires
+put-byte-requires c κs = search needs
+
+-- src/answer.rt:29:9
+put-part-requires : tie.Need-put-part-requires
+put-part-requires c κs = search needs
+
+-- src/answer.rt:30:5
+put-head-requires : tie.Need-put-head-requires
+put-head-requires c κs = search needs
+
+-- src/answer.rt:20:1
+same-length : tie.Need-same-length
+same-length c = search needs
+
+-- src/answer.rt:20:1
+returns-2 : tie.Need-returns-2
+returns-2 c =
+    let st = c .before .before .before .before .before .before .before .before .before .before .before .before .before .before .before .before in
+    let t = st .args .text .now in
+    let need = c .before .before .before .before .before .before .before .before .before .before .before .before .before .before .width .result + c .before .before .before .before .before .before .before .before .before .before .before .before .before .width2 .result + 5 in
+    let long : need ≡ length (noLine (st .args .line) (st .args .refusal)) = omega (arith, no-length (st .args .line) (st .args .refusal), c .before .before .before .before .before .before .before .before .before .before .before .before .before .before .width .ensures .0, c .before .before .before .before .before .before .before .before .before .before .before .before .before .width2 .ensures .0) in
+    let room : need ≤ length t = c .before .before .before .before .before .before .before .before .before .before .before .before .if1 .left in
+    let e = c .before .before .before .before .before .before .before .before .before .before .put-byte in
+    let p = c .before .before .before .before .before .before .put-part in
+    let h = c .before .before .put-head in
+    let one = write-more t (e .last .0) (p .last .0) (p .result) (e .result) need (blank ∷ digits (st .args .refusal)) (newline ∷ []) room (e .ensures) (p .ensures) in
+    let all = write-more t (p .last .0) (h .last .0) (h .result) (p .result) need (digits (st .args .line) ++ blank ∷ 110 ∷ 111 ∷ []) ((blank ∷ digits (st .args .refusal)) ++ newline ∷ []) room one (h .ensures) in
+    all-printed (noLine (st .args .line) (st .args .refusal)) t (h .last .0) (h .result) need long room (rw (no-text (st .args .line) (st .args .refusal)) all)
+
+pub print-no-spec : {M : Type 1} → statement M
+print-no-spec =
+    tie.close
+    (tie.spec
+    width-requires
+    width-requires-2
+    add-need
+    add-need-2
+    returns
+    put-byte-requires
+    put-part-requires
+    put-head-requires
+    same-length
+    returns-2)

@@ -1,0 +1,55 @@
+use mathlib.Core.List.{[], _∷_}
+use Rattle.sheet_line.specs.Text.{blank, digits}
+use Rattle.sheet_answer.proofs.Writing.{write-more}
+use borrow.Author.Needs.{needs}
+use Rattle.sheet_answer.proofs.print.put_head.Statement.{statement}
+use Rattle.sheet_answer.proofs.print.put_head.Tie as tie
+use Rattle.sheet_answer.proofs.print.put_head.Reads as reads
+use Rattle.sheet_answer.proofs.print.put_head.Lts as lts
+use Rattle.sheet_answer.proofs.print.put_byte.Reads as put-byte-reads
+use Rattle.sheet_answer.proofs.print.put_digits.Reads as put-digits-reads
+
+-- src/print.rt:143:9
+put-byte-requires : tie.Need-put-byte-requires
+put-byte-requires c κs = search needs
+
+-- src/print.rt:144:9
+put-byte-requires-2 : tie.Need-put-byte-requires-2
+put-byte-requires-2 c κs = search needs
+
+-- src/print.rt:145:9
+put-byte-requires-3 : tie.Need-put-byte-requires-3
+put-byte-requires-3 c κs = search needs
+
+-- src/print.rt:146:5
+put-digits-requires : tie.Need-put-digits-requires
+put-digits-requires c κs = search needs
+
+-- src/print.rt:139:1
+same-length : tie.Need-same-length
+same-length c = search needs
+
+-- src/print.rt:139:1
+returns : tie.Need-returns
+returns c =
+    let st = c .before .before .before .before .before .before .before .before .before .before .before .before .before .before .before .before .before in
+    let t = st .args .text .now in
+    let end = st .args .end in
+    let p = c .before .before .before .before .before .before .before .before .before .before .before .before .before .before .put-byte in
+    let q = c .before .before .before .before .before .before .before .before .before .before .put-byte2 in
+    let r = c .before .before .before .before .before .before .put-byte3 in
+    let d = c .before .before .put-digits in
+    let two = write-more t (p .last .0) (q .last .0) (q .result) (p .result) end (st .args .a ∷ []) (st .args .b ∷ []) (st .pre .1) (p .ensures) (q .ensures) in
+    let three = write-more t (q .last .0) (r .last .0) (r .result) (q .result) end (blank ∷ []) (st .args .a ∷ st .args .b ∷ []) (st .pre .1) two (r .ensures) in
+    write-more t (r .last .0) (d .last .0) (d .result) (r .result) end (digits (st .args .line)) (blank ∷ st .args .a ∷ st .args .b ∷ []) (st .pre .1) three (d .ensures)
+
+pub put-head-spec : {M : Type 1} → statement M
+put-head-spec =
+    tie.close
+    (tie.spec
+    put-byte-requires
+    put-byte-requires-2
+    put-byte-requires-3
+    put-digits-requires
+    same-length
+    returns)

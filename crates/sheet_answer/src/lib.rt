@@ -1,0 +1,48 @@
+// The answer to one line of a sheet, printed.
+mod answer;
+mod print;
+
+ghost use mathlib.Core.Path.{_≡_};
+ghost use lib.ListN.{length};
+ghost use Rattle.sheet_line.specs.Call.{front};
+ghost use Rattle.sheet_answer.specs.Answer.{badLine, replyLine, fitted};
+use answer::print_no;
+use answer::print_ok;
+use print::put_byte;
+use print::put_head;
+use print::width;
+use shape::Shape;
+
+// The answer to a bad line.
+pub fn print_bad(line_number: u64, text: &mut [u8]) -> usize
+    ensures count { λ n. ⌜ n ≡ length (fitted (badLine «line_number») (now (text .entry))) ⌝ }
+    ensures text { λ n. ⌜ now (text .exit) ≡ front (fitted (badLine «line_number») (now (text .entry))) (now (text .entry)) ⌝ }
+{
+    let line = line_number as usize;
+    let need = width(line) + 5;
+    if text.len() < need {
+        return 0;
+    }
+    let end = put_byte(text, need, b'\n');
+    let head = put_byte(text, end, b'd');
+    put_head(text, head, line, b'b', b'a');
+    need
+}
+
+// The answer to a call's reply: its number, and for number 0 its shape and the buffer that holds the elements.
+pub fn print_reply(
+    line_number: u64,
+    number: usize,
+    shape: Shape,
+    out: &[i32],
+    text: &mut [u8],
+) -> usize
+    ensures count { λ n. ⌜ n ≡ length (fitted (replyLine «line_number» number (record { shape = shape; buffer = now (out .entry) })) (now (text .entry))) ⌝ }
+    ensures text { λ n. ⌜ now (text .exit) ≡ front (fitted (replyLine «line_number» number (record { shape = shape; buffer = now (out .entry) })) (now (text .entry))) (now (text .entry)) ⌝ }
+{
+    let line = line_number as usize;
+    if number == 0 {
+        return print_ok(line, shape, out, text);
+    }
+    print_no(line, number, text)
+}

@@ -1,0 +1,147 @@
+// Text written from its end to its start, so that a digit is written as soon as it is known. Each function gives the place where its bytes start.
+ghost use mathlib.Core.Path.{_≡_};
+ghost use Prim.Native.Nat.{suc, _+_, _*_, _≤_, _<_};
+ghost use mathlib.Core.List.{[], _∷_, _++_, map};
+ghost use lib.ListN.{length, take};
+ghost use Rattle.shape.specs.Shape.{maxRank, maxCount};
+ghost use Rattle.sheet_line.specs.Text.{blank, digits, decimal, following};
+ghost use Rattle.sheet_answer.specs.Steps.{Written};
+
+pub fn put_byte(text: &mut [u8], end: usize, b: u8) -> usize
+    requires { ⌜ (0 < end) × (end ≤ length (now text)) ⌝ }
+    ensures { λ r. ⌜ Written (now (text .entry)) (now (text .exit)) r end (b ∷ []) ⌝ }
+{
+    let at = end - 1;
+    text[at] = b;
+    at
+}
+
+// How many digits a number has.
+pub fn width(n: usize) -> usize
+    ensures digits { λ r. ⌜ r ≡ length (digits n) ⌝ }
+    ensures bound { λ r. ⌜ r ≤ 20 ⌝ }
+{
+    let mut k = 1;
+    let mut rest = n;
+    while 10 <= rest {
+        rest /= 10;
+        k += 1;
+    }
+    k
+}
+
+pub fn put_digits(text: &mut [u8], end: usize, n: usize) -> usize
+    requires { ⌜ (length (digits n) ≤ end) × (end ≤ length (now text)) ⌝ }
+    ensures { λ r. ⌜ Written (now (text .entry)) (now (text .exit)) r end (digits n) ⌝ }
+{
+    let mut i = end;
+    let mut rest = n;
+    while 10 <= rest {
+        let d = (rest % 10) as u8;
+        i = put_byte(text, i, b'0' + d);
+        rest /= 10;
+    }
+    let d = rest as u8;
+    put_byte(text, i, b'0' + d)
+}
+
+// A blank and a number from 0 up.
+pub fn put_part(text: &mut [u8], end: usize, n: usize) -> usize
+    requires { ⌜ (suc (length (digits n)) ≤ end) × (end ≤ length (now text)) ⌝ }
+    ensures { λ r. ⌜ Written (now (text .entry)) (now (text .exit)) r end (blank ∷ digits n) ⌝ }
+{
+    let at = put_digits(text, end, n);
+    put_byte(text, at, b' ')
+}
+
+// The bytes of a blank and an element.
+fn element_width(z: i32) -> usize
+    ensures digits { λ r. ⌜ r ≡ suc (length (decimal z)) ⌝ }
+    ensures bound { λ r. ⌜ r ≤ 22 ⌝ }
+{
+    let size = signed::size(z);
+    let n = width(size);
+    if signed::negative(z) { n + 2 } else { n + 1 }
+}
+
+fn put_element(text: &mut [u8], end: usize, z: i32) -> usize
+    requires { ⌜ (suc (length (decimal z)) ≤ end) × (end ≤ length (now text)) ⌝ }
+    ensures { λ r. ⌜ Written (now (text .entry)) (now (text .exit)) r end (blank ∷ decimal z) ⌝ }
+{
+    let size = signed::size(z);
+    if signed::negative(z) {
+        let digits = put_digits(text, end, size);
+        let sign = put_byte(text, digits, b'-');
+        return put_byte(text, sign, b' ');
+    }
+    put_part(text, end, size)
+}
+
+pub fn lengths_width(lens: &[usize]) -> usize
+    requires { ⌜ length (now lens) ≤ maxRank ⌝ }
+    ensures digits { λ r. ⌜ r ≡ length (following (map digits (now (lens .entry)))) ⌝ }
+    ensures bound { λ r. ⌜ r ≤ 22 * maxRank ⌝ }
+{
+    let mut sum = 0;
+    let mut i = lens.len();
+    while 0 < i {
+        i -= 1;
+        let n = lens[i];
+        sum += width(n) + 1;
+    }
+    sum
+}
+
+pub fn elements_width(out: &[i32]) -> usize
+    requires { ⌜ length (now out) ≤ maxCount ⌝ }
+    ensures digits { λ r. ⌜ r ≡ length (following (map decimal (now (out .entry)))) ⌝ }
+    ensures bound { λ r. ⌜ r ≤ 22 * maxCount ⌝ }
+{
+    let mut sum = 0;
+    let mut i = out.len();
+    while 0 < i {
+        i -= 1;
+        let z = out[i];
+        sum += element_width(z);
+    }
+    sum
+}
+
+pub fn put_lengths(text: &mut [u8], end: usize, lens: &[usize]) -> usize
+    requires { ⌜ (length (following (map digits (now lens))) ≤ end) × (end ≤ length (now text)) ⌝ }
+    ensures { λ r. ⌜ Written (now (text .entry)) (now (text .exit)) r end (following (map digits (now (lens .entry)))) ⌝ }
+{
+    let mut at = end;
+    let mut i = lens.len();
+    while 0 < i {
+        i -= 1;
+        let n = lens[i];
+        at = put_part(text, at, n);
+    }
+    at
+}
+
+pub fn put_elements(text: &mut [u8], end: usize, out: &[i32]) -> usize
+    requires { ⌜ (length (following (map decimal (now out))) ≤ end) × (end ≤ length (now text)) ⌝ }
+    ensures { λ r. ⌜ Written (now (text .entry)) (now (text .exit)) r end (following (map decimal (now (out .entry)))) ⌝ }
+{
+    let mut at = end;
+    let mut i = out.len();
+    while 0 < i {
+        i -= 1;
+        let z = out[i];
+        at = put_element(text, at, z);
+    }
+    at
+}
+
+// The line number, a blank and the bytes a and b.
+pub fn put_head(text: &mut [u8], end: usize, line: usize, a: u8, b: u8) -> usize
+    requires { ⌜ (length (digits line) + 3 ≤ end) × (end ≤ length (now text)) ⌝ }
+    ensures { λ r. ⌜ Written (now (text .entry)) (now (text .exit)) r end (digits line ++ blank ∷ a ∷ b ∷ []) ⌝ }
+{
+    let second = put_byte(text, end, b);
+    let first = put_byte(text, second, a);
+    let start = put_byte(text, first, b' ');
+    put_digits(text, start, line)
+}
