@@ -38,14 +38,14 @@ fn whole(negative: bool, size: usize, next: usize) -> Number
         return no_number();
     }
     if size == MAX_SIZE {
-        if negative {
-            return Number {
-                good: true,
-                value: -2147483648,
-                next,
-            };
+        if !negative {
+            return no_number();
         }
-        return no_number();
+        return Number {
+            good: true,
+            value: -2147483648,
+            next,
+        };
     }
     let n = size as i32;
     let value = if negative { 0 - n } else { n };

@@ -1,3 +1,4 @@
+use borrow.Author.Tests.{not-true, not-false}
 use mathlib.Core.Bool.{true, false}
 use mathlib.Core.Path.{_≡_, _∙_}
 use native.Mathlib.Omega.{arith}
@@ -24,17 +25,21 @@ no-number-requires c κs = search needs
 returns : tie.Need-returns
 returns c = c .no-number .ensures ∙ rw (size-over (c .before .before .args .negative) (c .before .before .args .size) (c .before .if1 .taken))
 
--- src/numbers.rt:40:13
-returns-2 : tie.Need-returns-2
-returns-2 c = rw (least (c .before .before .before .args .negative) (c .before .before .before .args .size) (c .if3 .taken) (c .before .if2 .taken))
-
--- src/numbers.rt:46:9
+-- src/numbers.rt:41:13
 no-number-requires-2 : tie.Need-no-number-requires-2
 no-number-requires-2 c κs = search needs
 
--- src/numbers.rt:46:9
+-- src/numbers.rt:41:13
+returns-2 : tie.Need-returns-2
+returns-2 c =
+    let st = c .before .before .before .before in
+    c .no-number2 .ensures ∙ rw (no-largest (st .args .negative) (st .args .size) (not-true (st .args .negative) (c .before .if3 .taken)) (c .before .before .if2 .taken))
+
+-- src/numbers.rt:43:9
 returns-3 : tie.Need-returns-3
-returns-3 c = c .no-number2 .ensures ∙ rw (no-largest (c .before .before .before .before .args .negative) (c .before .before .before .before .args .size) (c .before .if3 .left) (c .before .before .if2 .taken))
+returns-3 c =
+    let st = c .before .before .before in
+    rw (least (st .args .negative) (st .args .size) (not-false (st .args .negative) (c .if3 .left)) (c .before .if2 .taken))
 
 -- src/numbers.rt:48:13
 cast-n : tie.Need-cast-n
@@ -62,8 +67,8 @@ whole-spec =
     (tie.spec
     no-number-requires
     returns
-    returns-2
     no-number-requires-2
+    returns-2
     returns-3
     cast-n
     sub-value
