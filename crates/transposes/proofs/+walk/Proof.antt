@@ -1,0 +1,403 @@
+use Prim.Native.Nat.{ℕ, _+_, _*_, _-_, _/_, _≤_, _<_}
+use native.Mathlib.Nat.{mul-le-mul-right}
+use native.Mathlib.Omega.{arith}
+use mathlib.Core.Path.{_≡_, refl, sym, ap, _∙_}
+use lib.ListN.{length, getD}
+use denote.Ref.{now}
+use borrow.Author.Needs.{needs}
+use Rattle.shape.specs.Shape.{count}
+use Rattle.copying.proofs.Runs.{filled, length-filled}
+use Rattle.transposes.specs.Strides.{Walk}
+use Rattle.transposes.proofs.Walking.{others, others-fewer, part-room, reached, Rows, rows, walked-one, walked-line, walked-more, walked-all, filled-zero, reach-one, reach-line}
+use borrow.Fn.Kinds.{In}
+use borrow.Fn.PlainCycle.{Measures, is, falls, and}
+use Rattle.transposes.proofs.walk.Reads as walk
+use Rattle.transposes.proofs.walk.Kinds as walk-kinds
+use Rattle.transposes.proofs.+walk.Lts-walk as walk-lts
+use Rattle.transposes.proofs.line.Reads as line-reads
+use Rattle.transposes.proofs.+walk.{statement}
+use Rattle.transposes.proofs.+walk.Tie.{close}
+
+abbrev μ-walk : Measures 4 walk-kinds.ps ℕ
+μ-walk κs a = length (now (a .0))
+
+abbrev walk-at : ℕ → In 4 walk-kinds.ps
+walk-at t = and 4 walk-kinds.ps (is 4 walk-kinds.ps μ-walk t) walk.Pre
+
+abbrev walk-below : ℕ → In 4 walk-kinds.ps
+walk-below t = and 4 walk-kinds.ps (falls 4 walk-kinds.ps _<_ μ-walk t) walk.Pre
+
+abbrev walk-Inv-loop : walk-lts.InvT-loop
+walk-Inv-loop lens strides r at out₀ rank n stride size i₀ out i =
+    (i ≤ n) × ((length out ≡ length out₀) × (out ≡ filled (reached lens strides r at) (i * size) out₀))
+
+abbrev walk-μ-loop : walk-lts.MeasureT-loop
+walk-μ-loop lens strides r at out₀ rank n stride size i₀ out i = n - i
+
+-- What is known of the first axis and the others, and of the part that the turn fills.
+known : (t : ℕ) (c : walk-lts.Else2 (
+  line-reads.Asked,
+  line-reads.Learnt,
+  walk-below t,
+  walk.Post,
+) (walk-at t) walk.Post walk-Inv-loop walk-μ-loop)
+    → let a = c .before .before .before .before .before .before .args in Rows (a .lens .now) (a .strides .now) (a .at) (length (a .r .now)) (length (a .out .now))
+known t c =
+    let s = c .before .before .before .before .before .before in
+    rows _ _ _ _ _ (s .pre .1) (omega arith)
+
+turn : (t : ℕ) (c : walk-lts.In-loop (
+  line-reads.Asked,
+  line-reads.Learnt,
+  walk-below t,
+  walk.Post,
+) (walk-at t) walk.Post walk-Inv-loop walk-μ-loop)
+    → let a = c .before .before .before .before .before .before .before .before .args in
+    let size = length (a .out .now) / getD (a .lens .now) 0 0 in
+    (c .before .loop .i * size + size ≤ length (a .out .now)) × (a .at + c .before .loop .i * getD (a .strides .now) 0 0 < length (a .r .now))
+turn t c =
+    let a = c .before .before .before .before .before .before .before .before .args in
+    let k = known t (c .before .before) in
+    let z = count (others (length (a .lens .now)) (a .lens .now)) in (
+      rw (k .size) (omega (arith, k .whole, mul-le-mul-right {m = c .before .loop .i + 1} {n = getD (a .lens .now) 0 0} z (omega arith))),
+      k .from (c .before .loop .i) (omega arith),
+    )
+
+-- src/lib.rt:43:9
+walk-line-requires : (t : ℕ) → walk-lts.Need-line-requires (
+  line-reads.Asked,
+  line-reads.Learnt,
+  walk-below t,
+  walk.Post,
+) (walk-at t) walk.Post walk-Inv-loop walk-μ-loop
+walk-line-requires t c κs = reach-one _ _ _ _ _ (c .before .before .before .before .pre .1) (c .before .if1 .taken)
+
+-- src/lib.rt:44:9
+walk-same-length : (t : ℕ) → walk-lts.Need-same-length (
+  line-reads.Asked,
+  line-reads.Learnt,
+  walk-below t,
+  walk.Post,
+) (walk-at t) walk.Post walk-Inv-loop walk-μ-loop
+walk-same-length t c = search needs
+
+-- src/lib.rt:44:9
+walk-returns : (t : ℕ) → walk-lts.Need-returns (
+  line-reads.Asked,
+  line-reads.Learnt,
+  walk-below t,
+  walk.Post,
+) (walk-at t) walk.Post walk-Inv-loop walk-μ-loop
+walk-returns t c = 
+    let s = c .before .before .before .before .before .before in
+    c .before .line .ensures ∙ walked-one _ _ _ _ _ _ (s .pre .1) (c .before .before .before .if1 .taken)
+
+-- src/lib.rt:46:13
+walk-shared-slice-read-n : (t : ℕ) → walk-lts.Need-shared-slice-read-n (
+  line-reads.Asked,
+  line-reads.Learnt,
+  walk-below t,
+  walk.Post,
+) (walk-at t) walk.Post walk-Inv-loop walk-μ-loop
+walk-shared-slice-read-n t c = search needs
+
+-- src/lib.rt:47:18
+walk-shared-slice-read-stride : (t : ℕ) → walk-lts.Need-shared-slice-read-stride (
+  line-reads.Asked,
+  line-reads.Learnt,
+  walk-below t,
+  walk.Post,
+) (walk-at t) walk.Post walk-Inv-loop walk-μ-loop
+walk-shared-slice-read-stride t c = omega (arith, c .before .before .before .before .before .pre .1 .axes)
+
+-- src/lib.rt:49:9
+walk-line-requires-2 : (t : ℕ) → walk-lts.Need-line-requires-2 (
+  line-reads.Asked,
+  line-reads.Learnt,
+  walk-below t,
+  walk.Post,
+) (walk-at t) walk.Post walk-Inv-loop walk-μ-loop
+walk-line-requires-2 t c κs = reach-line _ _ _ _ _ (c .before .before .before .before .before .before .before .pre .1) (c .before .if2 .taken)
+
+-- src/lib.rt:50:9
+walk-same-length-2 : (t : ℕ) → walk-lts.Need-same-length-2 (
+  line-reads.Asked,
+  line-reads.Learnt,
+  walk-below t,
+  walk.Post,
+) (walk-at t) walk.Post walk-Inv-loop walk-μ-loop
+walk-same-length-2 t c = search needs
+
+-- src/lib.rt:50:9
+walk-returns-2 : (t : ℕ) → walk-lts.Need-returns-2 (
+  line-reads.Asked,
+  line-reads.Learnt,
+  walk-below t,
+  walk.Post,
+) (walk-at t) walk.Post walk-Inv-loop walk-μ-loop
+walk-returns-2 t c = 
+    let s = c .before .before .before .before .before .before .before .before .before in
+    c .before .line2 .ensures ∙ walked-line _ _ _ _ _ _ (s .pre .1) (c .before .before .before .if2 .taken)
+
+-- src/lib.rt:52:16
+walk-div-size : (t : ℕ) → walk-lts.Need-div-size (
+  line-reads.Asked,
+  line-reads.Learnt,
+  walk-below t,
+  walk.Post,
+) (walk-at t) walk.Post walk-Inv-loop walk-μ-loop
+walk-div-size t c = known t c .first
+
+-- src/lib.rt:54:5
+walk-loop-holds : (t : ℕ) → walk-lts.Need-loop-holds (
+  line-reads.Asked,
+  line-reads.Learnt,
+  walk-below t,
+  walk.Post,
+) (walk-at t) walk.Post walk-Inv-loop walk-μ-loop
+walk-loop-holds t c = (omega arith, (refl, filled-zero _ _ _))
+
+-- src/lib.rt:55:25
+walk-mul-from : (t : ℕ) → walk-lts.Need-mul-from (
+  line-reads.Asked,
+  line-reads.Learnt,
+  walk-below t,
+  walk.Post,
+) (walk-at t) walk.Post walk-Inv-loop walk-μ-loop
+walk-mul-from t c = omega (arith, turn t c .1)
+
+-- src/lib.rt:55:20
+walk-add-from : (t : ℕ) → walk-lts.Need-add-from (
+  line-reads.Asked,
+  line-reads.Learnt,
+  walk-below t,
+  walk.Post,
+) (walk-at t) walk.Post walk-Inv-loop walk-μ-loop
+walk-add-from t c = omega (arith, turn t c .1)
+
+-- src/lib.rt:56:21
+walk-mul-start : (t : ℕ) → walk-lts.Need-mul-start (
+  line-reads.Asked,
+  line-reads.Learnt,
+  walk-below t,
+  walk.Post,
+) (walk-at t) walk.Post walk-Inv-loop walk-μ-loop
+walk-mul-start t c = omega (arith, turn t c .0)
+
+-- src/lib.rt:57:19
+walk-add-end : (t : ℕ) → walk-lts.Need-add-end (
+  line-reads.Asked,
+  line-reads.Learnt,
+  walk-below t,
+  walk.Post,
+) (walk-at t) walk.Post walk-Inv-loop walk-μ-loop
+walk-add-end t c = omega (arith, turn t c .0)
+
+-- src/lib.rt:58:14
+walk-sub-walk : (t : ℕ) → walk-lts.Need-sub-walk (
+  line-reads.Asked,
+  line-reads.Learnt,
+  walk-below t,
+  walk.Post,
+) (walk-at t) walk.Post walk-Inv-loop walk-μ-loop
+walk-sub-walk t c = search needs
+
+-- src/lib.rt:58:14
+walk-part-walk-start : (t : ℕ) → walk-lts.Need-part-walk-start (
+  line-reads.Asked,
+  line-reads.Learnt,
+  walk-below t,
+  walk.Post,
+) (walk-at t) walk.Post walk-Inv-loop walk-μ-loop
+walk-part-walk-start t c = search needs
+
+-- src/lib.rt:58:14
+walk-part-walk-end : (t : ℕ) → walk-lts.Need-part-walk-end (
+  line-reads.Asked,
+  line-reads.Learnt,
+  walk-below t,
+  walk.Post,
+) (walk-at t) walk.Post walk-Inv-loop walk-μ-loop
+walk-part-walk-end t c = search needs
+
+-- src/lib.rt:58:30
+walk-sub-walk-2 : (t : ℕ) → walk-lts.Need-sub-walk-2 (
+  line-reads.Asked,
+  line-reads.Learnt,
+  walk-below t,
+  walk.Post,
+) (walk-at t) walk.Post walk-Inv-loop walk-μ-loop
+walk-sub-walk-2 t c = search needs
+
+-- src/lib.rt:58:30
+walk-part-walk-start-2 : (t : ℕ) → walk-lts.Need-part-walk-start-2 (
+  line-reads.Asked,
+  line-reads.Learnt,
+  walk-below t,
+  walk.Post,
+) (walk-at t) walk.Post walk-Inv-loop walk-μ-loop
+walk-part-walk-start-2 t c = search needs
+
+-- src/lib.rt:58:30
+walk-part-walk-end-2 : (t : ℕ) → walk-lts.Need-part-walk-end-2 (
+  line-reads.Asked,
+  line-reads.Learnt,
+  walk-below t,
+  walk.Post,
+) (walk-at t) walk.Post walk-Inv-loop walk-μ-loop
+walk-part-walk-end-2 t c = omega (arith, c .before .before .before .before .before .before .before .before .before .pre .1 .axes)
+
+-- src/lib.rt:58:58
+walk-mul-walk : (t : ℕ) → walk-lts.Need-mul-walk (
+  line-reads.Asked,
+  line-reads.Learnt,
+  walk-below t,
+  walk.Post,
+) (walk-at t) walk.Post walk-Inv-loop walk-μ-loop
+walk-mul-walk t c = omega (arith, turn t (c .before .before) .0)
+
+-- src/lib.rt:58:58
+walk-sub-walk-3 : (t : ℕ) → walk-lts.Need-sub-walk-3 (
+  line-reads.Asked,
+  line-reads.Learnt,
+  walk-below t,
+  walk.Post,
+) (walk-at t) walk.Post walk-Inv-loop walk-μ-loop
+walk-sub-walk-3 t c = search needs
+
+-- src/lib.rt:58:58
+walk-part-walk-start-3 : (t : ℕ) → walk-lts.Need-part-walk-start-3 (
+  line-reads.Asked,
+  line-reads.Learnt,
+  walk-below t,
+  walk.Post,
+) (walk-at t) walk.Post walk-Inv-loop walk-μ-loop
+walk-part-walk-start-3 t c = search needs
+
+-- src/lib.rt:58:58
+walk-part-walk-end-3 : (t : ℕ) → walk-lts.Need-part-walk-end-3 (
+  line-reads.Asked,
+  line-reads.Learnt,
+  walk-below t,
+  walk.Post,
+) (walk-at t) walk.Post walk-Inv-loop walk-μ-loop
+walk-part-walk-end-3 t c = omega (arith, turn t (c .before .before) .0, c .before .before .before .loop .inv .1 .0)
+
+-- src/lib.rt:58:9
+walk-walk-requires : (t : ℕ) → walk-lts.Need-walk-requires (
+  line-reads.Asked,
+  line-reads.Learnt,
+  walk-below t,
+  walk.Post,
+) (walk-at t) walk.Post walk-Inv-loop walk-μ-loop
+walk-walk-requires t c κs = 
+    let s = c .before .before .before .before .before .before .before .before .before .before .before in
+    let lp = c .before .before .before .before .loop in
+    let l = c .before .before .before in
+    let k = known t (l .before .before) in (
+      omega (arith, others-fewer (s .args .lens .now) (omega arith), s .pre .0),
+      k .inner (lp .i) _ (omega arith) (part-room (lp .out) _ _ _ (lp .inv .1 .0) (turn t l .0) ∙ k .size),
+    )
+
+-- src/lib.rt:59:9
+walk-add-i : (t : ℕ) → walk-lts.Need-add-i (
+  line-reads.Asked,
+  line-reads.Learnt,
+  walk-below t,
+  walk.Post,
+) (walk-at t) walk.Post walk-Inv-loop walk-μ-loop
+walk-add-i t c =
+    let l = c .before .before .before .before .before in
+    omega (arith, l .loop-test, known t (l .before .before) .few)
+
+-- src/lib.rt:54:5
+walk-loop-less : (t : ℕ) → walk-lts.Need-loop-less (
+  line-reads.Asked,
+  line-reads.Learnt,
+  walk-below t,
+  walk.Post,
+) (walk-at t) walk.Post walk-Inv-loop walk-μ-loop
+walk-loop-less t c = search needs
+
+-- src/lib.rt:54:5
+walk-loop-again : (t : ℕ) → walk-lts.Need-loop-again (
+  line-reads.Asked,
+  line-reads.Learnt,
+  walk-below t,
+  walk.Post,
+) (walk-at t) walk.Post walk-Inv-loop walk-μ-loop
+walk-loop-again t c = 
+    let l = c .before .before .before .before .before in
+    let lp = l .before .loop in
+    let s = l .before .before .before .before .before .before .before .before in
+    let a = s .args in
+    let k = known t (l .before .before) in
+    let more = walked-more (a .lens .now) (a .strides .now) (a .r .now) (lp .out) (a .out .now) _ (a .at) (lp .i) _ _ (omega arith) (s .pre .1 .axes) (k .size) (lp .inv .1 .1) refl (c .before .walk .ensures) in
+    (omega arith, (ap length more ∙ length-filled _ _ (a .out .now) (omega (arith, turn t l .0)), more))
+
+-- src/lib.rt:37:1
+walk-same-length-3 : (t : ℕ) → walk-lts.Need-same-length-3 (
+  line-reads.Asked,
+  line-reads.Learnt,
+  walk-below t,
+  walk.Post,
+) (walk-at t) walk.Post walk-Inv-loop walk-μ-loop
+walk-same-length-3 t c = search needs
+
+-- src/lib.rt:37:1
+walk-returns-3 : (t : ℕ) → walk-lts.Need-returns-3 (
+  line-reads.Asked,
+  line-reads.Learnt,
+  walk-below t,
+  walk.Post,
+) (walk-at t) walk.Post walk-Inv-loop walk-μ-loop
+walk-returns-3 t c =
+    let lp = c .before .loop in
+    let s = c .before .before .before .before .before .before .before .before in
+    let a = s .args in
+    let k = known t (c .before .before) in
+    let e : lp .i ≡ getD (a .lens .now) 0 0 = omega arith in
+    walked-all (a .lens .now) (a .strides .now) (a .r .now) (lp .out) (a .out .now) (a .at) (lp .i) _
+    (rw (e, k .size) (sym (k .whole) ∙ s .pre .1 .whole)) (s .pre .1 .whole) (lp .inv .1 .1)
+
+pub +walk-spec : {M : Type 1} → statement M
++walk-spec = close μ-walk λ t. walk-lts.spec (
+  line-reads.Asked,
+  line-reads.Learnt,
+  walk-below t,
+  walk.Post,
+)
+    (walk-at t)
+    walk.Post
+    walk-Inv-loop
+    walk-μ-loop
+    (walk-line-requires t)
+    (walk-same-length t)
+    (walk-returns t)
+    (walk-shared-slice-read-n t)
+    (walk-shared-slice-read-stride t)
+    (walk-line-requires-2 t)
+    (walk-same-length-2 t)
+    (walk-returns-2 t)
+    (walk-div-size t)
+    (walk-loop-holds t)
+    (walk-mul-from t)
+    (walk-add-from t)
+    (walk-mul-start t)
+    (walk-add-end t)
+    (walk-sub-walk t)
+    (walk-part-walk-start t)
+    (walk-part-walk-end t)
+    (walk-sub-walk-2 t)
+    (walk-part-walk-start-2 t)
+    (walk-part-walk-end-2 t)
+    (walk-mul-walk t)
+    (walk-sub-walk-3 t)
+    (walk-part-walk-start-3 t)
+    (walk-part-walk-end-3 t)
+    (walk-walk-requires t)
+    (walk-add-i t)
+    (walk-loop-less t)
+    (walk-loop-again t)
+    (walk-same-length-3 t)
+    (walk-returns-3 t)

@@ -1,0 +1,96 @@
+use Prim.Native.Nat.{_+_, _*_, _-_, _≤_}
+use native.Mathlib.Omega.{arith}
+use mathlib.Core.Path.{_≡_, refl}
+use lib.IntN.{pos}
+use lib.ListN.{length, getD, length-set}
+use mir.Syntax.{w32}
+use mir.Val.{toZ, ofZ}
+use mir.Facts.{toZ-ofZ}
+use borrow.Author.Needs.{needs, sfits-of}
+use Rattle.copying.proofs.Runs.{filled, filled-none, filled-one}
+use Rattle.transposes.proofs.Walking.{spaced-filled}
+use Rattle.transposes.proofs.spread.Statement.{statement}
+use Rattle.transposes.proofs.spread.Tie as tie
+
+abbrev Inv-loop : tie.InvT-loop
+Inv-loop stride r at out₀ n i₀ out i = (i ≤ n) × ((length out ≡ length out₀) × (out ≡ filled (λ j. getD r (at + j * stride) (pos 0)) i out₀))
+
+abbrev μ-loop : tie.MeasureT-loop
+μ-loop stride r at out₀ n i₀ out i = n - i
+
+-- src/lib.rt:16:5
+loop-holds : tie.Need-loop-holds Inv-loop μ-loop
+loop-holds c = (omega arith, (search needs, filled-none _ _))
+
+-- src/lib.rt:17:25
+mul-from : tie.Need-mul-from Inv-loop μ-loop
+mul-from c = omega (arith, c .before .before .pre (c .before .loop .i) (omega arith))
+
+-- src/lib.rt:17:20
+add-from : tie.Need-add-from Inv-loop μ-loop
+add-from c = omega (arith, c .before .before .pre (c .before .loop .i) (omega arith))
+
+-- src/lib.rt:18:18
+mul-out : tie.Need-mul-out Inv-loop μ-loop
+mul-out c = omega (arith, c .before .before .pre (c .before .loop .i) (omega arith))
+
+-- src/lib.rt:18:18
+shared-slice-copy-out-out : tie.Need-shared-slice-copy-out-out Inv-loop μ-loop
+shared-slice-copy-out-out c = omega (arith, c .before .before .pre (c .before .loop .i) (omega arith))
+
+-- src/lib.rt:18:9
+mul-t12 : tie.Need-mul-t12 Inv-loop μ-loop
+mul-t12 c = search needs
+
+-- src/lib.rt:18:9
+slice-set-from-out : tie.Need-slice-set-from-out Inv-loop μ-loop
+slice-set-from-out c = search needs
+
+-- src/lib.rt:19:9
+add-i : tie.Need-add-i Inv-loop μ-loop
+add-i c = search needs
+
+-- src/lib.rt:16:5
+loop-less : tie.Need-loop-less Inv-loop μ-loop
+loop-less c = search needs
+
+-- src/lib.rt:16:5
+loop-again : tie.Need-loop-again Inv-loop μ-loop
+loop-again c =
+    let s = c .before .before .before in
+    let lp = c .before .before .loop in
+    let r = s .args .r .now in
+    let from = s .args .at + lp .i * s .args .stride in
+    let e : toZ w32 (ofZ w32 (getD r from (pos 0))) ≡ getD r from (pos 0) = toZ-ofZ (sfits-of (c .out .given)) in (
+      omega arith,
+      (simp length-set (lp .inv .1 .0), rw (e, lp .inv .1 .1) (filled-one _ (pos 0) _ (lp .i) (s .args .out .now) (omega arith) refl)),
+    )
+
+-- src/lib.rt:10:1
+same-length : tie.Need-same-length Inv-loop μ-loop
+same-length c = search needs
+
+-- src/lib.rt:10:1
+returns : tie.Need-returns Inv-loop μ-loop
+returns c =
+    let e : c .before .loop .i ≡ length (c .before .before .args .out .now) = omega arith in
+    spaced-filled _ _ (c .before .before .args .r .now) (c .before .before .args .at) _ (c .before .before .args .out .now) e (c .before .loop .inv .1 .1)
+
+pub spread-spec : {M : Type 1} → statement M
+spread-spec =
+    tie.close
+    (tie.spec
+    Inv-loop
+    μ-loop
+    loop-holds
+    mul-from
+    add-from
+    mul-out
+    shared-slice-copy-out-out
+    mul-t12
+    slice-set-from-out
+    add-i
+    loop-less
+    loop-again
+    same-length
+    returns)
