@@ -15,6 +15,7 @@ use Rattle.shape.proofs.Places.{In}
 use Rattle.shape.proofs.Axis.{in-length, in-at, in-from}
 use Rattle.meaning.specs.Array.{Array, at, tab, build}
 use Rattle.meaning.specs.Primitives.{sentTo, smallest, axesTo, sentLengths, broughtBack, backwards}
+use Rattle.meaning.proofs.Sent.{length-back, getD-back, sent-has, sent-from, axes-lt, axes-le, length-shape, getD-shape, broughtBack-in}
 use Rattle.meaning.proofs.Tab.{length-tab, getD-tab}
 use Rattle.meaning.proofs.Arrays.{Whole, build-lengths, at-build, build-ext, build-whole}
 use Rattle.laws.specs.Words.{Permutes, occurs}
@@ -24,32 +25,13 @@ use Rattle.laws.proofs.Permuted.{OneToOne, permuted-occurs, permuted-co
 unfoldable pub transposed : List ℕ → Array → Array
 transposed ts a = build (sentLengths ts (a .lengths)) (λ p. at a (broughtBack ts p))
 
-pub length-back : (ts q : List ℕ) → length (broughtBack ts q) ≡ length ts
-unfolding broughtBack
-length-back [] q = refl
-length-back (t ∷ ts) q = ap suc (length-back ts q)
-
-pub getD-back : (ts q : List ℕ) (i : ℕ) → i < length ts → getD (broughtBack ts q) i 0 ≡ getD q (getD ts i 0) 0
-unfolding broughtBack
-getD-back [] q i h = absurd (not-suc-le-zero h)
-getD-back (t ∷ ts) q zero h = refl
-getD-back (t ∷ ts) q (suc i) h = getD-back ts q i (le-of-suc-le-suc h)
-
 -- Two lists one after the other.
 pub back-back : (ts us q : List ℕ) → ((i : ℕ) → i < length ts → getD ts i 0 < length us) → broughtBack ts (broughtBack us q) ≡ broughtBack (broughtBack ts us) q
 unfolding broughtBack
 back-back [] us q h = refl
 back-back (t ∷ ts) us q h = ap₂ _∷_ (getD-back us q t (h zero (omega arith))) (back-back ts us q (λ i l. h (suc i) (omega arith)))
 
--- The smallest is at most each, and it is one of them.
-smallest-le : (ns : List ℕ) (i : ℕ) → i < length ns → smallest ns ≤ getD ns i 0
-unfolding smallest
-smallest-le [] i h = absurd (not-suc-le-zero h)
-smallest-le (n ∷ []) zero h = omega arith
-smallest-le (n ∷ []) (suc i) h = absurd (omega arith)
-smallest-le (n ∷ (m ∷ ns)) zero h = omega arith
-smallest-le (n ∷ (m ∷ ns)) (suc i) h = omega (arith, smallest-le (m ∷ ns) i (omega arith))
-
+-- The smallest is one of them.
 smallest-is : (n : ℕ) (ns : List ℕ) → (i : ℕ) × (i < suc (length ns)) × (smallest (n ∷ ns) ≡ getD (n ∷ ns) i 0)
 unfolding smallest
 smallest-is n [] = (0, omega arith, refl)
@@ -59,72 +41,6 @@ smallest-is n (m ∷ ns) = by (decLe n (smallest (m ∷ ns))) (smallest-is m ns)
         → (i : ℕ) × (i < suc (suc (length ns))) × (min n (smallest (m ∷ ns)) ≡ getD (n ∷ (m ∷ ns)) i 0)
     by (yes h) r = (0, omega arith, omega arith)
     by (no h) r = (suc (r .0), omega arith, omega arith)
-
--- What is sent to axis j: each length whose axis goes there, and no other.
-pub sent-has : (ts s : List ℕ) (i : ℕ) → length ts ≡ length s → i < length ts
-    → (l : ℕ) × (l < length (sentTo (getD ts i 0) ts s)) × (getD (sentTo (getD ts i 0) ts s) l 0 ≡ getD s i 0)
-unfolding sentTo
-sent-has [] s i e h = absurd (not-suc-le-zero h)
-sent-has (t ∷ ts) [] i e h = absurd (omega arith)
-sent-has (t ∷ ts) (n ∷ s) zero e h = rw (eq-eqb t t refl) (0, omega arith, refl)
-sent-has (t ∷ ts) (n ∷ s) (suc i) e h = by (eqb t (getD ts i 0)) (sent-has ts s i (omega arith) (omega arith))
-  where
-    by : (b : Bool) → (l : ℕ) × (l < length (sentTo (getD ts i 0) ts s)) × (getD (sentTo (getD ts i 0) ts s) l 0 ≡ getD s i 0)
-        → (l : ℕ) × (l < length (cond b (n ∷ sentTo (getD ts i 0) ts s) (sentTo (getD ts i 0) ts s))) × (getD (cond b (n ∷ sentTo (getD ts i 0) ts s) (sentTo (getD ts i 0) ts s)) l 0 ≡ getD s i 0)
-    by true r = (suc (r .0), omega arith, r .2)
-    by false r = r
-
-sent-from : (j : ℕ) (ts s : List ℕ) (l : ℕ) → l < length (sentTo j ts s)
-    → (i : ℕ) × (i < length ts) × (getD ts i 0 ≡ j) × (getD (sentTo j ts s) l 0 ≡ getD s i 0)
-unfolding sentTo
-sent-from j [] s l h = absurd (not-suc-le-zero h)
-sent-from j (t ∷ ts) [] l h = absurd (not-suc-le-zero h)
-sent-from j (t ∷ ts) (n ∷ s) l h = by (eqb t j) refl (sent-from j ts s) l h
-  where
-    by : (b : Bool) → eqb t j ≡ b
-        → ((l : ℕ) → l < length (sentTo j ts s) → (i : ℕ) × (i < length ts) × (getD ts i 0 ≡ j) × (getD (sentTo j ts s) l 0 ≡ getD s i 0))
-        → (l : ℕ) → l < length (cond b (n ∷ sentTo j ts s) (sentTo j ts s))
-        → (i : ℕ) × (i < suc (length ts)) × (getD (t ∷ ts) i 0 ≡ j) × (getD (cond b (n ∷ sentTo j ts s) (sentTo j ts s)) l 0 ≡ getD (n ∷ s) i 0)
-    by true e f zero h = (0, omega arith, eqb-true t j e, refl)
-    by true e f (suc l) h = let r = f l (omega arith) in (suc (r .0), omega arith, r .2, r .3)
-    by false e f l h = let r = f l h in (suc (r .0), omega arith, r .2, r .3)
-
-pub axes-lt : (ts : List ℕ) (i : ℕ) → i < length ts → getD ts i 0 < axesTo ts
-unfolding axesTo
-axes-lt [] i h = absurd (not-suc-le-zero h)
-axes-lt (t ∷ ts) zero h = omega arith
-axes-lt (t ∷ ts) (suc i) h = omega (arith, axes-lt ts i (omega arith))
-
-axes-le : (ts : List ℕ) (r : ℕ) → ((i : ℕ) → i < length ts → getD ts i 0 < r) → axesTo ts ≤ r
-unfolding axesTo
-axes-le [] r h = omega arith
-axes-le (t ∷ ts) r h = omega (arith, h zero (omega arith), axes-le ts r (λ i l. h (suc i) (omega arith)))
-
-pub length-shape : (ts s : List ℕ) → length (sentLengths ts s) ≡ axesTo ts
-unfolding sentLengths
-length-shape ts s = length-tab (axesTo ts) _
-
--- The length of a result axis, of any transposition.
-getD-shape : (ts s : List ℕ) (j : ℕ) → j < axesTo ts → getD (sentLengths ts s) j 0 ≡ smallest (sentTo j ts s)
-unfolding sentLengths
-getD-shape ts s j h = getD-tab (axesTo ts) _ j 0 h
-
--- A place of the result names a place of the array, also on a diagonal.
-pub broughtBack-in : (ts s q : List ℕ) → length ts ≡ length s → In (sentLengths ts s) q → In s (broughtBack ts q)
-broughtBack-in ts s q e h =
-    in-from s (broughtBack ts q) (length-back ts q ∙ e)
-    (λ i l.
-    let l′ : i < length ts = omega arith in
-    let j : ℕ = getD ts i 0 in
-    let r = sent-has ts s i e l′ in
-    omega (
-      arith,
-      getD-back ts q i l′,
-      in-at (sentLengths ts s) q j h (rw (length-shape ts s) (axes-lt ts i l′)),
-      getD-shape ts s j (axes-lt ts i l′),
-      smallest-le (sentTo j ts s) (r .0) (r .1),
-      r .2,
-    ))
 
 -- The first position of j in ts, its length where there is none.
 unfoldable pub find : ℕ → List ℕ → ℕ

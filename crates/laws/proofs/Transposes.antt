@@ -17,11 +17,12 @@ use Rattle.meaning.specs.Primitives.{sentTo, axesTo, sentLengths, broughtBack, 
 use Rattle.meaning.specs.Reply.{Reply, primitives, named, reply}
 use Rattle.meaning.proofs.Tab.{length-tab, getD-tab}
 use Rattle.meaning.proofs.Arrays.{Whole, build-lengths}
+use Rattle.meaning.proofs.Sent.{length-back, length-shape, sent-has}
 use Rattle.laws.specs.Words.{IsArray, IsOrigin, IsLong, given, Lists, Permutes, Sends, Transposition, by15, by26, callOf, leftOf, axesOf, sentOn}
 use Rattle.laws.specs.Laws.{TwoTranspositions, TranspositionKeeps}
 use Rattle.laws.proofs.Calls.{result, array-rule, form-whole, Gives, gives, same-arrays, as-often, listed, lists-array}
 use Rattle.laws.proofs.Permuted.{permuted-count}
-use Rattle.laws.proofs.Transposed.{transposed, length-back, length-shape, axes-is, shape-at, sent-has, broughtBack-one, transpose-occurs, permutes-broughtBack, transposed-transposed, permutes-backwards}
+use Rattle.laws.proofs.Transposed.{transposed, axes-is, shape-at, broughtBack-one, transpose-occurs, permutes-broughtBack, transposed-transposed, permutes-backwards}
 
 -- A test that each element passes, by position.
 every-from : {A : Type 0} (test : A → Bool) (xs : List A) (d : A) → ((i : ℕ) → i < length xs → test (getD xs i d) ≡ true) → every test xs ≡ true

@@ -5,3 +5,4 @@ pub mod Replies
 pub mod Scalars
 pub mod Modulo
 pub mod Positions
+pub mod Sent
