@@ -1,1 +1,5 @@
 pub mod Walking
+pub mod Sending
+pub mod Choosing
+pub mod Shortest
+pub mod Offsets

@@ -1,8 +1,18 @@
-// Transpositions, by strides.
+// Transpositions: 15 and 26. R's axis i goes to result axis t, and axes sent together give the diagonal.
 ghost use mathlib.Core.Path.{_≡_};
-ghost use Prim.Native.Nat.{ℕ, _+_, _*_, _<_};
-ghost use lib.ListN.{length};
-ghost use Rattle.transposes.specs.Strides.{spaced, walked, Walk};
+ghost use mathlib.Core.List.{_++_, map};
+ghost use Prim.Native.Nat.{ℕ, _+_, _*_, _-_, _≤_, _<_};
+ghost use lib.ListN.{length, getD, take, replicate};
+ghost use lib.IntN.{ℤ, pos, _-ℤ_};
+ghost use Rattle.shape.specs.Shape.{maxRank, counted, count};
+ghost use Rattle.meaning.specs.Array.{Operand, arrayOf};
+ghost use Rattle.meaning.specs.Primitives.{backwards};
+ghost use Rattle.meaning.specs.Reply.{reply};
+ghost use Rattle.answer.specs.Answer.{lent, Replied};
+ghost use Rattle.transposes.specs.Strides.{strides, sentStrides, shortest, spaced, walked, Walk};
+ghost use Rattle.transposes.specs.Sent.{padded, axisOf, Chosen, Sends, Positive, Moves, sentReply};
+use answer::Answer;
+use shape::Shape;
 
 // Elements of r that stand `stride` apart, from the one at `at` on.
 fn spread(stride: usize, r: &[i32], at: usize, out: &mut [i32])
@@ -56,4 +66,97 @@ fn walk(lens: &[usize], strides: &[usize], r: &[i32], at: usize, out: &mut [i32]
         walk(&lens[1..rank], &strides[1..rank], r, from, &mut out[start..end]);
         i += 1;
     }
+}
+
+// 15 sends axis i to rank - 1 - i.
+fn backwards(rank: usize) -> [usize; Shape::MAX_RANK]
+    requires { ⌜ rank ≤ maxRank ⌝ }
+    ensures { λ to. ⌜ to ≡ padded (backwards rank) ⌝ }
+{
+    let mut to = [0; Shape::MAX_RANK];
+    let mut i = 0;
+    while i < rank {
+        to[i] = rank - 1 - i;
+        i += 1;
+    }
+    to
+}
+
+// The axes to which L's elements send R's, and one more than the largest of them.
+struct Sent {
+    axes: usize,
+    to: [usize; Shape::MAX_RANK],
+}
+
+// An element that is no axis counts as the axis after the last.
+fn chosen(g: i32, l: &[i32]) -> Sent
+    requires { ⌜ length (now l) ≤ maxRank ⌝ }
+    ensures { λ s. ⌜ Chosen (map (axisOf g (length (now (l .entry)))) (now (l .entry))) (s .axes) (s .to) ⌝ }
+{
+    let rank = l.len();
+    let mut to = [0; Shape::MAX_RANK];
+    let mut axes = 0;
+    let mut i = 0;
+    while i < rank {
+        let t = signed::position(l[i], g, rank);
+        to[i] = t;
+        if axes <= t {
+            axes = t + 1;
+        }
+        i += 1;
+    }
+    Sent { axes, to }
+}
+
+// Of the lengths sent to each axis the smallest; one above the limit where none is sent.
+fn lengths(to: [usize; Shape::MAX_RANK], rs: Shape) -> [usize; Shape::MAX_RANK]
+    requires { ⌜ Sends (take (rs .rank) to) (rs .rank) ⌝ }
+    ensures { λ ns. ⌜ ns ≡ shortest maxRank (take (rs .rank) to) (counted rs) ⌝ }
+{
+    let mut lens = [Shape::MAX_COUNT + 1; Shape::MAX_RANK];
+    let mut i = rs.rank;
+    while 0 < i {
+        i -= 1;
+        let t = to[i];
+        let n = rs.lens[i];
+        if n < lens[t] {
+            lens[t] = n;
+        }
+    }
+    lens
+}
+
+// The strides in R of the axes sent to each axis, added up. No length of R is 0, so that no product is above R's count.
+fn strides(to: [usize; Shape::MAX_RANK], rs: Shape) -> [usize; Shape::MAX_RANK]
+    requires { ⌜ Sends (take (rs .rank) to) (rs .rank) × Positive (counted rs) ⌝ }
+    ensures { λ ws. ⌜ ws ≡ sentStrides maxRank (take (rs .rank) to) (strides (counted rs)) ⌝ }
+{
+    let mut sums = [0; Shape::MAX_RANK];
+    let mut step = 1;
+    let mut i = rs.rank;
+    while 0 < i {
+        i -= 1;
+        let t = to[i];
+        sums[t] = sums[t] + step;
+        step = step * rs.lens[i];
+    }
+    sums
+}
+
+// The result of a shape whose axes R's are sent to, if there is room.
+fn moved(to: [usize; Shape::MAX_RANK], shape: Shape, count: usize, rs: Shape, r: &[i32], out: &mut [i32]) -> Answer
+    requires { ⌜ Moves (take (rs .rank) to) shape count (lent rs (now r)) ⌝ }
+    ensures { λ a. ⌜ Replied a (now (out .exit)) (sentReply (take (rs .rank) to) (arrayOf (lent rs (now (r .entry)))) (now (out .entry))) ⌝ }
+{
+    if out.len() < count {
+        return Answer::refused(10);
+    }
+    if count == 0 {
+        return Answer { number: 0, shape };
+    }
+    let axes = shape.rank;
+    let lens = shape.lens;
+    let steps = strides(to, rs);
+    walk(&lens[0..axes], &steps[0..axes], r, 0, &mut out[0..count]);
+    Answer { number: 0, shape }
 }
