@@ -17,18 +17,12 @@ use Rattle.meaning.specs.Primitives.{sentTo, axesTo, sentLengths, broughtBack, 
 use Rattle.meaning.specs.Reply.{Reply, primitives, named, reply}
 use Rattle.meaning.proofs.Tab.{length-tab, getD-tab}
 use Rattle.meaning.proofs.Arrays.{Whole, build-lengths}
-use Rattle.meaning.proofs.Sent.{length-back, length-shape, sent-has}
+use Rattle.meaning.proofs.Sent.{length-back, length-shape, sent-has, Occur, all-occur}
 use Rattle.laws.specs.Words.{IsArray, IsOrigin, IsLong, given, Lists, Permutes, Sends, Transposition, by15, by26, callOf, leftOf, axesOf, sentOn}
 use Rattle.laws.specs.Laws.{TwoTranspositions, TranspositionKeeps}
 use Rattle.laws.proofs.Calls.{result, array-rule, form-whole, Gives, gives, same-arrays, as-often, listed, lists-array}
 use Rattle.laws.proofs.Permuted.{permuted-count}
 use Rattle.laws.proofs.Transposed.{transposed, axes-is, shape-at, broughtBack-one, transpose-occurs, permutes-broughtBack, transposed-transposed, permutes-backwards}
-
--- A test that each element passes, by position.
-every-from : {A : Type 0} (test : A → Bool) (xs : List A) (d : A) → ((i : ℕ) → i < length xs → test (getD xs i d) ≡ true) → every test xs ≡ true
-unfolding every
-every-from test [] d h = refl
-every-from test (x ∷ xs) d h = rw (h 0 (omega arith)) (every-from test xs d (λ i l. h (suc i) (omega arith)))
 
 -- An axis number less its origin.
 less-origin : (G : ℤ) (t : ℕ) → G +ℤ pos t -ℤ G ≡ pos t
@@ -51,15 +45,12 @@ sent-on (t ∷ ts) us = ap (λ q. getD us t 0 ∷ q) (sent-on ts us)
 
 module _ (ts : List ℕ) (P : Permutes (length ts) ts) where
   occur : allOccur ts ≡ true
-  unfolding allOccur
   occur =
-      every-from _ (tab (axesTo ts) (λ j. j)) 0
+      all-occur ts
       (λ j l.
-      let j< : j < axesTo ts = rw (length-tab (axesTo ts) (λ (j : ℕ). j)) at l in
       let w = P .each j (omega (arith, axes-is ts P)) in
       let s = sent-has ts ts (w .0) refl (w .1) in
-      let e : getD (tab (axesTo ts) (λ j. j)) j 0 ≡ getD ts (w .0) 0 = getD-tab (axesTo ts) (λ j. j) j 0 j< ∙ sym (w .2) in
-      rw (e, ne-eqb (length (sentTo (getD ts (w .0) 0) ts ts)) 0 (λ z. omega (arith, s .1))))
+      omega (arith, s .1, ap (λ i. length (sentTo i ts ts)) (w .2)))
 
   module _ (ns : List ℕ) (e : length ts ≡ length ns) where
     -- The lengths of the result keep the shape rule.

@@ -1,16 +1,19 @@
 -- Axes that are sent to others: what goes where, and the place that a place of the result names.
 use mathlib.Core.Path.{_≡_, refl, ap, _∙_}
 use mathlib.Core.List.{List, [], _∷_}
-use mathlib.Core.Bool.{Bool, true, false, cond}
+use mathlib.Core.Bool.{Bool, true, false, not, cond}
 use Prim.Native.Nat.{ℕ, zero, suc, _≤_, _<_, min}
 use native.Mathlib.Nat.{not-suc-le-zero, le-of-suc-le-suc}
 use native.Mathlib.Omega.{arith}
-use borrow.Author.Tests.{eq-eqb, eqb-true}
+use borrow.Author.Tests.{eq-eqb, ne-eqb, eqb-true}
 use lib.Dec.{eqb}
 use lib.ListN.{length, getD}
+use Rattle.shape.proofs.Bools.{both, no-way}
 use Rattle.shape.proofs.Places.{In}
 use Rattle.shape.proofs.Axis.{in-at, in-from}
-use Rattle.meaning.specs.Primitives.{sentTo, smallest, axesTo, sentLengths, broughtBack}
+use Rattle.meaning.specs.Array.{tab}
+use Rattle.meaning.specs.Terms.{every}
+use Rattle.meaning.specs.Primitives.{sentTo, smallest, axesTo, sentLengths, broughtBack, allOccur}
 use Rattle.meaning.proofs.Tab.{length-tab, getD-tab}
 
 pub length-back : (ts q : List ℕ) → length (broughtBack ts q) ≡ length ts
@@ -98,3 +101,40 @@ broughtBack-in ts s q e h =
       smallest-le (sentTo j ts s) (r .0) (r .1),
       r .2,
     ))
+
+-- A test that each element passes, by position.
+pub every-from : {A : Type 0} (test : A → Bool) (xs : List A) (d : A) → ((i : ℕ) → i < length xs → test (getD xs i d) ≡ true) → every test xs ≡ true
+unfolding every
+every-from test [] d h = refl
+every-from test (x ∷ xs) d h = rw (h 0 (omega arith)) (every-from test xs d (λ i l. h (suc i) (omega arith)))
+
+pub every-at : {A : Type 0} (test : A → Bool) (xs : List A) (d : A) → every test xs ≡ true → (i : ℕ) → i < length xs → test (getD xs i d) ≡ true
+unfolding every
+every-at test [] d h i l = absurd (not-suc-le-zero l)
+every-at test (x ∷ xs) d h zero l = both (test x) (every test xs) h .0
+every-at test (x ∷ xs) d h (suc i) l = every-at test xs d (both (test x) (every test xs) h .1) i (le-of-suc-le-suc l)
+
+-- An axis is sent to each of the result's: the test and the fact.
+abbrev pub Occur : List ℕ → Type 0
+Occur ts = (j : ℕ) → j < axesTo ts → 0 < length (sentTo j ts ts)
+
+occurs-at : (ts : List ℕ) (j : ℕ) → j < axesTo ts → getD (tab (axesTo ts) (λ j. j)) j 0 ≡ j
+occurs-at ts j h = getD-tab (axesTo ts) (λ j. j) j 0 h
+
+pub all-occur : (ts : List ℕ) → Occur ts → allOccur ts ≡ true
+unfolding allOccur
+all-occur ts o =
+    every-from _ (tab (axesTo ts) (λ j. j)) 0
+    (λ j l.
+    let l′ : j < axesTo ts = rw (length-tab (axesTo ts) (λ (j : ℕ). j)) at l in
+    rw (occurs-at ts j l′, ne-eqb (length (sentTo j ts ts)) 0 (λ z. omega (arith, o j l′))))
+
+pub occur-all : (ts : List ℕ) → allOccur ts ≡ true → Occur ts
+unfolding allOccur
+occur-all ts h j l =
+    let t = every-at (λ j. not (eqb (length (sentTo j ts ts)) 0)) (tab (axesTo ts) (λ j. j)) 0 h j (rw (length-tab (axesTo ts) (λ (j : ℕ). j)) l) in
+    some (length (sentTo j ts ts)) (rw (occurs-at ts j l) at t)
+  where
+    some : (n : ℕ) → not (eqb n 0) ≡ true → 0 < n
+    some zero e = no-way e
+    some (suc n) e = omega arith

@@ -3,3 +3,4 @@ pub mod Sending
 pub mod Choosing
 pub mod Shortest
 pub mod Offsets
+pub mod Transposing

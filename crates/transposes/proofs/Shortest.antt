@@ -17,13 +17,9 @@ use Rattle.shape.proofs.Counts.{small-not}
 use Rattle.meaning.specs.Array.{tab}
 use Rattle.meaning.specs.Primitives.{sentTo, smallest, axesTo, sentLengths}
 use Rattle.meaning.proofs.Tab.{length-tab, getD-tab, tab-ext, tab-none, tab-suc}
-use Rattle.meaning.proofs.Sent.{smallest-le, sent-has, axes-lt, length-shape, getD-shape}
+use Rattle.meaning.proofs.Sent.{smallest-le, sent-has, axes-lt, length-shape, getD-shape, Occur}
 use Rattle.transposes.specs.Strides.{shortest}
 use Rattle.transposes.proofs.Sending.{length-shortest, at-least}
-
--- An axis is sent to each of the result's.
-abbrev pub Occur : List ℕ → Type 0
-Occur ts = (j : ℕ) → j < axesTo ts → 0 < length (sentTo j ts ts)
 
 -- The smallest, or one above the limit where there is none.
 unfoldable least : List ℕ → ℕ

@@ -14,6 +14,55 @@ ghost use Rattle.transposes.specs.Sent.{padded, axisOf, Chosen, Sends, P
 use answer::Answer;
 use shape::Shape;
 
+// 15: axes in reverse order, whatever K and L are.
+pub fn transpose(g: i32, rs: Shape, r: &[i32], out: &mut [i32]) -> Answer
+    ensures { λ a. ⌜ ((K : ℤ) (L : Operand) → Replied a (now (out .exit)) (reply (pos 15) g K L (lent rs (now (r .entry))) (now (out .entry)))) ⌝ }
+{
+    let early = answer::early_one(g, rs, r);
+    if early != 0 {
+        return Answer::refused(early);
+    }
+    let rank = rs.rank;
+    let to = backwards(rank);
+    let lens = lengths(to, rs);
+    let shape = Shape::of_lengths(rank, lens);
+    let count = shape.count();
+    moved(to, shape, count, rs, r, out)
+}
+
+// 26: axis i goes to L's element i less G, whatever K is.
+pub fn transpose_by(g: i32, ls: Shape, l: &[i32], rs: Shape, r: &[i32], out: &mut [i32]) -> Answer
+    ensures {
+        λ a. ⌜ ((K : ℤ) → Replied a (now (out .exit)) (reply (pos 26) g K (lent ls (now (l .entry))) (lent rs (now (r .entry))) (now (out .entry)))) ⌝
+    }
+{
+    let early = answer::early_two(g, ls, l, rs, r);
+    if early != 0 {
+        return Answer::refused(early);
+    }
+    let rank = rs.rank;
+    if 1 < ls.rank {
+        return Answer::refused(4);
+    }
+    if ls.count() != rank {
+        return Answer::refused(6);
+    }
+    let sent = chosen(g, &l[0..rank]);
+    let axes = sent.axes;
+    if rank < axes {
+        return Answer::refused(7);
+    }
+    let to = sent.to;
+    let lens = lengths(to, rs);
+    let shape = Shape::of_lengths(axes, lens);
+    let count = shape.count();
+    // An axis to which none is sent has a length above the limit.
+    if Shape::MAX_COUNT < count {
+        return Answer::refused(7);
+    }
+    moved(to, shape, count, rs, r, out)
+}
+
 // Elements of r that stand `stride` apart, from the one at `at` on.
 fn spread(stride: usize, r: &[i32], at: usize, out: &mut [i32])
     requires { ⌜ ((i : ℕ) → i < length (now out) → at + i * stride < length (now r)) ⌝ }

@@ -1,0 +1,102 @@
+use borrow.Author.Needs.{needs}
+use native.Mathlib.Omega.{arith}
+use mathlib.Core.Path.{_≡_, sym, ap, _∙_}
+use mathlib.Core.Bool.{true}
+use lib.ListN.{length}
+use Rattle.shape.specs.Shape.{maxRank}
+use Rattle.meaning.specs.Array.{arrayOf, goodForm}
+use Rattle.signed.proofs.Reading.{read32}
+use Rattle.answer.specs.Answer.{lent, early}
+use Rattle.answer.proofs.Order.{early-reply, replied-refused}
+use Rattle.answer.proofs.Lent.{Lent, lent-good, early-fine}
+use Rattle.transposes.specs.Sent.{sentReply}
+use Rattle.transposes.proofs.Transposing.{replied-same, transpose-names, transpose-reply, backwards-is, backwards-sends, backwards-moves}
+use Rattle.transposes.proofs.transpose.Statement.{statement}
+use Rattle.transposes.proofs.transpose.Tie as tie
+
+-- FORM and ORIGIN, and what is known of R where neither was met.
+early-is : (c : tie.After-early-one) → c .early-one .result ≡ early (goodForm (lent (c .before .args .rs) (c .before .args .r .now))) (c .before .args .g)
+early-is c = c .early-one .ensures ∙ ap (early _) (read32 _ (c .before .fits .g))
+
+fine : (c : tie.Else1) → early (goodForm (lent (c .before .before .args .rs) (c .before .before .args .r .now))) (c .before .before .args .g) ≡ 0
+fine c = sym (early-is (c .before)) ∙ c .if1 .left
+
+form : (c : tie.Else1) → goodForm (lent (c .before .before .args .rs) (c .before .before .args .r .now)) ≡ true
+form c = early-fine (c .before .before .args .g) _ (fine c) .forms
+
+good : (c : tie.Else1) → Lent (c .before .before .args .rs) (c .before .before .args .r .now)
+good c =
+    let s = c .before .before .args .rs in
+    let long : length (s .lens) ≡ maxRank = search needs in
+    lent-good s (c .before .before .args .r .now) long (form c)
+
+-- src/lib.rt:21:9
+early-one-requires : tie.Need-early-one-requires
+early-one-requires c κs = search needs
+
+-- src/lib.rt:23:9
+refused-requires : tie.Need-refused-requires
+refused-requires c κs = search needs
+
+-- src/lib.rt:23:9
+returns : tie.Need-returns
+returns c K L =
+    let st = c .before .before .before in
+    replied-refused (c .refused .result) _ (st .args .out .now) (c .refused .ensures)
+    (early-reply (transpose-names (st .args .g) K L (lent (st .args .rs) (st .args .r .now))) (st .args .out .now) _ (early-is (c .before .before)) (c .before .if1 .taken))
+
+-- src/lib.rt:26:9
+backwards-requires : tie.Need-backwards-requires
+backwards-requires c κs =
+    good c .high
+
+-- src/lib.rt:27:9
+lengths-requires : tie.Need-lengths-requires
+lengths-requires c κs =
+    backwards-sends (c .before .before .before .args .rs) _ (c .backwards .ensures) (good (c .before) .high)
+
+-- src/lib.rt:28:9
+of-lengths-requires : tie.Need-of-lengths-requires
+of-lengths-requires c κs = search needs
+
+-- src/lib.rt:29:9
+count-requires : tie.Need-count-requires
+count-requires c κs = search needs
+
+-- src/lib.rt:30:5
+moved-requires : tie.Need-moved-requires
+moved-requires c κs =
+    let e = c .before .before .before .before .before in
+    let s = e .before .before in
+    backwards-moves (s .args .rs) _ (c .before .before .before .before .backwards .ensures) (good e .high) (s .args .r .now) _ _ _ (form e) (good e)
+    (c .before .before .before .lengths .ensures) (c .before .before .of-lengths .ensures) (c .before .count .ensures)
+
+-- src/lib.rt:18:1
+same-length : tie.Need-same-length
+same-length c = search needs
+
+-- src/lib.rt:18:1
+returns-2 : tie.Need-returns-2
+returns-2 c K L =
+    let e = c .before .before .before .before .before .before .before in
+    let s = e .before .before in
+    let b = backwards-is (s .args .rs) _ (c .before .before .before .before .before .before .backwards .ensures) (good e .high) in
+    replied-same
+    (transpose-reply (s .args .g) K L (s .args .rs) (s .args .r .now) (s .args .out .now) (form e) (good e) (fine e)
+    ∙ sym (ap (λ ts. sentReply ts (arrayOf (lent (s .args .rs) (s .args .r .now))) (s .args .out .now)) b))
+    (c .before .moved .ensures)
+
+pub transpose-spec : {M : Type 1} → statement M
+transpose-spec =
+    tie.close
+    (tie.spec
+    early-one-requires
+    refused-requires
+    returns
+    backwards-requires
+    lengths-requires
+    of-lengths-requires
+    count-requires
+    moved-requires
+    same-length
+    returns-2)
