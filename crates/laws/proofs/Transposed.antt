@@ -2,24 +2,23 @@
 use mathlib.Core.Path.{_≡_, refl, sym, ap, ap₂, _∙_}
 use mathlib.Core.List.{List, [], _∷_}
 use mathlib.Core.Bool.{Bool, true, false, cond}
-use Prim.Native.Nat.{ℕ, zero, suc, _+_, _-_, _≤_, _<_, min, max}
-use native.Mathlib.Nat.{not-suc-le-zero, le-of-suc-le-suc}
-use native.Mathlib.Decide.{ℕ-discrete, decLe}
+use Prim.Native.Nat.{ℕ, zero, suc, _-_, _≤_, _<_, min}
+use native.Mathlib.Nat.{not-suc-le-zero}
+use native.Mathlib.Decide.{decLe}
 use native.Mathlib.Omega.{arith}
-use borrow.Author.Tests.{eq-eqb, ne-eqb, eqb-true, eqb-false}
+use borrow.Author.Tests.{eqb-true, eqb-false}
 use lib.Dec.{eqb}
 use lib.ListN.{length, getD}
 use lib.Seq.{ext-getD}
-use lib.IntN.{ℤ, pos}
-use Rattle.shape.proofs.Places.{In}
+use lib.IntN.{ℤ}
 use Rattle.shape.proofs.Axis.{in-length, in-at, in-from}
 use Rattle.meaning.specs.Array.{Array, at, tab, build}
 use Rattle.meaning.specs.Primitives.{sentTo, smallest, axesTo, sentLengths, broughtBack, backwards}
 use Rattle.meaning.proofs.Sent.{length-back, getD-back, sent-has, sent-from, axes-lt, axes-le, length-shape, getD-shape, broughtBack-in}
 use Rattle.meaning.proofs.Tab.{length-tab, getD-tab}
-use Rattle.meaning.proofs.Arrays.{Whole, build-lengths, at-build, build-ext, build-whole}
+use Rattle.meaning.proofs.Arrays.{Whole, build-lengths, at-build, build-ext}
 use Rattle.laws.specs.Words.{Permutes, occurs}
-use Rattle.laws.proofs.Permuted.{OneToOne, permuted-occurs, permuted-count}
+use Rattle.laws.proofs.Permuted.{OneToOne, permuted-occurs}
 
 -- R's axis i goes to result axis ts i.
 unfoldable pub transposed : List ℕ → Array → Array

@@ -1,26 +1,24 @@
 -- Laws 3 and 6 of transpositions.
 use mathlib.Core.Path.{_≡_, refl, sym, ap, ap₂, subst, subst₂, _∙_}
 use mathlib.Core.List.{List, [], _∷_, map}
-use mathlib.Core.Bool.{Bool, true, false, not, cond, _&&_}
-use Prim.Native.Nat.{ℕ, zero, suc, _-_, _≤_, _<_}
+use mathlib.Core.Bool.{true, not, _&&_}
+use Prim.Native.Nat.{ℕ, suc, _-_, _≤_, _<_}
 use native.Mathlib.Omega.{arith}
-use native.Mathlib.Nat.{not-suc-le-zero, le-of-suc-le-suc}
-use borrow.Author.Tests.{le-leb, lt-ltb, eq-eqb, ne-eqb}
+use borrow.Author.Tests.{lt-ltb, eq-eqb}
 use lib.ListN.{length, getD, length-map}
-use lib.Dec.{eqb, ltb}
 use lib.IntN.{ℤ, pos, natAbs, _+ℤ_, _-ℤ_, +ℤ-comm, +ℤ-negℤ-cancel}
-use Rattle.shape.specs.Shape.{maxRank, maxCount, count, small, shapeRule}
+use Rattle.shape.specs.Shape.{maxCount, shapeRule}
 use Rattle.shape.proofs.Rule.{rule, rule-rank, rule-small, rule-count, small-at, small-from}
-use Rattle.meaning.specs.Array.{Operand, Array, arrayOf, tab}
+use Rattle.meaning.specs.Array.{Operand, Array, arrayOf}
 use Rattle.meaning.specs.Terms.{rank, eqZ, within, every}
-use Rattle.meaning.specs.Primitives.{sentTo, axesTo, sentLengths, broughtBack, backwards, transpose, allOccur, transposeBy}
-use Rattle.meaning.specs.Reply.{Reply, primitives, named, reply}
-use Rattle.meaning.proofs.Tab.{length-tab, getD-tab}
-use Rattle.meaning.proofs.Arrays.{Whole, build-lengths}
-use Rattle.meaning.proofs.Sent.{length-back, length-shape, sent-has, Occur, all-occur}
-use Rattle.laws.specs.Words.{IsArray, IsOrigin, IsLong, given, Lists, Permutes, Sends, Transposition, by15, by26, callOf, leftOf, axesOf, sentOn}
+use Rattle.meaning.specs.Primitives.{sentTo, sentLengths, broughtBack, backwards, transpose, allOccur, transposeBy}
+use Rattle.meaning.specs.Reply.{primitives, named, reply}
+use Rattle.meaning.proofs.Tab.{length-tab}
+use Rattle.meaning.proofs.Arrays.{build-lengths}
+use Rattle.meaning.proofs.Sent.{length-back, length-shape, sent-has, all-occur}
+use Rattle.laws.specs.Words.{IsArray, IsOrigin, IsLong, given, Permutes, Sends, Transposition, by15, by26, callOf, leftOf, axesOf, sentOn}
 use Rattle.laws.specs.Laws.{TwoTranspositions, TranspositionKeeps}
-use Rattle.laws.proofs.Calls.{result, array-rule, form-whole, Gives, gives, same-arrays, as-often, listed, lists-array}
+use Rattle.laws.proofs.Calls.{array-rule, form-whole, Gives, gives, same-arrays, as-often, listed, lists-array}
 use Rattle.laws.proofs.Permuted.{permuted-count}
 use Rattle.laws.proofs.Transposed.{transposed, axes-is, shape-at, broughtBack-one, transpose-occurs, permutes-broughtBack, transposed-transposed, permutes-backwards}
 

@@ -10,7 +10,6 @@ use lib.IntN.{ℤ, pos, natAbs, _-ℤ_}
 use native.Mathlib.Numerals.{add-one}
 use Rattle.shape.specs.Shape.{maxRank}
 use Rattle.shape.proofs.Padded.{padded-more}
-use Rattle.meaning.specs.Array.{tab}
 use Rattle.meaning.specs.Primitives.{axesTo, backwards}
 use Rattle.meaning.specs.Terms.{within}
 use Rattle.meaning.proofs.Positions.{within-lt}

@@ -1,30 +1,29 @@
 -- The place that a place of the result names stands in R where its positions times the strides add up to.
 use mathlib.Core.Path.{_≡_, refl, sym, ap, ap₂, _∙_}
 use mathlib.Core.List.{List, [], _∷_, _++_}
-use mathlib.Core.Bool.{true}
 use Prim.Native.Nat.{ℕ, zero, suc, _+_, _*_, _-_, _≤_, _<_}
 use native.Mathlib.Nat.{zero-add, sub-zero, mul-add, mul-zero}
 use native.Mathlib.Omega.{arith}
 use borrow.Author.Tests.{le-leb, lt-leb}
 use borrow.Rule.Slice.PartMut.{putMid}
-use lib.ListN.{length, getD, set, take, drop, replicate, drop-of-length-le}
+use lib.ListN.{length, getD, set, take, drop, replicate}
 use lib.Seq.{getD-take, length-take-le, take-at}
 use lib.IntN.{ℤ, pos}
 use Rattle.shape.specs.declared.Shape.{Shape}
 use Rattle.shape.specs.Shape.{maxRank, counted, count, shapeOf}
-use Rattle.shape.specs.Place.{inside, index, place}
+use Rattle.shape.specs.Place.{index, place}
 use Rattle.shape.proofs.Places.{In, inside-in, index-lt, place-in}
 use Rattle.shape.proofs.Axis.{in-length}
-use Rattle.meaning.specs.Array.{Array, arrayOf, at, tab, build}
+use Rattle.meaning.specs.Array.{arrayOf, at, tab, build}
 use Rattle.meaning.specs.Primitives.{axesTo, sentLengths, broughtBack}
-use Rattle.meaning.specs.Reply.{Reply, settle}
-use Rattle.meaning.proofs.Tab.{length-tab, tab-ext, tab-none}
+use Rattle.meaning.specs.Reply.{settle}
+use Rattle.meaning.proofs.Tab.{tab-ext, tab-none}
 use Rattle.meaning.proofs.Sent.{length-back, length-shape, broughtBack-in}
 use Rattle.answer.specs.declared.Answer.{Answer}
 use Rattle.answer.specs.Answer.{lent, refusal, Replied}
 use Rattle.answer.proofs.Lent.{Lent, lent-good}
 use Rattle.transposes.specs.Strides.{dot, strides, sentStrides, walked, Walk}
-use Rattle.transposes.specs.Sent.{Sends, Positive, Moves, sentReply}
+use Rattle.transposes.specs.Sent.{Positive, Moves, sentReply}
 use Rattle.transposes.proofs.Sending.{length-sent}
 use Rattle.transposes.proofs.Shortest.{lengths-pos}
 

@@ -1,13 +1,12 @@
 -- The two passes over R's axes, from the last to the first: the lengths and the strides that go to each axis of the result.
 use mathlib.Core.Path.{_≡_, refl, sym, ap, ap₂, _∙_}
-use mathlib.Core.List.{List, [], _∷_, _++_}
-use Prim.Native.Nat.{ℕ, zero, suc, _+_, _*_, _-_, _≤_, _<_, min, max}
-use native.Mathlib.Nat.{mul-comm, mul-le-mul-right, min-eq-left, min-eq-right}
+use mathlib.Core.List.{List, [], _∷_}
+use Prim.Native.Nat.{ℕ, zero, suc, _+_, _*_, _≤_, _<_, min}
+use native.Mathlib.Nat.{mul-comm}
 use native.Mathlib.Omega.{arith}
 use lib.ListN.{length, getD, set, take, drop, replicate, length-set, length-replicate, length-drop, drop-of-length-le}
 use lib.Seq.{drop-cons, getD-take, getD-drop, length-take-le, set-getD}
-use Rattle.shape.specs.Shape.{maxRank, maxCount, count}
-use Rattle.meaning.specs.Primitives.{axesTo}
+use Rattle.shape.specs.Shape.{maxCount, count}
 use Rattle.meaning.proofs.Sent.{axes-lt}
 use Rattle.transposes.specs.Strides.{strides, sentStrides, shortest}
 use Rattle.transposes.specs.Sent.{Sends, Positive}

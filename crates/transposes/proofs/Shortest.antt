@@ -1,22 +1,22 @@
 -- The lengths of a result, as the pass over R's axes finds them.
-use mathlib.Core.Path.{_≡_, refl, sym, ap, ap₂, _∙_}
-use mathlib.Core.List.{List, [], _∷_, _++_}
-use mathlib.Core.Bool.{Bool, true, false, not, cond, _&&_}
-use Prim.Native.Nat.{ℕ, zero, suc, _+_, _*_, _-_, _≤_, _<_, min, max}
-use native.Mathlib.Nat.{mul-comm, mul-assoc, mul-zero, zero-mul, mul-one, le-mul-of-pos-right, mul-le-mul-left, mul-le-mul-right, not-suc-le-zero, le-of-suc-le-suc}
+use mathlib.Core.Path.{_≡_, refl, sym, ap, _∙_}
+use mathlib.Core.List.{List, [], _∷_}
+use mathlib.Core.Bool.{Bool, true, false, cond}
+use Prim.Native.Nat.{ℕ, zero, suc, _*_, _≤_, _<_, min}
+use native.Mathlib.Nat.{mul-comm, mul-assoc, mul-zero, zero-mul, mul-le-mul-left, mul-le-mul-right}
 use native.Mathlib.Decide.{ℕ-discrete, decLe}
 use native.Mathlib.Omega.{arith}
-use borrow.Author.Tests.{eq-eqb, ne-eqb, eqb-true, eqb-false, leb-true, le-leb}
+use borrow.Author.Tests.{eq-eqb, ne-eqb, leb-true}
 use lib.Dec.{eqb, leb}
-use lib.ListN.{length, getD, set, take, drop, replicate, length-set, length-replicate, getD-replicate}
+use lib.ListN.{length, getD, set, take, getD-replicate}
 use lib.Seq.{ext-getD, getD-take, length-take-le, getD-set-same, getD-set-other}
-use Rattle.shape.specs.Shape.{maxRank, maxCount, count, small, shapeRule}
-use Rattle.shape.proofs.Bools.{both, no-way}
+use Rattle.shape.specs.Shape.{maxCount, count, small, shapeRule}
+use Rattle.shape.proofs.Bools.{both}
 use Rattle.shape.proofs.Rule.{small-at, small-from, rule, rule-rank, rule-small, rule-count}
 use Rattle.shape.proofs.Counts.{small-not}
 use Rattle.meaning.specs.Array.{tab}
 use Rattle.meaning.specs.Primitives.{sentTo, smallest, axesTo, sentLengths}
-use Rattle.meaning.proofs.Tab.{length-tab, getD-tab, tab-ext, tab-none, tab-suc}
+use Rattle.meaning.proofs.Tab.{tab-ext, tab-none, tab-suc}
 use Rattle.meaning.proofs.Sent.{smallest-le, sent-has, axes-lt, length-shape, getD-shape, Occur}
 use Rattle.transposes.specs.Strides.{shortest}
 use Rattle.transposes.proofs.Sending.{length-shortest, at-least}
@@ -159,7 +159,7 @@ one-factor (suc r) zero n f g h same more =
     (rw (← mul-assoc) (mul-le-mul-right (count (tab r (λ i. g (suc i)))) more))
 one-factor (suc r) (suc t) n f g h same more =
     let rest : count (tab r (λ i. f (suc i))) ≤ n * count (tab r (λ i. g (suc i))) =
-      one-factor r t n (λ i. f (suc i)) (λ i. g (suc i)) h (λ j z. same (suc j) (λ q. z (omega arith))) more in
+    one-factor r t n (λ i. f (suc i)) (λ i. g (suc i)) h (λ j z. same (suc j) (λ q. z (omega arith))) more in
     rw (tab-suc r f, tab-suc r g, same 0 (λ z. omega arith))
     (omega (arith, mul-le-mul-left (g 0) rest, left-comm (g 0) n (count (tab r (λ i. g (suc i))))))
 
@@ -201,6 +201,7 @@ module _ (ts ns : List ℕ) (e : length ts ≡ length ns) (o : Occur ts) where
     where
       same : count (sentLengths ts ns) ≡ count (tab (axesTo ts) (λ j. orOne (sentTo j ts ns)))
       same = ap count (sent-some ts ns e o)
+
       by : Dec (1 ≤ count (sentLengths ts ns)) → count (sentLengths ts ns) ≤ count ns
       by (yes p) = omega (arith, same, sent-count (axesTo ts) ts ns e (lengths-pos ts ns e p))
       by (no p) = omega arith

@@ -1,15 +1,14 @@
 -- What 15 and 26 give, as their code finds it.
 use mathlib.Core.Path.{_≡_, refl, sym, ap, ap₂, subst, _∙_}
 use mathlib.Core.List.{List, [], _∷_, _++_, map}
-use mathlib.Core.Bool.{Bool, true, false, not, cond, _&&_}
+use mathlib.Core.Bool.{Bool, true, false, cond, _&&_}
 use Prim.Native.Nat.{ℕ, zero, suc, _-_, _≤_, _<_}
 use native.Mathlib.Decide.{decLe}
 use native.Mathlib.Nat.{sub-zero}
 use native.Mathlib.Omega.{arith}
 use borrow.Author.Tests.{le-leb, lt-leb, eq-eqb, ne-eqb}
-use lib.ListN.{length, getD, take, drop, replicate, length-map}
-use lib.Seq.{take-at, length-take-le, take-all}
-use lib.Dec.{leb, eqb}
+use lib.ListN.{length, getD, take, drop, length-map}
+use lib.Seq.{take-at, length-take-le}
 use lib.IntN.{ℤ, pos, natAbs, _-ℤ_}
 use Rattle.shape.specs.declared.Shape.{Shape}
 use Rattle.shape.specs.Shape.{maxRank, maxCount, counted, count, countOf, goodShape, shapeRule, shapeOf, small, madeOf}
@@ -17,20 +16,19 @@ use Rattle.shape.proofs.Bools.{both, refuted, no-way, and-true}
 use Rattle.shape.proofs.Rule.{rule-small}
 use Rattle.shape.proofs.Counts.{good-count, count-good}
 use Rattle.meaning.specs.Array.{Operand, Array, arrayOf, at, build, goodForm}
-use Rattle.meaning.specs.Refusal.{Rule, number, meets, winner}
-use Rattle.meaning.specs.Terms.{rank, isList, eqZ, within, every}
+use Rattle.meaning.specs.Refusal.{number, meets, winner}
+use Rattle.meaning.specs.Terms.{rank, eqZ, within, every}
 use Rattle.meaning.specs.Primitives.{Meaning, sentTo, axesTo, sentLengths, broughtBack, backwards, transpose, allOccur, transposeBy}
 use Rattle.meaning.specs.Reply.{Reply, Primitive, primitives, named, reply, settle}
-use Rattle.meaning.proofs.Positions.{within-lt, positionOf, position-lt}
-use Rattle.meaning.proofs.Sent.{axes-lt, axes-le, sent-has, length-shape, Occur, all-occur, occur-all}
+use Rattle.meaning.proofs.Positions.{within-lt, position-lt}
+use Rattle.meaning.proofs.Sent.{axes-lt, axes-le, sent-has, Occur, all-occur, occur-all}
 use Rattle.answer.specs.declared.Answer.{Answer}
 use Rattle.answer.specs.Answer.{lent, ownOrder, own, Replied}
 use Rattle.answer.proofs.Lent.{Lent, count-of}
 use Rattle.answer.proofs.Order.{Names, earlyOf, space-reply, given-reply}
 use Rattle.transposes.specs.Strides.{shortest}
 use Rattle.transposes.specs.Sent.{padded, axisOf, Chosen, Sends, Moves, sentReply}
-use Rattle.transposes.proofs.Sending.{length-shortest}
-use Rattle.transposes.proofs.Choosing.{length-backwards, getD-backwards, axesOf}
+use Rattle.transposes.proofs.Choosing.{length-backwards, getD-backwards}
 use Rattle.transposes.proofs.Shortest.{lengths-found, lengths-missing, lengths-rule}
 
 -- Past FORM, ORIGIN and its own refusals a transposition meets SPACE or gives its result.
@@ -322,7 +320,7 @@ module _ (G : ℤ) (ls : Shape) (l : List ℤ) (rs : Shape) (r : List ℤ) (gl :
               unfolding transposeBy
               sent-by-reply K out fine =
                   let e : map (λ z. natAbs (z -ℤ G)) (left .elements) ≡ take (rs .rank) to =
-                    ap (map (λ z. natAbs (z -ℤ G))) xs-is ∙ sym named-is ∙ sym to-is in
+                  ap (map (λ z. natAbs (z -ℤ G))) xs-is ∙ sym named-is ∙ sym to-is in
                   sent-reply (by-names G K (lent ls l) (lent rs r)) out fine (by-none G left right one-list as-many (domain-by ∙ all-occur ts occurs)) (take (rs .rank) to)
                   (ap (λ x. sentLengths x (counted rs)) e) (ap (λ x p. at right (broughtBack x p)) e)
                   (rw to-is (lengths-rule ts (counted rs) (ts-length ∙ sym (gr .rank-is)) occurs (rs .rank) few-ts (gr .good)))

@@ -1,6 +1,6 @@
 -- A walk by strides: along one axis, and axis by axis.
 use mathlib.Core.Path.{_≡_, refl, sym, ap, ap₂, _∙_}
-use mathlib.Core.List.{List, [], _∷_, _++_, append-nil}
+use mathlib.Core.List.{List, [], _∷_, append-nil}
 use mathlib.Core.Bool.{true}
 use Prim.Native.Nat.{ℕ, zero, suc, _+_, _*_, _-_, _/_, _%_, _≤_, _<_}
 use native.Mathlib.Nat.{add-zero, add-assoc, mul-one, div-one, mul-div-cancel-left, le-mul-of-pos-right, zero-mul, mul-zero}
@@ -104,7 +104,7 @@ rows (n ∷ ns) (w ∷ ws) at m room k h =
     let f : others (suc (length ns)) (w ∷ ws) ≡ ws = others-is (suc (length ns)) w ws (omega (arith, k .axes)) in
     let b = both-pos n (count ns) room (k .some) (k .whole) in
     let inward : (i : ℕ) → i < n → (p : List ℕ) → inside ns p ≡ true → at + (i * w + dot p ws) < m =
-      λ i l p q. k .reach (i ∷ p) (in-inside (n ∷ ns) (i ∷ p) (l, inside-in ns p q)) in
+    λ i l p q. k .reach (i ∷ p) (in-inside (n ∷ ns) (i ∷ p) (l, inside-in ns p q)) in
     record {
       first = b .0;
       few = omega (arith, k .whole, le-mul-of-pos-right {m = count ns} n (b .1));

@@ -1,7 +1,7 @@
 -- Where a transposition sends R's axes, as its code holds it.
-use Prim.Native.Nat.{ℕ, suc, _-_, _≤_, _<_}
+use Prim.Native.Nat.{ℕ, _-_, _≤_, _<_}
 use mathlib.Core.Path.{_≡_}
-use mathlib.Core.List.{List, [], _∷_, _++_}
+use mathlib.Core.List.{List, [], _++_}
 use mathlib.Core.Bool.{true, cond}
 use lib.ListN.{length, getD, replicate}
 use lib.Dec.{leb}
@@ -10,7 +10,7 @@ use Rattle.meaning.specs.Terms.{within}
 use Rattle.shape.specs.declared.Shape.{Shape}
 use Rattle.shape.specs.Shape.{maxRank, maxCount, counted, count, shapeOf}
 use Rattle.meaning.specs.Array.{Operand, Array, at, goodForm}
-use Rattle.meaning.specs.Primitives.{Meaning, axesTo, sentLengths, broughtBack}
+use Rattle.meaning.specs.Primitives.{axesTo, sentLengths, broughtBack}
 use Rattle.meaning.specs.Reply.{Reply, settle}
 
 -- A number for each axis, and zeros.

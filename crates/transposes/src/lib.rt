@@ -1,9 +1,9 @@
 // Transpositions: 15 and 26. R's axis i goes to result axis t, and axes sent together give the diagonal.
 ghost use mathlib.Core.Path.{_≡_};
-ghost use mathlib.Core.List.{_++_, map};
+ghost use mathlib.Core.List.{map};
 ghost use Prim.Native.Nat.{ℕ, _+_, _*_, _-_, _≤_, _<_};
-ghost use lib.ListN.{length, getD, take, replicate};
-ghost use lib.IntN.{ℤ, pos, _-ℤ_};
+ghost use lib.ListN.{length, take};
+ghost use lib.IntN.{ℤ, pos};
 ghost use Rattle.shape.specs.Shape.{maxRank, counted, count};
 ghost use Rattle.meaning.specs.Array.{Operand, arrayOf};
 ghost use Rattle.meaning.specs.Primitives.{backwards};
@@ -32,9 +32,7 @@ pub fn transpose(g: i32, rs: Shape, r: &[i32], out: &mut [i32]) -> Answer
 
 // 26: axis i goes to L's element i less G, whatever K is.
 pub fn transpose_by(g: i32, ls: Shape, l: &[i32], rs: Shape, r: &[i32], out: &mut [i32]) -> Answer
-    ensures {
-        λ a. ⌜ ((K : ℤ) → Replied a (now (out .exit)) (reply (pos 26) g K (lent ls (now (l .entry))) (lent rs (now (r .entry))) (now (out .entry)))) ⌝
-    }
+    ensures { λ a. ⌜ ((K : ℤ) → Replied a (now (out .exit)) (reply (pos 26) g K (lent ls (now (l .entry))) (lent rs (now (r .entry))) (now (out .entry)))) ⌝ }
 {
     let early = answer::early_two(g, ls, l, rs, r);
     if early != 0 {
@@ -112,7 +110,13 @@ fn walk(lens: &[usize], strides: &[usize], r: &[i32], at: usize, out: &mut [i32]
         let from = at + i * stride;
         let start = i * size;
         let end = start + size;
-        walk(&lens[1..rank], &strides[1..rank], r, from, &mut out[start..end]);
+        walk(
+            &lens[1..rank],
+            &strides[1..rank],
+            r,
+            from,
+            &mut out[start..end],
+        );
         i += 1;
     }
 }
@@ -193,7 +197,14 @@ fn strides(to: [usize; Shape::MAX_RANK], rs: Shape) -> [usize; Shape::MAX_RANK]
 }
 
 // The result of a shape whose axes R's are sent to, if there is room.
-fn moved(to: [usize; Shape::MAX_RANK], shape: Shape, count: usize, rs: Shape, r: &[i32], out: &mut [i32]) -> Answer
+fn moved(
+    to: [usize; Shape::MAX_RANK],
+    shape: Shape,
+    count: usize,
+    rs: Shape,
+    r: &[i32],
+    out: &mut [i32],
+) -> Answer
     requires { ⌜ Moves (take (rs .rank) to) shape count (lent rs (now r)) ⌝ }
     ensures { λ a. ⌜ Replied a (now (out .exit)) (sentReply (take (rs .rank) to) (arrayOf (lent rs (now (r .entry)))) (now (out .entry))) ⌝ }
 {

@@ -7,7 +7,6 @@ use denote.Ref.{now}
 use borrow.Author.Needs.{needs}
 use Rattle.shape.specs.Shape.{count}
 use Rattle.copying.proofs.Runs.{filled, length-filled}
-use Rattle.transposes.specs.Strides.{Walk}
 use Rattle.transposes.proofs.Walking.{others, others-fewer, part-room, reached, Rows, rows, walked-one, walked-line, walked-more, walked-all, filled-zero, reach-one, reach-line}
 use borrow.Fn.Kinds.{In}
 use borrow.Fn.PlainCycle.{Measures, is, falls, and}
@@ -88,7 +87,7 @@ walk-returns : (t : ℕ) → walk-lts.Need-returns (
   walk-below t,
   walk.Post,
 ) (walk-at t) walk.Post walk-Inv-loop walk-μ-loop
-walk-returns t c = 
+walk-returns t c =
     let s = c .before .before .before .before .before .before in
     c .before .line .ensures ∙ walked-one _ _ _ _ _ _ (s .pre .1) (c .before .before .before .if1 .taken)
 
@@ -135,7 +134,7 @@ walk-returns-2 : (t : ℕ) → walk-lts.Need-returns-2 (
   walk-below t,
   walk.Post,
 ) (walk-at t) walk.Post walk-Inv-loop walk-μ-loop
-walk-returns-2 t c = 
+walk-returns-2 t c =
     let s = c .before .before .before .before .before .before .before .before .before in
     c .before .line2 .ensures ∙ walked-line _ _ _ _ _ _ (s .pre .1) (c .before .before .before .if2 .taken)
 
@@ -290,7 +289,7 @@ walk-walk-requires : (t : ℕ) → walk-lts.Need-walk-requires (
   walk-below t,
   walk.Post,
 ) (walk-at t) walk.Post walk-Inv-loop walk-μ-loop
-walk-walk-requires t c κs = 
+walk-walk-requires t c κs =
     let s = c .before .before .before .before .before .before .before .before .before .before .before in
     let lp = c .before .before .before .before .loop in
     let l = c .before .before .before in
@@ -326,7 +325,7 @@ walk-loop-again : (t : ℕ) → walk-lts.Need-loop-again (
   walk-below t,
   walk.Post,
 ) (walk-at t) walk.Post walk-Inv-loop walk-μ-loop
-walk-loop-again t c = 
+walk-loop-again t c =
     let l = c .before .before .before .before .before in
     let lp = l .before .loop in
     let s = l .before .before .before .before .before .before .before .before in

@@ -1,11 +1,11 @@
-use mathlib.Core.Path.{_≡_, refl, sym, ap, ap₂, _∙_}
-use mathlib.Core.List.{_++_, map}
+use mathlib.Core.Path.{_≡_, ap, _∙_}
+use mathlib.Core.List.{_++_}
 use mathlib.Core.Logic.{⊎-elim}
-use Prim.Native.Nat.{suc, _+_, _-_, _≤_, max}
+use Prim.Native.Nat.{suc, _-_, _≤_, max}
 use native.Mathlib.Omega.{arith}
 use borrow.Author.Needs.{needs, sfits-of}
 use lib.IntN.{pos}
-use lib.ListN.{length, getD, take, replicate, length-map}
+use lib.ListN.{length, getD, take, replicate}
 use mir.Syntax.{w32}
 use mir.Val.{toZ, ofZ}
 use mir.Facts.{toZ-ofZ}

@@ -1,11 +1,11 @@
-use mathlib.Core.Path.{_≡_, refl, sym, ap, _∙_}
-use Prim.Native.Nat.{suc, _-_, _≤_, _<_}
+use mathlib.Core.Path.{_≡_}
+use Prim.Native.Nat.{_-_, _≤_, _<_}
 use native.Mathlib.Omega.{arith}
 use borrow.Author.Needs.{needs}
 use lib.ListN.{length, getD, take, drop}
 use Rattle.shape.specs.Shape.{maxRank, counted}
 use Rattle.transposes.specs.Strides.{shortest}
-use Rattle.transposes.proofs.Sending.{length-shortest, shorter, not-shorter, shortest-none, sends-lt}
+use Rattle.transposes.proofs.Sending.{shorter, not-shorter, shortest-none, sends-lt}
 use Rattle.transposes.proofs.lengths.Statement.{statement}
 use Rattle.transposes.proofs.lengths.Tie as tie
 

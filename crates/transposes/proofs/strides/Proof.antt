@@ -1,11 +1,11 @@
-use mathlib.Core.Path.{_≡_, refl, sym, ap, _∙_}
-use Prim.Native.Nat.{suc, _*_, _-_, _≤_, _<_}
+use mathlib.Core.Path.{_≡_}
+use Prim.Native.Nat.{_*_, _-_, _≤_, _<_}
 use native.Mathlib.Omega.{arith}
 use borrow.Author.Needs.{needs}
 use lib.ListN.{length, getD, take, drop}
 use Rattle.shape.specs.Shape.{maxRank, counted, count}
 use Rattle.transposes.specs.Strides.{strides, sentStrides}
-use Rattle.transposes.proofs.Sending.{length-sent, stride-more, step-more, strides-none, count-none, step-small, sums-small, sends-lt}
+use Rattle.transposes.proofs.Sending.{stride-more, step-more, strides-none, count-none, step-small, sums-small, sends-lt}
 use Rattle.transposes.proofs.strides.Statement.{statement}
 use Rattle.transposes.proofs.strides.Tie as tie
 
@@ -74,7 +74,9 @@ add-sums c =
       arith,
       s .pre .0 .high,
       sums-small maxRank (s .args .t2 .rank) (s .args .t1) (s .args .t2 .lens) (l .0) (l .1) (s .pre .1) (lp .i) (lp .sums) (getD (s .args .t1) (lp .i - 1) 0) (lp .inv .1 .1),
-      step-small maxRank (s .args .t2 .rank) (s .args .t1) (s .args .t2 .lens) (l .0) (l .1) (s .pre .1) (lp .i), lp .inv .1 .0)
+      step-small maxRank (s .args .t2 .rank) (s .args .t1) (s .args .t2 .lens) (l .0) (l .1) (s .pre .1) (lp .i),
+      lp .inv .1 .0,
+    )
 
 -- src/lib.rt:140:9
 mul-sums-2 : tie.Need-mul-sums-2 Inv-loop μ-loop

@@ -7,7 +7,7 @@ use Prim.Native.Nat.{_≤_, _-_}
 use lib.ListN.{length, take}
 use Rattle.shape.specs.Shape.{maxRank}
 use Rattle.shape.proofs.Bools.{both}
-use Rattle.meaning.specs.Array.{arrayOf, goodForm}
+use Rattle.meaning.specs.Array.{goodForm}
 use Rattle.signed.proofs.Reading.{read32}
 use Rattle.answer.specs.Answer.{lent, early}
 use Rattle.answer.proofs.Order.{early-reply, own-reply, replied-refused}
