@@ -21,6 +21,7 @@ use Rattle.meaning.specs.Reply.{Reply, primitives, named, reply}
 use Rattle.meaning.proofs.Arrays.{Whole, build-lengths, at-build, build-ext, build-at}
 use Rattle.meaning.proofs.Positions.{within-lt}
 use Rattle.meaning.proofs.Scalars.{array-as}
+use Rattle.meaning.proofs.Without.{without-set}
 use Rattle.meaning.proofs.Replies.{NoneMet}
 use Rattle.laws.specs.Words.{IsArray, IsOrigin, IsAxis, IsLong, given, Lists}
 use Rattle.laws.specs.Laws.{FirstAndRest}
@@ -31,12 +32,6 @@ pub same-lengths : (ns : List ℕ) → sameLengths ns ns ≡ true
 unfolding sameLengths
 same-lengths [] = refl
 same-lengths (n ∷ ns) = rw (eq-eqb n n refl) (same-lengths ns)
-
-pub without-set : (ns : List ℕ) (k n : ℕ) → without k (set ns k n) ≡ without k ns
-unfolding without
-without-set [] k n = refl
-without-set (m ∷ ns) zero n = refl
-without-set (m ∷ ns) (suc k) n = ap (λ q. m ∷ q) (without-set ns k n)
 
 -- An operand of the higher rank, which is not a scalar's, counts as it is.
 abbrev whole : Array → ℕ → Side

@@ -6,3 +6,5 @@ pub mod Scalars
 pub mod Modulo
 pub mod Positions
 pub mod Sent
+pub mod Without
+pub mod Every

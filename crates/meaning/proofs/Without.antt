@@ -1,0 +1,63 @@
+-- Lengths and places without an axis, with rank and axis open.
+use mathlib.Core.Path.{_≡_, refl, sym, ap, ap₂, _∙_}
+use mathlib.Core.List.{List, [], _∷_, _++_}
+use Prim.Native.Nat.{ℕ, zero, suc, _+_, _*_, _/_, _%_, _≤_, _<_}
+use native.Mathlib.Nat.{one-mul, mod-lt, mod-eq-of-lt, div-eq-of-lt, not-suc-le-zero, le-of-suc-le-suc, mul-zero}
+use native.Mathlib.Omega.{arith}
+use lib.ListN.{length, getD, set, take, drop}
+use lib.IntN.{ℤ}
+use Rattle.shape.specs.Shape.{count}
+use Rattle.shape.specs.Place.{place}
+use Rattle.meaning.specs.Array.{Array, at, tab, build}
+use Rattle.meaning.specs.Terms.{rank, without, putIn, along}
+use Rattle.meaning.proofs.Tab.{tab-ext}
+
+pub without-set : (ns : List ℕ) (k n : ℕ) → without k (set ns k n) ≡ without k ns
+unfolding without
+without-set [] k n = refl
+without-set (m ∷ ns) zero n = refl
+without-set (m ∷ ns) (suc k) n = ap (λ q. m ∷ q) (without-set ns k n)
+
+-- What stands before the axis, and what stands after it.
+pub without-parts : (ns : List ℕ) (k : ℕ) → without k ns ≡ take k ns ++ drop (suc k) ns
+unfolding without
+without-parts [] zero = refl
+without-parts [] (suc k) = refl
+without-parts (n ∷ ns) zero = refl
+without-parts (n ∷ ns) (suc k) = ap (λ q. n ∷ q) (without-parts ns k)
+
+pub length-without : (ns : List ℕ) (k : ℕ) → k < length ns → suc (length (without k ns)) ≡ length ns
+unfolding without
+length-without [] k l = absurd (not-suc-le-zero l)
+length-without (n ∷ ns) zero l = refl
+length-without (n ∷ ns) (suc k) l = ap suc (length-without ns k (le-of-suc-le-suc l))
+
+-- An axis of length 1 and no axis: the counts are equal.
+pub count-without : (ns : List ℕ) (k : ℕ) → k < length ns → count (without k ns) ≡ count (set ns k 1)
+unfolding without count
+count-without [] k l = absurd (not-suc-le-zero l)
+count-without (n ∷ ns) zero l = sym (one-mul (count ns))
+count-without (n ∷ ns) (suc k) l = ap (λ c. n * c) (count-without ns k (le-of-suc-le-suc l))
+
+rest-some : (n c j : ℕ) → j < n * c → 0 < c
+rest-some n zero j h = absurd (not-suc-le-zero (rw mul-zero at h))
+rest-some n (suc c) j h = omega arith
+
+-- And so are the places: position φ 0 put in as axis k, and along an axis of length 1 the position φ of the only one.
+pub put-place : (φ : ℕ → ℕ) (ns : List ℕ) (k j : ℕ) → k < length ns → j < count (without k ns)
+    → putIn k (φ 0) (place (without k ns) j) ≡ set (place (set ns k 1) j) k (φ (getD (place (set ns k 1) j) k 0))
+unfolding without count place putIn
+put-place φ [] k j l h = absurd (not-suc-le-zero l)
+put-place φ (n ∷ ns) zero j l h = rw (div-eq-of-lt h, mod-eq-of-lt h)
+put-place φ (n ∷ ns) (suc k) j l h =
+    let e : count (without k ns) ≡ count (set ns k 1) = count-without ns k (le-of-suc-le-suc l) in
+    let some : 0 < count (without k ns) = rest-some n (count (without k ns)) j h in
+    rw (← e) (ap (λ q. j / count (without k ns) ∷ q) (put-place φ ns k (j % count (without k ns)) (le-of-suc-le-suc l) (mod-lt j some)))
+
+-- An axis that is removed at one position, on the flat list: the axis becomes one of length 1.
+pub removed : (a : Array) (k : ℕ) (φ : ℕ → ℕ) → k < rank a
+    → build (without k (a .lengths)) (λ p. at a (putIn k (φ 0) p)) .elements ≡ build (set (a .lengths) k 1) (along a k φ) .elements
+unfolding build along
+removed a k φ l =
+    tab-ext (count (without k (a .lengths))) _ _ (λ j h. ap (at a) (put-place φ (a .lengths) k j l h))
+    ∙ ap (λ n. tab n (λ j. at a (set (place (set (a .lengths) k 1) j) k (φ (getD (place (set (a .lengths) k 1) j) k 0))))) (count-without (a .lengths) k l)

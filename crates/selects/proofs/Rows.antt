@@ -1,0 +1,93 @@
+-- Rows of a block that are chosen by position, and blocks of them.
+use mathlib.Core.Path.{_≡_, refl, sym, ap, ap₂, _∙_}
+use mathlib.Core.List.{List, [], _∷_, _++_}
+use mathlib.Core.Bool.{true}
+use Prim.Native.Nat.{ℕ, zero, suc, _+_, _-_, _*_, _/_, _%_, _≤_, _<_}
+use native.Mathlib.Nat.{zero-mul, mul-one, div-one, mod-one, add-zero, mod-lt, div-lt-iff-lt-mul, mul-le-mul-right, not-suc-le-zero, mul-zero}
+use native.Mathlib.Omega.{arith}
+use lib.Arith.{digits-div, digits-mod, digits-lt}
+use lib.ListN.{length, getD, set, take, drop, length-drop, List·getD-append}
+use lib.Seq.{length-take-le, getD-take, getD-drop}
+use lib.IntN.{ℤ, pos, natAbs, _-ℤ_}
+use borrow.Rule.Slice.PartMut.{putMid}
+use Rattle.meaning.specs.Array.{tab}
+use Rattle.meaning.specs.Terms.{within}
+use Rattle.meaning.proofs.Tab.{length-tab, getD-tab, tab-ext}
+use Rattle.meaning.proofs.Positions.{positionOf, within-lt}
+use Rattle.copying.specs.Runs.{copied}
+use Rattle.copying.proofs.Runs.{filled, filled-none, filled-one, length-filled, put-list, put-copied}
+use Rattle.copying.proofs.Blocks.{source, source-in}
+use Rattle.selects.specs.Chosen.{chosen, Chosen, inBlock}
+
+-- Before the first row.
+pub filled-start : (g : ℕ → ℤ) (c : ℕ) (out : List ℤ) → out ≡ filled g (0 * c) out
+filled-start g c out = filled-none g out ∙ ap (λ n. filled g n out) (sym (zero-mul c))
+
+-- The position that is found for a chosen number.
+pub chosen-found : (g : ℤ) (l : List ℤ) (n i x : ℕ) → Chosen g l n → i < length l → x ≡ positionOf (getD l i (pos 0) -ℤ g) n → (x ≡ chosen g l i) × (x < n)
+chosen-found g l n i x h k e =
+    let found : x ≡ chosen g l i = e ∙ rw (h i k) in
+    (found, rw found (within-lt (getD l i (pos 0) -ℤ g) n (h i k)))
+
+-- Where rows have one element.
+pub one-row : (r : List ℤ) (φ : ℕ → ℕ) (m : ℕ) (out : List ℤ)
+    → filled (λ i. getD r (φ i) (pos 0)) m out ≡ filled (λ i. getD r (inBlock 1 φ i) (pos 0)) (m * 1) out
+one-row r φ m out =
+    rw mul-one
+    (ap (λ x. x ++ drop m out)
+    (tab-ext m _ _ (λ i l. ap (λ x. getD r x (pos 0)) (rw (div-one, mod-one, mul-one, add-zero)))))
+
+-- Element x of row q.
+row-at : (c : ℕ) (φ : ℕ → ℕ) (q x : ℕ) → x < c → inBlock c φ (q * c + x) ≡ φ q * c + x
+row-at c φ q x h = rw (digits-div q h, digits-mod q h)
+
+-- One row more.
+pub row-more : (c : ℕ) (φ : ℕ → ℕ) (q e from to : ℕ) (r out out₀ last : List ℤ)
+    → out ≡ filled (λ i. getD r (inBlock c φ i) (pos 0)) (q * c) out₀ → e ≡ q * c + c → e ≤ length out₀
+    → from ≡ φ q * c → to ≡ from + c → to ≤ length r
+    → last ≡ copied (take (to - from) (drop from r)) (take (e - q * c) (drop (q * c) out))
+    → putMid (q * c) (e - q * c) out last ≡ filled (λ i. getD r (inBlock c φ i) (pos 0)) ((q + 1) * c) out₀
+row-more c φ q e from to r out out₀ last o end room f stop inside run =
+    put-copied _ (q * c) c e out out₀ last o end room r from to (pos 0) stop inside
+    (λ x l. ap (λ y. getD r y (pos 0)) (row-at c φ q x l ∙ ap (λ y. y + x) (sym f)))
+    run
+    ∙ ap (λ n. filled (λ i. getD r (inBlock c φ i) (pos 0)) n out₀) (let w : q * c + c ≡ (q + 1) * c = omega arith in w)
+
+-- A part has as many elements as it is long.
+pub part-long : {A : Type 0} (xs : List A) (at w : ℕ) → at + w ≤ length xs → length (take (at + w - at) (drop at xs)) ≡ w
+part-long xs at w h = length-take-le (at + w - at) (drop at xs) (rw length-drop (omega arith)) ∙ omega arith
+
+-- A part that was filled by h stands in a buffer that is filled by g.
+pub part-filled : (g h : ℕ → ℤ) (n m e : ℕ) (out out₀ last part : List ℤ) → out ≡ filled g n out₀ → e ≡ n + m
+    → length part ≡ m → last ≡ filled h m part → ((i : ℕ) → i < m → g (n + i) ≡ h i)
+    → putMid n (e - n) out last ≡ filled g (n + m) out₀
+part-filled g h n m e out out₀ last part o end long q same =
+    put-list g (pos 0) n m e out out₀ last o end (ap length q ∙ length-filled h m part (omega arith) ∙ long)
+    (λ i l.
+    same i l
+    ∙ sym (ap (λ ys. getD ys i (pos 0)) q
+    ∙ List·getD-append (tab m h) (drop m part) (pos 0) i (omega (arith, length-tab m h))
+    ∙ getD-tab m h i (pos 0) l))
+
+positive : (i m c : ℕ) → i < m * c → 0 < c
+positive i m zero h = absurd (not-suc-le-zero (rw mul-zero at h))
+positive i m (suc c) h = omega arith
+
+-- One block more, of m rows chosen from the n rows of the source's block.
+pub block-more : (m n c : ℕ) (φ : ℕ → ℕ) (o at e from to : ℕ) (r out out₀ last part : List ℤ) → ((i : ℕ) → i < m → φ i < n)
+    → out ≡ filled (λ j. getD r (source m n c φ j) (pos 0)) at out₀ → at ≡ o * (m * c) → e ≡ at + m * c → from ≡ o * (n * c) → to ≡ from + n * c
+    → length part ≡ m * c
+    → last ≡ filled (λ i. getD (take (to - from) (drop from r)) (inBlock c φ i) (pos 0)) (m * c) part
+    → putMid at (e - at) out last ≡ filled (λ j. getD r (source m n c φ j) (pos 0)) ((o + 1) * (m * c)) out₀
+block-more m n c φ o at e from to r out out₀ last part below f a end b stop long run =
+    part-filled _ _ at (m * c) e out out₀ last part f end long run
+    (λ i l.
+    let c> : 0 < c = positive i m c l in
+    let q : i / c < m = div-lt-iff-lt-mul c> .1 l in
+    let in-part : inBlock c φ i < to - from = rw (let w : to - from ≡ n * c = omega arith in w) (digits-lt (below (i / c) q) (mod-lt i c>)) in
+    ap (λ x. getD r x (pos 0))
+    (ap (λ x. source m n c φ (x + i)) a
+    ∙ source-in m n c φ o i l
+    ∙ (let w : (o * n + φ (i / c)) * c + i % c ≡ from + inBlock c φ i = omega arith in w))
+    ∙ sym (getD-take (to - from) (drop from r) (inBlock c φ i) (pos 0) in-part ∙ getD-drop from r (inBlock c φ i) (pos 0)))
+    ∙ ap (λ x. filled (λ j. getD r (source m n c φ j) (pos 0)) x out₀) (let w : at + m * c ≡ (o + 1) * (m * c) = omega arith in w)

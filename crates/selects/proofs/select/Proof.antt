@@ -1,0 +1,272 @@
+use borrow.Author.Needs.{needs}
+use native.Mathlib.Omega.{arith}
+use native.Mathlib.Nat.{sub-zero}
+use Prim.Native.Nat.{ℕ, _-_, _≤_, _<_}
+use mathlib.Core.Path.{_≡_, sym, ap, ap₂, _∙_}
+use mathlib.Core.Bool.{true, _&&_}
+use lib.ListN.{length, getD, set, take, drop}
+use mathlib.Core.List.{_++_}
+use lib.IntN.{ℤ, pos, natAbs, _-ℤ_}
+use Rattle.signed.proofs.Reading.{read32}
+use Rattle.shape.specs.Shape.{maxRank, maxCount, counted, count, countOf, shapeOf}
+use Rattle.shape.proofs.Bools.{both}
+use Rattle.meaning.specs.Array.{Operand, Array, arrayOf, goodForm, build}
+use Rattle.meaning.specs.Terms.{within, along}
+use Rattle.meaning.specs.Primitives.{Meaning, select}
+use Rattle.meaning.proofs.Positions.{positionOf, position-lt, within-lt}
+use Rattle.answer.specs.Answer.{lent, early, own}
+use Rattle.answer.proofs.Order.{Names, early-reply, own-reply, limit-reply, space-reply, given-reply, replied-refused, replied-given}
+use Rattle.answer.proofs.Lent.{Lent, lent-good, early-fine}
+use Rattle.answer.proofs.Made.{made-rule, made-no-rule, made-count}
+use Rattle.selects.specs.Chosen.{chosen}
+use Rattle.selects.proofs.Selecting.{selecting, select-names, Selects, select-fits, axis-in, shape-is, total-is, all-chosen, select-out}
+use Rattle.selects.proofs.select.Statement.{statement}
+use Rattle.selects.proofs.select.Tie as tie
+use Rattle.selects.proofs.select.Reads as reads
+use Rattle.selects.proofs.select.Lts as lts
+use Rattle.answer.proofs.Answer.refused.Reads as refused-reads
+use Rattle.answer.proofs.early_two.Reads as early-two-reads
+use Rattle.selects.proofs.select_into.Reads as select-into-reads
+use Rattle.selects.proofs.select_refusal.Reads as select-refusal-reads
+use Rattle.selects.proofs.selected.Reads as selected-reads
+use Rattle.shape.proofs.Shape.count.Reads as count-reads
+use Rattle.signed.proofs.position.Reads as position-reads
+
+-- The operands, the meaning and its name.
+abbrev left : tie.Start → Operand
+left st = lent (st .args .ls) (st .args .l .now)
+
+abbrev right : tie.Start → Operand
+right st = lent (st .args .rs) (st .args .r .now)
+
+abbrev means : tie.Start → Meaning
+means st = select (st .args .g) (st .args .k) (arrayOf (left st)) (arrayOf (right st))
+
+names : (st : tie.Start) → Names (pos 31) (st .args .g) (st .args .k) (left st) (right st) selecting (means st)
+names st = select-names (st .args .g) (st .args .k) (left st) (right st)
+
+-- FORM and ORIGIN, and what is known of the operands where neither was met.
+early-is : (c : tie.After-early-two) → c .early-two .result ≡ early (goodForm (left (c .before)) && goodForm (right (c .before))) (c .before .args .g)
+early-is c = c .early-two .ensures ∙ ap (early _) (read32 _ (c .before .fits .g))
+
+fine : (c : tie.Else1) → let st = c .before .before in early (goodForm (left st) && goodForm (right st)) (st .args .g) ≡ 0
+fine c = sym (early-is (c .before)) ∙ c .if1 .left
+
+forms : (c : tie.Else1) → let st = c .before .before in (goodForm (left st) ≡ true) × (goodForm (right st) ≡ true)
+forms c = let st = c .before .before in both (goodForm (left st)) (goodForm (right st)) (early-fine (st .args .g) _ (fine c) .forms)
+
+good-left : (c : tie.Else1) → let st = c .before .before in Lent (st .args .ls) (st .args .l .now)
+good-left c =
+    let st = c .before .before in
+    let long : length (st .args .ls .lens) ≡ maxRank = search needs in
+    lent-good (st .args .ls) (st .args .l .now) long (forms c .0)
+
+good-right : (c : tie.Else1) → let st = c .before .before in Lent (st .args .rs) (st .args .r .now)
+good-right c =
+    let st = c .before .before in
+    let long : length (st .args .rs .lens) ≡ maxRank = search needs in
+    lent-good (st .args .rs) (st .args .r .now) long (forms c .1)
+
+-- RANK, AXIS and INDEX, and what is known where none was met.
+own-is : (c : tie.After-select-refusal) → c .select-refusal .result ≡ own 31 (means (c .before .before .before) .refusals)
+own-is c =
+    let st = c .before .before .before in
+    c .select-refusal .ensures (st .args .r .now)
+    ∙ ap₂ (λ x y. own 31 (select x y (arrayOf (left st)) (arrayOf (right st)) .refusals)) (read32 _ (st .fits .g)) (read32 _ (st .fits .k))
+
+none : (c : tie.Else2) → own 31 (means (c .before .before .before .before) .refusals) ≡ 0
+none c = sym (own-is (c .before)) ∙ c .if2 .left
+
+fits : (c : tie.Else2) → let st = c .before .before .before .before in Selects (st .args .g) (st .args .k) (arrayOf (left st)) (arrayOf (right st))
+fits c = let st = c .before .before .before .before in select-fits (st .args .g) (st .args .k) (arrayOf (left st)) (arrayOf (right st)) (none c)
+
+-- The axis, the count of L's elements, and the result's shape.
+axis-is : (c : tie.After-position) → let st = c .before .before .before .before .before in c .position .result ≡ natAbs (st .args .k -ℤ st .args .g)
+axis-is c =
+    let e = c .before in
+    let st = e .before .before .before .before in
+    let g = good-right (e .before .before) in
+    let found : c .position .result ≡ positionOf (st .args .k -ℤ st .args .g) (st .args .rs .rank) =
+    c .position .ensures ∙ ap₂ (λ x y. positionOf (x -ℤ y) (st .args .rs .rank)) (read32 _ (st .fits .k)) (read32 _ (st .fits .g)) in
+    found ∙ rw (← (g .rank-is), fits e .on-axis)
+
+count-is : (c : tie.After-count) → let st = c .before .before .before .before .before .before in c .count .result ≡ count (counted (st .args .ls))
+count-is c = c .count .ensures ∙ good-left (c .before .before .before .before) .count-is
+
+chosen-is : (c : tie.After-count) → let st = c .before .before .before .before .before .before in take (c .count .result - 0) (st .args .l .now) ≡ arrayOf (left st) .elements
+chosen-is c = ap (λ n. take n (c .before .before .before .before .before .before .args .l .now)) (sub-zero _ ∙ count-is c)
+
+made : (c : tie.After-selected) → let st = c .before .before .before .before .before .before .before in c .selected .result ≡ shapeOf (means st .lengths)
+made c =
+    let n = c .before in
+    let e = n .before .before in
+    let st = e .before .before .before .before in
+    c .selected .ensures
+    ∙ shape-is (st .args .g) (st .args .k) (st .args .ls) (st .args .rs) (st .args .l .now) (st .args .r .now) (good-left (e .before .before)) (good-right (e .before .before)) (fits e) _ _ (axis-is (n .before)) (count-is n)
+
+room : (c : tie.After-count2) → let st = c .before .before .before .before .before .before .before .before in c .count2 .result ≡ countOf (shapeOf (means st .lengths))
+room c = c .count2 .ensures ∙ ap countOf (made (c .before))
+
+-- src/lib.rt:27:9
+early-two-requires : tie.Need-early-two-requires
+early-two-requires c κs = search needs
+
+-- src/lib.rt:29:9
+refused-requires : tie.Need-refused-requires
+refused-requires c κs = search needs
+
+-- src/lib.rt:29:9
+returns : tie.Need-returns
+returns c =
+    let st = c .before .before .before in
+    replied-refused (c .refused .result) _ (st .args .out .now) (c .refused .ensures) (early-reply (names st) (st .args .out .now) _ (early-is (c .before .before)) (c .before .if1 .taken))
+
+-- src/lib.rt:31:9
+select-refusal-requires : tie.Need-select-refusal-requires
+select-refusal-requires c κs = (forms c .0, good-right c .good)
+
+-- src/lib.rt:33:9
+refused-requires-2 : tie.Need-refused-requires-2
+refused-requires-2 c κs = search needs
+
+-- src/lib.rt:33:9
+returns-2 : tie.Need-returns-2
+returns-2 c =
+    let e = c .before .before .before in
+    let st = e .before .before in
+    replied-refused (c .refused2 .result) _ (st .args .out .now) (c .refused2 .ensures) (own-reply (names st) (st .args .out .now) (fine e) _ (own-is (c .before .before)) (c .before .if2 .taken))
+
+-- src/lib.rt:35:9
+position-requires : tie.Need-position-requires
+position-requires c κs = search needs
+
+-- src/lib.rt:36:9
+count-requires : tie.Need-count-requires
+count-requires c κs = search needs
+
+-- src/lib.rt:37:9
+selected-requires : tie.Need-selected-requires
+selected-requires c κs =
+    let e = c .before .before in
+    let st = e .before .before .before .before in
+    let g = good-right (e .before .before) in
+    (g .high, axis-in (st .args .g) (st .args .k) (st .args .ls) (st .args .rs) (st .args .l .now) (st .args .r .now) (good-left (e .before .before)) g (fits e) _ _ (axis-is (c .before)) (count-is c))
+
+-- src/lib.rt:38:9
+count-requires-2 : tie.Need-count-requires-2
+count-requires-2 c κs = search needs
+
+-- src/lib.rt:40:9
+refused-requires-3 : tie.Need-refused-requires-3
+refused-requires-3 c κs = search needs
+
+-- src/lib.rt:40:9
+returns-3 : tie.Need-returns-3
+returns-3 c =
+    let n = c .before .before in
+    let e = n .before .before .before .before in
+    let st = e .before .before .before .before in
+    replied-refused (c .refused3 .result) 9 (st .args .out .now) (c .refused3 .ensures)
+    (limit-reply (names st) (st .args .out .now) (fine (e .before .before)) (none e) (made-no-rule (means st .lengths) (omega (arith, room n))))
+
+-- src/lib.rt:43:9
+refused-requires-4 : tie.Need-refused-requires-4
+refused-requires-4 c κs = search needs
+
+-- src/lib.rt:43:9
+returns-4 : tie.Need-returns-4
+returns-4 c =
+    let n = c .before .before .before in
+    let e = n .before .before .before .before in
+    let st = e .before .before .before .before in
+    let small : countOf (shapeOf (means st .lengths)) ≤ maxCount = omega (arith, room n) in
+    replied-refused (c .refused4 .result) 10 (st .args .out .now) (c .refused4 .ensures)
+    (space-reply (names st) (st .args .out .now) (fine (e .before .before)) (none e) (made-rule (means st .lengths) small) (omega (arith, room n, made-count (means st .lengths) small)))
+
+-- src/lib.rt:45:20
+sub-select-into : tie.Need-sub-select-into
+sub-select-into c = search needs
+
+-- src/lib.rt:45:20
+part-select-into-start : tie.Need-part-select-into-start
+part-select-into-start c = search needs
+
+-- src/lib.rt:45:20
+part-select-into-end : tie.Need-part-select-into-end
+part-select-into-end c =
+    let n = c .before .before .before .before in
+    let g = good-left (n .before .before .before .before) in
+    omega (arith, g .room, count-is n)
+
+-- src/lib.rt:45:5
+select-into-requires : tie.Need-select-into-requires
+select-into-requires c κs =
+    let w = c .before .before .before .before in
+    let n = w .before .before in
+    let e = n .before .before in
+    let st = e .before .before .before .before in
+    let gl = good-left (e .before .before) in
+    let gr = good-right (e .before .before) in
+    let small : countOf (shapeOf (means st .lengths)) ≤ maxCount = omega (arith, room w) in (
+      forms (e .before .before) .1,
+      (
+        axis-in (st .args .g) (st .args .k) (st .args .ls) (st .args .rs) (st .args .l .now) (st .args .r .now) gl gr (fits e) _ _ (axis-is (n .before)) (count-is n),
+        (
+          λ i h.
+              ap (λ G. within (getD (take (n .count .result - 0) (st .args .l .now)) i (pos 0) -ℤ G) (getD (counted (st .args .rs)) (n .before .position .result) 0)) (read32 _ (st .fits .g))
+              ∙ all-chosen (st .args .g) (st .args .k) (st .args .ls) (st .args .rs) (st .args .l .now) (st .args .r .now) gl gr (fits e) _ _ (axis-is (n .before)) (count-is n) _ (chosen-is n) i h,
+          (
+            room w ∙ made-count (means st .lengths) small
+                ∙ total-is (st .args .g) (st .args .k) (st .args .ls) (st .args .rs) (st .args .l .now) (st .args .r .now) gl gr (fits e) _ _ (axis-is (n .before)) (count-is n) _ (chosen-is n),
+            (omega arith, omega arith),
+          ),
+        ),
+      ),
+    )
+
+-- src/lib.rt:21:1
+same-length : tie.Need-same-length
+same-length c = search needs
+
+-- src/lib.rt:21:1
+returns-5 : tie.Need-returns-5
+returns-5 c =
+    let w = c .before .before .before .before .before .before in
+    let n = w .before .before in
+    let e = n .before .before in
+    let st = e .before .before .before .before in
+    let out = st .args .out .now in
+    let gl = good-left (e .before .before) in
+    let gr = good-right (e .before .before) in
+    let small : countOf (shapeOf (means st .lengths)) ≤ maxCount = omega (arith, room w, c .before .before .before .before .before .if3 .left) in
+    let total : w .count2 .result ≡ count (means st .lengths) = room w ∙ made-count (means st .lengths) small in
+    replied-given _ (means st) out _ (ap (λ z. record { number = 0; shape = z }) (made (w .before)))
+    (select-out (st .args .g) (st .args .k) (st .args .ls) (st .args .rs) (st .args .l .now) (st .args .r .now) gl gr (fits e) _ _ (axis-is (n .before)) (count-is n) _ (chosen-is n) _ out _ total
+    (c .before .select-into .ensures
+    ∙ ap (λ G. build (set (counted (st .args .rs)) (n .before .position .result) (length (take (n .count .result - 0) (st .args .l .now)))) (along (arrayOf (right st)) (n .before .position .result) (chosen G (take (n .count .result - 0) (st .args .l .now)))) .elements ++ drop (w .count2 .result) out) (read32 _ (st .fits .g))))
+    (given-reply (names st) out (fine (e .before .before)) (none e) (made-rule (means st .lengths) small) (omega (arith, total, c .before .before .before .before .if4 .left)))
+
+pub select-spec : {M : Type 1} → statement M
+select-spec =
+    tie.close
+    (tie.spec
+    early-two-requires
+    refused-requires
+    returns
+    select-refusal-requires
+    refused-requires-2
+    returns-2
+    position-requires
+    count-requires
+    selected-requires
+    count-requires-2
+    refused-requires-3
+    returns-3
+    refused-requires-4
+    returns-4
+    sub-select-into
+    part-select-into-start
+    part-select-into-end
+    select-into-requires
+    same-length
+    returns-5)

@@ -1,0 +1,128 @@
+use borrow.Author.Needs.{needs, sfits-of}
+use native.Mathlib.Omega.{arith}
+use mathlib.Core.Path.{_≡_, refl, sym, ap, ap₂, _∙_}
+use Prim.Native.Nat.{_-_, _≤_, _<_, _+_}
+use lib.ListN.{length, getD, set, length-set}
+use lib.IntN.{ℤ, pos, _-ℤ_}
+use Rattle.signed.proofs.Reading.{read32}
+use Rattle.meaning.proofs.Positions.{positionOf}
+use mir.Syntax.{w32}
+use mir.Val.{toZ, ofZ}
+use Rattle.copying.proofs.Runs.{filled, filled-none, filled-one}
+use Rattle.selects.specs.Chosen.{chosen}
+use Rattle.selects.proofs.Rows.{chosen-found}
+use Rattle.selects.proofs.select_line.Statement.{statement}
+use Rattle.selects.proofs.select_line.Tie as tie
+use Rattle.selects.proofs.select_line.Reads as reads
+use Rattle.selects.proofs.select_line.Lts as lts
+use Rattle.signed.proofs.position.Reads as position-reads
+
+abbrev Inv-loop : tie.InvT-loop
+Inv-loop g l n r out₀ i₀ out i = (i ≤ length l) × ((length out ≡ length out₀) × (out ≡ filled (λ j. getD r (chosen (toZ w32 g) l j) (pos 0)) i out₀))
+
+abbrev μ-loop : tie.MeasureT-loop
+μ-loop g l n r out₀ i₀ out i = length l - i
+
+-- The position is the chosen one.
+found : (c : tie.After-position Inv-loop μ-loop)
+    → let st = c .before .before .before .before in
+    (c .position .result ≡ chosen (toZ w32 (ofZ w32 (st .args .g))) (st .args .l .now) (c .before .before .before .loop .i)) × (c .position .result < st .args .n)
+found c =
+    let st = c .before .before .before .before in
+    let i = c .before .before .before .loop .i in
+    let g = st .args .g in
+    let l = st .args .l .now in
+    let e = read32 g (st .fits .g) in
+    let f = chosen-found g l (st .args .n) i (c .position .result) (st .pre .0) (omega arith)
+    (c .position .ensures ∙ ap₂ (λ z y. positionOf (z -ℤ y) (st .args .n)) (read32 (getD l i (pos 0)) (sfits-of (c .before .position-arg .given))) e) in
+    (f .0 ∙ ap (λ G. chosen G l i) (sym e), f .1)
+
+-- src/lib.rt:136:5
+loop-holds : tie.Need-loop-holds Inv-loop μ-loop
+loop-holds c = (omega arith, (refl, filled-none _ _))
+
+-- src/lib.rt:137:34
+mul-position : tie.Need-mul-position Inv-loop μ-loop
+mul-position c = search needs
+
+-- src/lib.rt:137:34
+shared-slice-copy-out-position : tie.Need-shared-slice-copy-out-position Inv-loop μ-loop
+shared-slice-copy-out-position c = search needs
+
+-- src/lib.rt:137:13
+position-requires : tie.Need-position-requires Inv-loop μ-loop
+position-requires c κs = search needs
+
+-- src/lib.rt:138:18
+mul-out : tie.Need-mul-out Inv-loop μ-loop
+mul-out c = let f = found c .1 in search needs
+
+-- src/lib.rt:138:18
+shared-slice-copy-out-out : tie.Need-shared-slice-copy-out-out Inv-loop μ-loop
+shared-slice-copy-out-out c = let f = found c .1 in omega arith
+
+-- src/lib.rt:138:9
+mul-t13 : tie.Need-mul-t13 Inv-loop μ-loop
+mul-t13 c = search needs
+
+-- src/lib.rt:138:9
+slice-set-from-out : tie.Need-slice-set-from-out Inv-loop μ-loop
+slice-set-from-out c = search needs
+
+-- src/lib.rt:139:9
+add-i : tie.Need-add-i Inv-loop μ-loop
+add-i c = search needs
+
+-- src/lib.rt:136:5
+loop-less : tie.Need-loop-less Inv-loop μ-loop
+loop-less c = search needs
+
+-- src/lib.rt:136:5
+loop-again : tie.Need-loop-again Inv-loop μ-loop
+loop-again c =
+    let p = c .before in
+    let lp = p .before .before .before .loop in
+    let st = p .before .before .before .before in
+    let r = st .args .r .now in
+    let e : toZ w32 (ofZ w32 (getD r (p .position .result) (pos 0))) ≡ getD r (p .position .result) (pos 0) = read32 _ (sfits-of (c .out .given)) in (
+      omega arith,
+      (
+        simp length-set (lp .inv .1 .0),
+        ap₂ (λ x y. set x (lp .i) y) (lp .inv .1 .1) (e ∙ ap (λ x. getD r x (pos 0)) (found p .0))
+            ∙ filled-one _ (pos 0) _ (lp .i) (st .args .out .now) (omega arith) refl,
+      ),
+    )
+
+-- src/lib.rt:129:1
+same-length : tie.Need-same-length Inv-loop μ-loop
+same-length c = search needs
+
+-- src/lib.rt:129:1
+returns : tie.Need-returns Inv-loop μ-loop
+returns c =
+    let lp = c .before .loop in
+    let st = c .before .before in
+    let l = st .args .l .now in
+    let e : lp .i ≡ length l = omega arith in
+    lp .inv .1 .1
+    ∙ ap₂ (λ G n. filled (λ j. getD (st .args .r .now) (chosen G l j) (pos 0)) n (st .args .out .now)) (read32 _ (st .fits .g)) e
+
+pub select-line-spec : {M : Type 1} → statement M
+select-line-spec =
+    tie.close
+    (tie.spec
+    Inv-loop
+    μ-loop
+    loop-holds
+    mul-position
+    shared-slice-copy-out-position
+    position-requires
+    mul-out
+    shared-slice-copy-out-out
+    mul-t13
+    slice-set-from-out
+    add-i
+    loop-less
+    loop-again
+    same-length
+    returns)

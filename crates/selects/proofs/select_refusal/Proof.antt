@@ -1,0 +1,164 @@
+use borrow.Author.Needs.{needs}
+use native.Mathlib.Omega.{arith}
+use native.Mathlib.Nat.{sub-zero}
+use Prim.Native.Nat.{ℕ, _-_, _<_, _≤_}
+use mathlib.Core.Path.{_≡_, sym, ap, ap₂, _∙_}
+use mathlib.Core.List.{List}
+use mathlib.Core.Bool.{Bool, true}
+use lib.ListN.{length, getD, take}
+use lib.Seq.{length-take-le}
+use lib.IntN.{ℤ, natAbs, _-ℤ_}
+use Rattle.signed.proofs.Reading.{read32}
+use Rattle.shape.specs.Shape.{maxRank}
+use Rattle.shape.proofs.Counts.{good-rank}
+use Rattle.meaning.specs.Array.{Array, arrayOf}
+use Rattle.meaning.specs.Terms.{rank, axis, within, every}
+use Rattle.meaning.proofs.Positions.{positionOf, position-lt, position-none}
+use Rattle.answer.specs.Answer.{lent}
+use Rattle.answer.proofs.Lent.{Lent, lent-good, axis-is}
+use Rattle.selects.proofs.Selecting.{select-scalar, select-rank, select-axis, select-index, select-none}
+use Rattle.selects.proofs.select_refusal.Statement.{statement}
+use Rattle.selects.proofs.select_refusal.Tie as tie
+use Rattle.selects.proofs.select_refusal.Reads as reads
+use Rattle.selects.proofs.select_refusal.Lts as lts
+use Rattle.selects.proofs.all_within.Reads as all-within-reads
+use Rattle.shape.proofs.Shape.count.Reads as count-reads
+use Rattle.signed.proofs.position.Reads as position-reads
+
+-- The operands, and what is known of them.
+abbrev left : tie.Start → Array
+left st = arrayOf (lent (st .args .ls) (st .args .l .now))
+
+abbrev right : tie.Start → List ℤ → Array
+right st b = arrayOf (lent (st .args .t5) b)
+
+good : (st : tie.Start) → Lent (st .args .ls) (st .args .l .now)
+good st =
+    let long : length (st .args .ls .lens) ≡ maxRank = search needs in
+    lent-good (st .args .ls) (st .args .l .now) long (st .pre .0)
+
+high : (st : tie.Start) → st .args .t5 .rank ≤ maxRank
+high st = good-rank (st .args .t5) (st .pre .1)
+
+rank-is : (st : tie.Start) (b : List ℤ) → rank (right st b) ≡ st .args .t5 .rank
+rank-is st b =
+    let long : length (st .args .t5 .lens) ≡ maxRank = search needs in
+    length-take-le (st .args .t5 .rank) (st .args .t5 .lens) (omega (arith, high st))
+
+some : (c : tie.Else1) (b : List ℤ) → 0 < rank (right (c .before) b)
+some c b = let n = c .if1 .left in omega (arith, rank-is (c .before) b)
+
+list : (c : tie.Else2) → rank (left (c .before .before .before)) ≤ 1
+list c = omega (arith, good (c .before .before .before) .rank-is)
+
+found : (c : tie.After-position) → let st = c .before .before .before .before in c .position .result ≡ positionOf (st .args .k -ℤ st .args .g) (st .args .t5 .rank)
+found c =
+    let st = c .before .before .before .before in
+    c .position .ensures ∙ ap₂ (λ x y. positionOf (x -ℤ y) (st .args .t5 .rank)) (read32 _ (st .fits .k)) (read32 _ (st .fits .g))
+
+on-axis : (c : tie.Else3)
+    → let st = c .before .before .before .before .before in
+    (within (st .args .k -ℤ st .args .g) (st .args .t5 .rank) ≡ true) × (c .before .position .result ≡ natAbs (st .args .k -ℤ st .args .g))
+on-axis c =
+    let st = c .before .before .before .before .before in
+    let e = position-lt (st .args .k -ℤ st .args .g) (st .args .t5 .rank) (omega (arith, found (c .before), c .if3 .left)) in
+    (e .0, found (c .before) ∙ e .1)
+
+tested : (c : tie.After-all-within) (b : List ℤ)
+    → let st = c .before .before .before .before .before .before .before .before .before in
+    c .all-within .result ≡ every (λ z. within (z -ℤ st .args .g) (axis (right st b) (natAbs (st .args .k -ℤ st .args .g)))) (left st .elements)
+tested c b =
+    let e = c .before .before .before .before in
+    let st = e .before .before .before .before .before in
+    let at : e .before .position .result ≡ natAbs (st .args .k -ℤ st .args .g) = on-axis e .1 in
+    let g = good st in
+    c .all-within .ensures
+    ∙ ap (λ G. every (λ z. within (z -ℤ G) (getD (st .args .t5 .lens) (e .before .position .result) 0)) (take (c .before .before .count .result - 0) (st .args .l .now))) (read32 _ (st .fits .g))
+    ∙ ap₂ (λ n xs. every (λ z. within (z -ℤ st .args .g) n) xs)
+    (ap (λ i. getD (st .args .t5 .lens) i 0) at ∙ sym (axis-is (st .args .t5) b (natAbs (st .args .k -ℤ st .args .g)) (omega arith)))
+    (ap (λ n. take n (st .args .l .now)) (sub-zero _ ∙ c .before .before .count .ensures ∙ g .count-is))
+
+-- src/lib.rt:27:9
+returns : tie.Need-returns
+returns c b = sym (select-scalar (c .before .args .g) (c .before .args .k) (left (c .before)) (right (c .before) b) (rank-is (c .before) b ∙ c .if1 .taken))
+
+-- src/lib.rt:30:9
+returns-2 : tie.Need-returns-2
+returns-2 c b =
+    let e = c .before .before in
+    let st = e .before in
+    sym (select-rank (st .args .g) (st .args .k) (left st) (right st b) (some e b) (omega (arith, good st .rank-is)))
+
+-- src/lib.rt:32:9
+position-requires : tie.Need-position-requires
+position-requires c κs = search needs
+
+-- src/lib.rt:34:9
+returns-3 : tie.Need-returns-3
+returns-3 c b =
+    let e = c .before .before in
+    let st = e .before .before .before in
+    sym (select-axis (st .args .g) (st .args .k) (left st) (right st b) (some (e .before .before) b) (list e)
+    (ap (within _) (rank-is st b) ∙ position-none _ _ (omega (arith, found (c .before), c .if3 .taken))))
+
+-- src/lib.rt:36:13
+mul-n : tie.Need-mul-n
+mul-n c = let h = high (c .before .before .before .before .before) in search needs
+
+-- src/lib.rt:36:13
+element-copy-out-n : tie.Need-element-copy-out-n
+element-copy-out-n c = let h = high (c .before .before .before .before .before) in omega arith
+
+-- src/lib.rt:37:9
+count-requires : tie.Need-count-requires
+count-requires c κs = search needs
+
+-- src/lib.rt:38:22
+sub-all-within : tie.Need-sub-all-within
+sub-all-within c = search needs
+
+-- src/lib.rt:38:22
+part-all-within-start : tie.Need-part-all-within-start
+part-all-within-start c = search needs
+
+-- src/lib.rt:38:22
+part-all-within-end : tie.Need-part-all-within-end
+part-all-within-end c = let g = good (c .before .before .before .before .before .before .before) in omega (arith, g .room, g .count-is, c .count .ensures)
+
+-- src/lib.rt:38:8
+all-within-requires : tie.Need-all-within-requires
+all-within-requires c κs = search needs
+
+-- src/lib.rt:21:1
+returns-4 : tie.Need-returns-4
+returns-4 c b =
+    let e = c .before .before .before .before .before in
+    let st = e .before .before .before .before .before in
+    sym (select-none (st .args .g) (st .args .k) (left st) (right st b) (some (e .before .before .before .before) b) (list (e .before .before))
+    (ap (within _) (rank-is st b) ∙ on-axis e .0) (sym (tested (c .before) b) ∙ c .if4 .taken))
+
+-- src/lib.rt:21:1
+returns-5 : tie.Need-returns-5
+returns-5 c b =
+    let e = c .before .before .before .before .before in
+    let st = e .before .before .before .before .before in
+    sym (select-index (st .args .g) (st .args .k) (left st) (right st b) (some (e .before .before .before .before) b) (list (e .before .before))
+    (ap (within _) (rank-is st b) ∙ on-axis e .0) (sym (tested (c .before) b) ∙ c .if4 .left))
+
+pub select-refusal-spec : {M : Type 1} → statement M
+select-refusal-spec =
+    tie.close
+    (tie.spec
+    returns
+    returns-2
+    position-requires
+    returns-3
+    mul-n
+    element-copy-out-n
+    count-requires
+    sub-all-within
+    part-all-within-start
+    part-all-within-end
+    all-within-requires
+    returns-4
+    returns-5)

@@ -1,0 +1,185 @@
+use borrow.Author.Needs.{needs, sfits-of}
+use native.Mathlib.Omega.{arith}
+use mathlib.Core.Path.{_≡_, refl, sym, ap, ap₂, _∙_}
+use Prim.Native.Nat.{_-_, _*_, _≤_, _<_, _+_}
+use lib.ListN.{length, getD}
+use native.Mathlib.Nat.{mul-le-mul-right}
+use lib.IntN.{ℤ, pos, _-ℤ_}
+use Rattle.signed.proofs.Reading.{read32}
+use Rattle.meaning.proofs.Positions.{positionOf}
+use mir.Syntax.{w32}
+use mir.Val.{toZ, ofZ}
+use Rattle.copying.proofs.Runs.{filled, length-filled}
+use Rattle.selects.specs.Chosen.{chosen, inBlock}
+use Rattle.selects.proofs.Rows.{filled-start, chosen-found, row-more}
+use Rattle.selects.proofs.select_rows.Statement.{statement}
+use Rattle.selects.proofs.select_rows.Tie as tie
+use Rattle.selects.proofs.select_rows.Reads as reads
+use Rattle.selects.proofs.select_rows.Lts as lts
+use Rattle.copying.proofs.copy_run.Reads as copy-run-reads
+use Rattle.signed.proofs.position.Reads as position-reads
+
+abbrev Inv-loop : tie.InvT-loop
+Inv-loop g l n inner r out₀ q₀ out q = (q ≤ length l) × ((length out ≡ length out₀) × (out ≡ filled (λ j. getD r (inBlock inner (chosen (toZ w32 g) l) j) (pos 0)) (q * inner) out₀))
+
+abbrev μ-loop : tie.MeasureT-loop
+μ-loop g l n inner r out₀ q₀ out q = length l - q
+
+-- The position is the chosen one.
+found : (c : tie.After-position Inv-loop μ-loop)
+    → let st = c .before .before .before .before in
+    (c .position .result ≡ chosen (toZ w32 (ofZ w32 (st .args .g))) (st .args .l .now) (c .before .before .before .loop .q)) × (c .position .result < st .args .n)
+found c =
+    let st = c .before .before .before .before in
+    let i = c .before .before .before .loop .q in
+    let g = st .args .g in
+    let l = st .args .l .now in
+    let e = read32 g (st .fits .g) in
+    let f = chosen-found g l (st .args .n) i (c .position .result) (st .pre .0) (omega arith)
+    (c .position .ensures ∙ ap₂ (λ z y. positionOf (z -ℤ y) (st .args .n)) (read32 (getD l i (pos 0)) (sfits-of (c .before .position-arg .given))) e) in
+    (f .0 ∙ ap (λ G. chosen G l i) (sym e), f .1)
+
+-- The row that is read and the row that is written end within both blocks.
+inside : (c : tie.After-position Inv-loop μ-loop)
+    → let st = c .before .before .before .before in
+    (c .position .result * st .args .inner + st .args .inner ≤ st .args .n * st .args .inner)
+    × (c .before .before .before .loop .q * st .args .inner + st .args .inner ≤ length (st .args .l .now) * st .args .inner)
+inside c =
+    let st = c .before .before .before .before in
+    let f = found c .1 in (
+      omega (arith, mul-le-mul-right {m = c .position .result + 1} {n = st .args .n} (st .args .inner) (omega arith)),
+      omega (arith, mul-le-mul-right {m = c .before .before .before .loop .q + 1} {n = length (st .args .l .now)} (st .args .inner) (omega arith)),
+    )
+
+-- src/lib.rt:157:5
+loop-holds : tie.Need-loop-holds Inv-loop μ-loop
+loop-holds c = (omega arith, (refl, filled-start _ (c .args .inner) _))
+
+-- src/lib.rt:158:34
+mul-position : tie.Need-mul-position Inv-loop μ-loop
+mul-position c = search needs
+
+-- src/lib.rt:158:34
+shared-slice-copy-out-position : tie.Need-shared-slice-copy-out-position Inv-loop μ-loop
+shared-slice-copy-out-position c = search needs
+
+-- src/lib.rt:158:13
+position-requires : tie.Need-position-requires Inv-loop μ-loop
+position-requires c κs = search needs
+
+-- src/lib.rt:159:20
+mul-from : tie.Need-mul-from Inv-loop μ-loop
+mul-from c = omega (arith, inside c)
+
+-- src/lib.rt:160:18
+add-to : tie.Need-add-to Inv-loop μ-loop
+add-to c = omega (arith, inside c)
+
+-- src/lib.rt:161:18
+mul-at : tie.Need-mul-at Inv-loop μ-loop
+mul-at c = omega (arith, inside c)
+
+-- src/lib.rt:162:19
+add-end : tie.Need-add-end Inv-loop μ-loop
+add-end c = omega (arith, inside c)
+
+-- src/lib.rt:163:27
+mul-copy-run : tie.Need-mul-copy-run Inv-loop μ-loop
+mul-copy-run c = let i = inside c in search needs
+
+-- src/lib.rt:163:27
+sub-copy-run : tie.Need-sub-copy-run Inv-loop μ-loop
+sub-copy-run c = omega (arith, inside c)
+
+-- src/lib.rt:163:27
+part-copy-run-start : tie.Need-part-copy-run-start Inv-loop μ-loop
+part-copy-run-start c = omega (arith, inside c)
+
+-- src/lib.rt:163:27
+part-copy-run-end : tie.Need-part-copy-run-end Inv-loop μ-loop
+part-copy-run-end c = omega (arith, inside c)
+
+-- src/lib.rt:163:41
+mul-copy-run-2 : tie.Need-mul-copy-run-2 Inv-loop μ-loop
+mul-copy-run-2 c = let i = inside (c .before) in search needs
+
+-- src/lib.rt:163:41
+sub-copy-run-2 : tie.Need-sub-copy-run-2 Inv-loop μ-loop
+sub-copy-run-2 c = omega (arith, inside (c .before))
+
+-- src/lib.rt:163:41
+part-copy-run-start-2 : tie.Need-part-copy-run-start-2 Inv-loop μ-loop
+part-copy-run-start-2 c = omega (arith, inside (c .before))
+
+-- src/lib.rt:163:41
+part-copy-run-end-2 : tie.Need-part-copy-run-end-2 Inv-loop μ-loop
+part-copy-run-end-2 c = omega (arith, inside (c .before))
+
+-- src/lib.rt:163:9
+copy-run-requires : tie.Need-copy-run-requires Inv-loop μ-loop
+copy-run-requires c κs = search needs
+
+-- src/lib.rt:164:9
+add-q : tie.Need-add-q Inv-loop μ-loop
+add-q c = search needs
+
+-- src/lib.rt:157:5
+loop-less : tie.Need-loop-less Inv-loop μ-loop
+loop-less c = search needs
+
+-- src/lib.rt:157:5
+loop-again : tie.Need-loop-again Inv-loop μ-loop
+loop-again c =
+    let p = c .before .before .before .before in
+    let lp = p .before .before .before .loop in
+    let st = p .before .before .before .before in
+    let w = st .args .inner in
+    let out₀ = st .args .out .now in
+    let i = inside p in
+    let e = row-more w (chosen (toZ w32 (ofZ w32 (st .args .g))) (st .args .l .now)) (lp .q) (lp .q * w + w) (p .position .result * w) (p .position .result * w + w) (st .args .r .now) (lp .out) out₀ _
+    (lp .inv .1 .1) refl (omega arith) (ap (λ x. x * w) (found p .0)) refl (omega arith) (c .before .copy-run .ensures) in
+    (omega arith, (ap length e ∙ length-filled _ ((lp .q + 1) * w) out₀ (omega arith), e))
+
+-- src/lib.rt:144:1
+same-length : tie.Need-same-length Inv-loop μ-loop
+same-length c = search needs
+
+-- src/lib.rt:144:1
+returns : tie.Need-returns Inv-loop μ-loop
+returns c =
+    let lp = c .before .loop in
+    let st = c .before .before in
+    let l = st .args .l .now in
+    let w = st .args .inner in
+    let e : lp .q * w ≡ length l * w = ap (λ x. x * w) (let q : lp .q ≡ length l = omega arith in q) in
+    lp .inv .1 .1
+    ∙ ap₂ (λ G n. filled (λ j. getD (st .args .r .now) (inBlock w (chosen G l) j) (pos 0)) n (st .args .out .now)) (read32 _ (st .fits .g)) e
+
+pub select-rows-spec : {M : Type 1} → statement M
+select-rows-spec =
+    tie.close
+    (tie.spec
+    Inv-loop
+    μ-loop
+    loop-holds
+    mul-position
+    shared-slice-copy-out-position
+    position-requires
+    mul-from
+    add-to
+    mul-at
+    add-end
+    mul-copy-run
+    sub-copy-run
+    part-copy-run-start
+    part-copy-run-end
+    mul-copy-run-2
+    sub-copy-run-2
+    part-copy-run-start-2
+    part-copy-run-end-2
+    copy-run-requires
+    add-q
+    loop-less
+    loop-again
+    same-length
+    returns)

@@ -1,0 +1,217 @@
+// Select: chosen positions of one axis.
+ghost use mathlib.Core.Path.{_≡_};
+ghost use mathlib.Core.List.{List, _++_};
+ghost use mathlib.Core.Bool.{Bool, true};
+ghost use Prim.Native.Nat.{ℕ, _*_, _≤_, _<_};
+ghost use lib.ListN.{length, getD, set, drop};
+ghost use lib.IntN.{ℤ, pos, _-ℤ_};
+ghost use Rattle.shape.specs.Shape.{maxCount, maxRank, counted, count, goodShape, shapeOf};
+ghost use Rattle.meaning.specs.Array.{arrayOf, goodForm, build};
+ghost use Rattle.meaning.specs.Terms.{within, every, without, along};
+ghost use Rattle.meaning.specs.Primitives.{select};
+ghost use Rattle.meaning.specs.Reply.{reply};
+ghost use Rattle.copying.proofs.Runs.{filled};
+ghost use Rattle.copying.proofs.Blocks.{source};
+ghost use Rattle.answer.specs.Answer.{lent, own, Replied};
+ghost use Rattle.selects.specs.Chosen.{chosen, Chosen, selectedLengths, inBlock};
+use answer::Answer;
+use shape::Shape;
+
+// 31. A vector L replaces the axis, a scalar L removes it.
+pub fn select(g: i32, k: i32, ls: Shape, l: &[i32], rs: Shape, r: &[i32], out: &mut [i32]) -> Answer
+    ensures { λ a.
+        ⌜ Replied a (now (out .exit)) (reply (pos 31) g k (lent ls (now (l .entry))) (lent rs (now (r .entry))) (now (out .entry))) ⌝ }
+{
+    let early = answer::early_two(g, ls, l, rs, r);
+    if early != 0 {
+        return Answer::refused(early);
+    }
+    let own = select_refusal(g, k, ls, l, rs);
+    if own != 0 {
+        return Answer::refused(own);
+    }
+    let axis = signed::position(k, g, rs.rank);
+    let m = ls.count();
+    let shape = selected(ls.rank, m, rs, axis);
+    let count = shape.count();
+    if Shape::MAX_COUNT < count {
+        return Answer::refused(9);
+    }
+    if out.len() < count {
+        return Answer::refused(10);
+    }
+    select_into(g, &l[0..m], axis, count, rs, r, out);
+    Answer { number: 0, shape }
+}
+
+// RANK, AXIS and INDEX. No element of R is looked at.
+fn select_refusal(g: i32, k: i32, ls: Shape, l: &[i32], rs: Shape) -> usize
+    requires { ⌜ (goodForm (lent ls (now l)) ≡ true) × (goodShape rs ≡ true) ⌝ }
+    ensures { λ n. ⌜ ((b : List ℤ) → n ≡ own 31 (select g k (arrayOf (lent ls (now (l .entry)))) (arrayOf (lent rs b)) .refusals)) ⌝ }
+{
+    let rank = rs.rank;
+    if rank == 0 {
+        return 4;
+    }
+    if 1 < ls.rank {
+        return 4;
+    }
+    let axis = signed::position(k, g, rank);
+    if rank <= axis {
+        return 5;
+    }
+    let n = rs.lens[axis];
+    let m = ls.count();
+    if all_within(g, &l[0..m], n) { 0 } else { 8 }
+}
+
+// Whether each number less g is a position of an axis of length n.
+fn all_within(g: i32, l: &[i32], n: usize) -> bool
+    ensures { λ b. ⌜ b ≡ every (λ z. within (z -ℤ g) n) (now (l .entry)) ⌝ }
+{
+    let mut i = 0;
+    while i < l.len() {
+        if n <= signed::position(l[i], g, n) {
+            return false;
+        }
+        i += 1;
+    }
+    true
+}
+
+// The result's shape, by L's rank and the count of its elements.
+fn selected(rank: usize, m: usize, rs: Shape, k: usize) -> Shape
+    requires { ⌜ (rs .rank ≤ maxRank) × (k < rs .rank) ⌝ }
+    ensures { λ s. ⌜ s ≡ shapeOf (selectedLengths rank m k (counted rs)) ⌝ }
+{
+    if rank == 0 {
+        removed(rs, k)
+    } else {
+        replaced(rs, k, m)
+    }
+}
+
+// R's shape with m positions on axis k.
+fn replaced(rs: Shape, k: usize, m: usize) -> Shape
+    requires { ⌜ (rs .rank ≤ maxRank) × (k < rs .rank) ⌝ }
+    ensures { λ s. ⌜ s ≡ shapeOf (set (counted rs) k m) ⌝ }
+{
+    let mut lens = rs.lens;
+    lens[k] = m;
+    Shape::of_lengths(rs.rank, lens)
+}
+
+// R's shape without axis k.
+fn removed(rs: Shape, k: usize) -> Shape
+    requires { ⌜ (rs .rank ≤ maxRank) × (k < rs .rank) ⌝ }
+    ensures { λ s. ⌜ s ≡ shapeOf (without k (counted rs)) ⌝ }
+{
+    let last = rs.rank - 1;
+    let mut lens = rs.lens;
+    let mut i = k;
+    while i < last {
+        lens[i] = lens[i + 1];
+        i += 1;
+    }
+    Shape::of_lengths(last, lens)
+}
+
+// The result's elements, `total` in number.
+fn select_into(g: i32, l: &[i32], k: usize, total: usize, rs: Shape, r: &[i32], out: &mut [i32])
+    requires { ⌜ (goodForm (lent rs (now r)) ≡ true)
+        × ((k < rs .rank)
+        × (Chosen g (now l) (getD (counted rs) k 0)
+        × ((total ≡ count (set (counted rs) k (length (now l)))) × ((total ≤ maxCount) × (total ≤ length (now out)))))) ⌝ }
+    ensures { λ _.
+        ⌜ now (out .exit)
+        ≡ build (set (counted rs) k (length (now (l .entry)))) (along (arrayOf (lent rs (now (r .entry)))) k (chosen g (now (l .entry)))) .elements
+        ++ drop total (now (out .entry)) ⌝ }
+{
+    if total == 0 {
+        return;
+    }
+    let a = rs.around(k);
+    select_blocks(g, l, a.length, a.inner, a.outer, r, out);
+}
+
+// Every block of R gives its chosen rows. A block has n rows of `inner` elements.
+fn select_blocks(
+    g: i32,
+    l: &[i32],
+    n: usize,
+    inner: usize,
+    outer: usize,
+    r: &[i32],
+    out: &mut [i32],
+)
+    requires { ⌜ Chosen g (now l) n
+        × ((outer ≤ maxCount)
+        × ((n * inner ≤ maxCount)
+        × ((length (now l) * inner ≤ maxCount) × ((outer * (n * inner) ≤ length (now r)) × (outer * (length (now l) * inner) ≤ length (now out)))))) ⌝ }
+    ensures { λ _.
+        ⌜ now (out .exit)
+        ≡ filled (λ j. getD (now (r .entry)) (source (length (now (l .entry))) n inner (chosen g (now (l .entry))) j) (pos 0))
+        (outer * (length (now (l .entry)) * inner))
+        (now (out .entry)) ⌝ }
+{
+    let taken = n * inner;
+    let made = l.len() * inner;
+    let mut o = 0;
+    while o < outer {
+        let from = o * taken;
+        let to = from + taken;
+        let at = o * made;
+        let end = at + made;
+        select_block(g, l, n, inner, &r[from..to], &mut out[at..end]);
+        o += 1;
+    }
+}
+
+// Where a row is one element, one loop over the line.
+fn select_block(g: i32, l: &[i32], n: usize, inner: usize, r: &[i32], out: &mut [i32])
+    requires { ⌜ Chosen g (now l) n
+        × ((n * inner ≤ maxCount)
+        × ((length (now l) * inner ≤ maxCount) × ((n * inner ≤ length (now r)) × (length (now l) * inner ≤ length (now out))))) ⌝ }
+    ensures { λ _.
+        ⌜ now (out .exit)
+        ≡ filled (λ i. getD (now (r .entry)) (inBlock inner (chosen g (now (l .entry))) i) (pos 0)) (length (now (l .entry)) * inner) (now (out .entry)) ⌝ }
+{
+    if inner == 1 {
+        select_line(g, l, n, r, out);
+    } else {
+        select_rows(g, l, n, inner, r, out);
+    }
+}
+
+fn select_line(g: i32, l: &[i32], n: usize, r: &[i32], out: &mut [i32])
+    requires { ⌜ Chosen g (now l) n × ((n ≤ length (now r)) × (length (now l) ≤ length (now out))) ⌝ }
+    ensures { λ _. ⌜ now (out .exit) ≡ filled (λ i. getD (now (r .entry)) (chosen g (now (l .entry)) i) (pos 0)) (length (now (l .entry))) (now (out .entry)) ⌝ }
+{
+    let mut i = 0;
+    while i < l.len() {
+        let x = signed::position(l[i], g, n);
+        out[i] = r[x];
+        i += 1;
+    }
+}
+
+// Each row is a run from the middle of R.
+fn select_rows(g: i32, l: &[i32], n: usize, inner: usize, r: &[i32], out: &mut [i32])
+    requires { ⌜ Chosen g (now l) n
+        × ((n * inner ≤ maxCount)
+        × ((length (now l) * inner ≤ maxCount) × ((n * inner ≤ length (now r)) × (length (now l) * inner ≤ length (now out))))) ⌝ }
+    ensures { λ _.
+        ⌜ now (out .exit)
+        ≡ filled (λ i. getD (now (r .entry)) (inBlock inner (chosen g (now (l .entry))) i) (pos 0)) (length (now (l .entry)) * inner) (now (out .entry)) ⌝ }
+{
+    let mut q = 0;
+    while q < l.len() {
+        let x = signed::position(l[q], g, n);
+        let from = x * inner;
+        let to = from + inner;
+        let at = q * inner;
+        let end = at + inner;
+        copying::copy_run(&r[from..to], &mut out[at..end]);
+        q += 1;
+    }
+}
