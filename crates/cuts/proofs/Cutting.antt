@@ -42,6 +42,10 @@ pub record Fits (t : List ℕ) (at n m : ℕ) : Type 0 where
   pub last : length t ≡ 5 → step t ≡ block t
   pub rest : 5 < length t → (i : ℕ) → i < len t → Fitting (drop 5 t) (at + (from t + i) * step t) n (block t)
 
+-- Position i of the window lies in both buffers.
+abbrev pub Turn : List ℕ → ℕ → ℕ → ℕ → ℕ → Type 0
+Turn t at n m i = (lead t * block t + i * block t + block t ≤ m) × (at + from t * step t + i * step t ≤ n)
+
 pub fits : (t : List ℕ) (at n m : ℕ) → Fitting t at n m → Fits t at n m
 fits [] at n m h = absurd h
 fits (_ ∷ []) at n m h = absurd h
@@ -131,8 +135,7 @@ module _ (t : List ℕ) (r : List ℤ) (at m : ℕ) (f : Fits t at (length r) m)
   abbrev pub stop : ℕ
   stop = lead t * block t + len t * block t
 
-  -- Position i of the window lies in both buffers.
-  pub cut-room : (i : ℕ) → i < len t → (start + i * block t + block t ≤ m) × (at + from t * step t + i * step t ≤ length r)
+  pub cut-room : (i : ℕ) → i < len t → Turn t at (length r) m i
   cut-room i h = (
     omega (arith, f .room, mul-le-mul-right {m = i + 1} {n = len t} (block t) (omega arith)),
     omega (arith, f .inner, mul-le-mul-right {m = i} {n = len t} (step t) (omega arith)),
