@@ -3,10 +3,9 @@ use mathlib.Core.Path.{_≡_, refl, sym, ap, _∙_}
 use mathlib.Core.List.{List}
 use mathlib.Core.Bool.{true, false}
 use Prim.Native.Nat.{ℕ, _≤_, _<_}
-use borrow.Author.Tests.{le-leb}
-use lib.ListN.{length, take}
+use lib.ListN.{length}
 use lib.Seq.{take-at}
-use Rattle.shape.specs.Shape.{maxRank, maxCount, counted, count, countOf, goodShape, shapeOf, shapeRule, madeOf}
+use Rattle.shape.specs.Shape.{maxRank, maxCount, counted, count, countOf, goodShape, shapeOf, shapeRule}
 use Rattle.shape.proofs.Counts.{good-count, bad-count}
 use Rattle.answer.proofs.Lent.{count-of}
 
@@ -25,7 +24,3 @@ module _ (ns : List ℕ) where
 
   pub made-count : countOf (shapeOf ns) ≤ maxCount → countOf (shapeOf ns) ≡ count ns
   made-count h = count-of (shapeOf ns) (good-count (shapeOf ns) h) ∙ ap count made-counted
-
-  -- What of_lengths makes, where the first lengths are the result's.
-  pub made-is : (r : ℕ) (lens : List ℕ) → r ≤ maxRank → take r lens ≡ ns → madeOf r lens ≡ shapeOf ns
-  made-is r lens h e = rw (le-leb r maxRank h) (ap shapeOf e)

@@ -22,28 +22,12 @@ use Rattle.meaning.proofs.Arrays.{Whole, build-lengths, at-build, build-ext, bu
 use Rattle.meaning.proofs.Positions.{within-lt}
 use Rattle.meaning.proofs.Scalars.{array-as}
 use Rattle.meaning.proofs.Without.{without-set}
+use Rattle.meaning.proofs.Sides.{same-lengths, whole, side-whole, higher-left}
 use Rattle.meaning.proofs.Replies.{NoneMet}
 use Rattle.laws.specs.Words.{IsArray, IsOrigin, IsAxis, IsLong, given, Lists}
 use Rattle.laws.specs.Laws.{FirstAndRest}
 use Rattle.laws.proofs.Calls.{result, array-rule, form-whole, Gives, gives, same-array, listed, lists-array}
 use Rattle.laws.proofs.Cut.{firsts, lesser, length-firsts, length-lesser, sizes-firsts, lengths-lesser, front, front-lengths, takes-front, back, back-lengths, drops-back}
-
-pub same-lengths : (ns : List ℕ) → sameLengths ns ns ≡ true
-unfolding sameLengths
-same-lengths [] = refl
-same-lengths (n ∷ ns) = rw (eq-eqb n n refl) (same-lengths ns)
-
--- An operand of the higher rank, which is not a scalar's, counts as it is.
-abbrev whole : Array → ℕ → Side
-whole a k = record { extent = axis a k; others = without k (a .lengths); element = at a }
-
-side-whole : (ns : List ℕ) (k : ℕ) (a : Array) → 0 < rank a → rank a ≡ length ns → side ns k a ≡ whole a k
-unfolding side
-side-whole ns k a h e = rw (ne-eqb (rank a) 0 (λ z. omega arith), ne-eqb (suc (rank a)) (length ns) (λ z. omega arith))
-
-higher-left : (a b : Array) → 0 < rank a → rank b ≤ rank a → higher a b ≡ a .lengths
-unfolding higher
-higher-left a b h e = rw (le-ltb (rank a) (rank b) e) (ap (λ c. c .lengths) (array-as 1 a h))
 
 -- Two arrays of equal rank joined along axis k.
 unfoldable pub joined : ℕ → Array → Array → Array

@@ -8,3 +8,4 @@ pub mod Positions
 pub mod Sent
 pub mod Without
 pub mod Every
+pub mod Sides

@@ -2,12 +2,13 @@
 use mathlib.Core.Path.{_≡_, refl, sym, ap, ap₂, _∙_}
 use mathlib.Core.List.{List, [], _∷_, _++_}
 use Prim.Native.Nat.{ℕ, zero, suc, _+_, _*_, _/_, _%_, _≤_, _<_}
-use native.Mathlib.Nat.{one-mul, mod-lt, mod-eq-of-lt, div-eq-of-lt, not-suc-le-zero, le-of-suc-le-suc, mul-zero}
+use native.Mathlib.Nat.{zero-mul, zero-add, one-mul, mod-lt, mod-eq-of-lt, div-eq-of-lt, not-suc-le-zero, le-of-suc-le-suc, mul-zero}
 use native.Mathlib.Omega.{arith}
 use lib.ListN.{length, getD, set, take, drop}
 use lib.IntN.{ℤ}
 use Rattle.shape.specs.Shape.{count}
-use Rattle.shape.specs.Place.{place}
+use Rattle.shape.specs.Place.{place, index}
+use Rattle.shape.proofs.Places.{In}
 use Rattle.meaning.specs.Array.{Array, at, tab, build}
 use Rattle.meaning.specs.Terms.{rank, without, putIn, along}
 use Rattle.meaning.proofs.Tab.{tab-ext}
@@ -61,3 +62,26 @@ unfolding build along
 removed a k φ l =
     tab-ext (count (without k (a .lengths))) _ _ (λ j h. ap (at a) (put-place φ (a .lengths) k j l h))
     ∙ ap (λ n. tab n (λ j. at a (set (place (set (a .lengths) k 1) j) k (φ (getD (place (set (a .lengths) k 1) j) k 0))))) (count-without (a .lengths) k l)
+
+-- A place without the only position of an axis.
+pub index-without : (ns : List ℕ) (k : ℕ) (p : List ℕ) → k < length ns → In (set ns k 1) p → index (without k ns) (without k p) ≡ index (set ns k 1) p
+unfolding without index
+index-without [] k p l h = absurd (not-suc-le-zero l)
+index-without (n ∷ ns) zero [] l h = absurd h
+index-without (n ∷ ns) zero (i ∷ p) l h =
+    let z : i ≡ 0 = omega (arith, h .0) in
+    sym (ap (λ x. x * count ns + index ns p) z ∙ ap (λ x. x + index ns p) (zero-mul (count ns)) ∙ zero-add (index ns p))
+index-without (n ∷ ns) (suc k) [] l h = absurd h
+index-without (n ∷ ns) (suc k) (i ∷ p) l h =
+    ap₂ (λ c x. i * c + x) (count-without ns k (le-of-suc-le-suc l)) (index-without ns k p (le-of-suc-le-suc l) (h .1))
+
+-- Lengths that agree but for axis k.
+pub same-set : (xs ns : List ℕ) (k : ℕ) → length xs ≡ length ns → k < length ns → without k xs ≡ without k ns → xs ≡ set ns k (getD xs k 0)
+unfolding without
+same-set xs [] k e l h = absurd (not-suc-le-zero l)
+same-set [] (n ∷ ns) k e l h = absurd (omega arith)
+same-set (x ∷ xs) (n ∷ ns) zero e l h = ap (λ q. x ∷ q) h
+same-set (x ∷ xs) (n ∷ ns) (suc k) e l h =
+    let head : x ≡ n = cc in
+    let rest : without k xs ≡ without k ns = cc in
+    ap₂ (λ y q. y ∷ q) head (same-set xs ns k (omega arith) (le-of-suc-le-suc l) rest)

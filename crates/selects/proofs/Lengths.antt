@@ -1,4 +1,4 @@
--- Lengths with one axis changed or removed, in the array that holds them.
+-- Lengths with one axis removed, in the array that holds them.
 use mathlib.Core.Path.{_≡_, refl, sym, ap, ap₂, _∙_}
 use mathlib.Core.List.{List, [], _∷_, _++_}
 use Prim.Native.Nat.{ℕ, zero, suc, _+_, _≤_, _<_}
@@ -6,13 +6,10 @@ use native.Mathlib.Nat.{not-suc-le-zero, le-of-suc-le-suc}
 use native.Mathlib.Numerals.{add-one}
 use native.Mathlib.Omega.{arith}
 use lib.ListN.{length, getD, set, take, drop, length-append, length-drop}
-use lib.Seq.{take-set-lt, take-at, take-append-le, take-all, length-take-le, getD-drop, getD-append-add}
+use lib.Seq.{take-at, take-append-le, take-all, length-take-le, getD-drop, getD-append-add}
 use Rattle.meaning.specs.Terms.{without}
 use Rattle.meaning.proofs.Without.{without-parts, length-without}
 use Rattle.copying.proofs.Steps.{front-step}
-
-pub replaced-lengths : (lens : List ℕ) (r k m : ℕ) → k < r → take r (set lens k m) ≡ set (take r lens) k m
-replaced-lengths lens r k m h = take-set-lt r lens k m h
 
 -- The lengths without axis k, of which the first i are moved to their places.
 abbrev pub shifted : ℕ → ℕ → List ℕ → List ℕ

@@ -15,13 +15,10 @@ use Rattle.meaning.specs.Terms.{within}
 use Rattle.meaning.proofs.Tab.{length-tab, getD-tab, tab-ext}
 use Rattle.meaning.proofs.Positions.{positionOf, within-lt}
 use Rattle.copying.specs.Runs.{copied}
-use Rattle.copying.proofs.Runs.{filled, filled-none, filled-one, length-filled, put-list, put-copied}
+use Rattle.copying.proofs.Runs.{filled, put-copied}
+use Rattle.copying.proofs.Parts.{part-filled}
 use Rattle.copying.proofs.Blocks.{source, source-in}
 use Rattle.selects.specs.Chosen.{chosen, Chosen, inBlock}
-
--- Before the first row.
-pub filled-start : (g : ℕ → ℤ) (c : ℕ) (out : List ℤ) → out ≡ filled g (0 * c) out
-filled-start g c out = filled-none g out ∙ ap (λ n. filled g n out) (sym (zero-mul c))
 
 -- The position that is found for a chosen number.
 pub chosen-found : (g : ℤ) (l : List ℤ) (n i x : ℕ) → Chosen g l n → i < length l → x ≡ positionOf (getD l i (pos 0) -ℤ g) n → (x ≡ chosen g l i) × (x < n)
@@ -52,22 +49,6 @@ row-more c φ q e from to r out out₀ last o end room f stop inside run =
     (λ x l. ap (λ y. getD r y (pos 0)) (row-at c φ q x l ∙ ap (λ y. y + x) (sym f)))
     run
     ∙ ap (λ n. filled (λ i. getD r (inBlock c φ i) (pos 0)) n out₀) (let w : q * c + c ≡ (q + 1) * c = omega arith in w)
-
--- A part has as many elements as it is long.
-pub part-long : {A : Type 0} (xs : List A) (at w : ℕ) → at + w ≤ length xs → length (take (at + w - at) (drop at xs)) ≡ w
-part-long xs at w h = length-take-le (at + w - at) (drop at xs) (rw length-drop (omega arith)) ∙ omega arith
-
--- A part that was filled by h stands in a buffer that is filled by g.
-pub part-filled : (g h : ℕ → ℤ) (n m e : ℕ) (out out₀ last part : List ℤ) → out ≡ filled g n out₀ → e ≡ n + m
-    → length part ≡ m → last ≡ filled h m part → ((i : ℕ) → i < m → g (n + i) ≡ h i)
-    → putMid n (e - n) out last ≡ filled g (n + m) out₀
-part-filled g h n m e out out₀ last part o end long q same =
-    put-list g (pos 0) n m e out out₀ last o end (ap length q ∙ length-filled h m part (omega arith) ∙ long)
-    (λ i l.
-    same i l
-    ∙ sym (ap (λ ys. getD ys i (pos 0)) q
-    ∙ List·getD-append (tab m h) (drop m part) (pos 0) i (omega (arith, length-tab m h))
-    ∙ getD-tab m h i (pos 0) l))
 
 positive : (i m c : ℕ) → i < m * c → 0 < c
 positive i m zero h = absurd (not-suc-le-zero (rw mul-zero at h))

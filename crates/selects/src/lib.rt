@@ -87,18 +87,8 @@ fn selected(rank: usize, m: usize, rs: Shape, k: usize) -> Shape
     if rank == 0 {
         removed(rs, k)
     } else {
-        replaced(rs, k, m)
+        rs.with_length(k, m)
     }
-}
-
-// R's shape with m positions on axis k.
-fn replaced(rs: Shape, k: usize, m: usize) -> Shape
-    requires { ⌜ (rs .rank ≤ maxRank) × (k < rs .rank) ⌝ }
-    ensures { λ s. ⌜ s ≡ shapeOf (set (counted rs) k m) ⌝ }
-{
-    let mut lens = rs.lens;
-    lens[k] = m;
-    Shape::of_lengths(rs.rank, lens)
 }
 
 // R's shape without axis k.

@@ -7,3 +7,4 @@ pub mod Padded
 pub mod Next
 pub mod Successor
 pub mod Surround
+pub mod Made

@@ -2,8 +2,8 @@
 ghost use mathlib.Core.Path.{_≡_};
 ghost use mathlib.Core.Bool.{true, false};
 ghost use mathlib.Core.List.{[], _∷_, _++_};
-ghost use Prim.Native.Nat.{suc, _*_, _-_, _≤_, min};
-ghost use lib.ListN.{take, replicate};
+ghost use Prim.Native.Nat.{suc, _*_, _-_, _≤_, _<_, min};
+ghost use lib.ListN.{take, set, replicate};
 ghost use lib.Seq.{slice};
 ghost use Rattle.shape.specs.Shape.{maxRank, maxCount, counted, goodShape, countOf, shapeOf, madeOf, scalar, count, held, aroundOf};
 ghost use Rattle.shape.specs.Place.{endPlace, successor, inside};
@@ -59,6 +59,16 @@ impl Shape {
         }
         let kept = cleared(lens, rank);
         Shape { rank, lens: kept }
+    }
+
+    // The same shape with another length of axis k.
+    pub fn with_length(self, k: usize, n: usize) -> Shape
+        requires { ⌜ (self .rank ≤ maxRank) × (k < self .rank) ⌝ }
+        ensures { λ s. ⌜ s ≡ shapeOf (set (counted self) k n) ⌝ }
+    {
+        let mut lens = self.lens;
+        lens[k] = n;
+        Shape::of_lengths(self.rank, lens)
     }
 
     // One more than the largest count for a bad shape. A zero counts even after a product above the limit.

@@ -5,7 +5,7 @@ use Prim.Native.Nat.{_-_, _≤_}
 use lib.ListN.{length}
 use Rattle.shape.specs.Shape.{maxRank, counted}
 use Rattle.meaning.specs.Terms.{without}
-use Rattle.answer.proofs.Made.{made-is}
+use Rattle.shape.proofs.Made.{made-is}
 use Rattle.selects.proofs.Lengths.{shifted, shifted-none, shifted-more, shifted-all}
 use Rattle.selects.proofs.removed.Statement.{statement}
 use Rattle.selects.proofs.removed.Tie as tie

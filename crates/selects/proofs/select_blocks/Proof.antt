@@ -13,7 +13,8 @@ use Rattle.meaning.proofs.Positions.{within-lt}
 use Rattle.copying.proofs.Runs.{filled, length-filled}
 use Rattle.copying.proofs.Blocks.{source}
 use Rattle.selects.specs.Chosen.{chosen, Chosen}
-use Rattle.selects.proofs.Rows.{filled-start, part-long, block-more}
+use Rattle.copying.proofs.Parts.{filled-start, part-long}
+use Rattle.selects.proofs.Rows.{block-more}
 use Rattle.selects.proofs.select_blocks.Statement.{statement}
 use Rattle.selects.proofs.select_blocks.Tie as tie
 use Rattle.selects.proofs.select_blocks.Reads as reads

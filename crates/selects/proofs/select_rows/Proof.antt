@@ -11,7 +11,8 @@ use mir.Syntax.{w32}
 use mir.Val.{toZ, ofZ}
 use Rattle.copying.proofs.Runs.{filled, length-filled}
 use Rattle.selects.specs.Chosen.{chosen, inBlock}
-use Rattle.selects.proofs.Rows.{filled-start, chosen-found, row-more}
+use Rattle.copying.proofs.Parts.{filled-start}
+use Rattle.selects.proofs.Rows.{chosen-found, row-more}
 use Rattle.selects.proofs.select_rows.Statement.{statement}
 use Rattle.selects.proofs.select_rows.Tie as tie
 use Rattle.selects.proofs.select_rows.Reads as reads

@@ -6,15 +6,15 @@ use Rattle.selects.proofs.selected.Tie as tie
 use Rattle.selects.proofs.selected.Reads as reads
 use Rattle.selects.proofs.selected.Lts as lts
 use Rattle.selects.proofs.removed.Reads as removed-reads
-use Rattle.selects.proofs.replaced.Reads as replaced-reads
+use Rattle.shape.proofs.Shape.with_length.Reads as with-length-reads
 
 -- src/lib.rt:89:20
 removed-requires : tie.Need-removed-requires
 removed-requires c κs = search needs
 
 -- src/lib.rt:89:44
-replaced-requires : tie.Need-replaced-requires
-replaced-requires c κs = search needs
+with-length-requires : tie.Need-with-length-requires
+with-length-requires c κs = search needs
 
 -- src/lib.rt:85:1
 returns : tie.Need-returns
@@ -22,7 +22,7 @@ returns c = let st = c .before .before in c .removed .ensures ∙ rw (eq-eqb (st
 
 -- src/lib.rt:85:1
 returns-2 : tie.Need-returns-2
-returns-2 c = let st = c .before .before in c .replaced .ensures ∙ rw (ne-eqb (st .args .rank) 0 (c .before .if1 .left))
+returns-2 c = let st = c .before .before in c .with-length .ensures ∙ rw (ne-eqb (st .args .rank) 0 (c .before .if1 .left))
 
 pub selected-spec : {M : Type 1} → statement M
-selected-spec = tie.close (tie.spec removed-requires replaced-requires returns returns-2)
+selected-spec = tie.close (tie.spec removed-requires with-length-requires returns returns-2)
