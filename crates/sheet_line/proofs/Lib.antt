@@ -7,3 +7,4 @@ pub mod Cursor
 pub mod Readers
 pub mod Operands
 pub mod Calls
+pub mod Says

@@ -77,6 +77,13 @@ call roomL roomR =
     head then λ h. operand roomL then λ L. operand roomR then λ R.
     give (record { head = h; left = L; right = R })
 
+-- The numbers that say a call, in this order.
+unfoldable pub operandNumbers : Array → List ℤ
+operandNumbers a = pos (length (a .lengths)) ∷ map pos (a .lengths) ++ a .elements
+
+unfoldable pub callNumbers : Call → List ℤ
+callNumbers c = c .head .primitive ∷ c .head .origin ∷ c .head .axis ∷ operandNumbers (c .left) ++ operandNumbers (c .right)
+
 -- No number is left over.
 abbrev pub allRead : {A : Type 0} → A × List ℤ → Option A
 allRead (a, []) = some a
