@@ -1,3 +1,5 @@
 pub mod Writing
 pub mod Parts
 pub mod Answers
+pub mod Room
+pub mod Paper

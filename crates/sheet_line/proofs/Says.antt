@@ -107,9 +107,9 @@ call-undone a b zs c rest e =
     let h = one .found .0 in
     same callNumbers (three .on)
     ∙ ap (λ l. h .primitive ∷ h .origin ∷ h .axis ∷ l)
-      (append-assoc (operandNumbers (two .found .0)) (operandNumbers (three .found .0)) (three .found .1)
-      ∙ ap (λ l. operandNumbers (two .found .0) ++ l) (operand-undone b (two .found .1) (three .found .0) (three .found .1) (three .is))
-      ∙ operand-undone a (one .found .1) (two .found .0) (two .found .1) (two .is))
+    (append-assoc (operandNumbers (two .found .0)) (operandNumbers (three .found .0)) (three .found .1)
+    ∙ ap (λ l. operandNumbers (two .found .0) ++ l) (operand-undone b (two .found .1) (three .found .0) (three .found .1) (three .is))
+    ∙ operand-undone a (one .found .1) (two .found .0) (two .found .1) (two .is))
     ∙ head-undone zs h (one .found .1) (one .is)
 
 -- A good line is exactly the printing of the call that was read from it.
@@ -164,12 +164,13 @@ unfolding operand operandNumbers
 operand-again limit a rest h =
     let lengths = many-again (natural maxHeld) pos (λ n. leb n maxHeld) (λ n r t. natural-again maxHeld n r t) (a .lengths) (a .elements ++ rest) (h .lengths) in
     let elements = rw (h .elements) at (elements-again (a .elements) rest) in
-    rw
-    ( append-assoc (map pos (a .lengths)) (a .elements) rest
-    , natural-again maxRank (length (a .lengths)) (map pos (a .lengths) ++ (a .elements ++ rest)) (le-leb (length (a .lengths)) maxRank (h .rank))
-    , lengths
-    , le-leb (count (a .lengths)) limit (h .room)
-    , elements )
+    rw (
+      append-assoc (map pos (a .lengths)) (a .elements) rest,
+      natural-again maxRank (length (a .lengths)) (map pos (a .lengths) ++ (a .elements ++ rest)) (le-leb (length (a .lengths)) maxRank (h .rank)),
+      lengths,
+      le-leb (count (a .lengths)) limit (h .room),
+      elements,
+    )
 
 call-again : (a b : ℕ) (c : Call) → Held a (c .left) → Held b (c .right) → call a b (callNumbers c) ≡ some (c, [])
 unfolding call head callNumbers
