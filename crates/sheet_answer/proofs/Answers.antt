@@ -3,15 +3,13 @@ use Prim.Native.Nat.{ℕ, zero, suc, _+_, _≤_, _<_}
 use native.Mathlib.Omega.{arith}
 use mathlib.Core.Path.{_≡_, refl, sym, ap, _∙_}
 use mathlib.Core.List.{List, [], _∷_, _++_, append-assoc, append-nil, map}
-use mathlib.Core.Bool.{Bool, true, false, cond}
-use lib.Dec.{leb}
-use lib.ListN.{length, take, drop, length-append}
+use lib.ListN.{length, take, length-append}
 use borrow.Author.Tests.{le-leb, lt-leb}
 use lib.IntN.{ℤ}
 use Rattle.shape.specs.declared.Shape.{Shape}
 use Rattle.shape.specs.Shape.{maxCount, count, counted, countOf}
 use Rattle.shape.proofs.Counts.{good-count, bad-count}
-use Rattle.meaning.specs.Array.{Operand, Array, arrayOf, goodForm}
+use Rattle.meaning.specs.Array.{Operand, goodForm}
 use Rattle.sheet_line.specs.Text.{newline, blank, digits, decimal, following, spaced}
 use Rattle.sheet_line.specs.Call.{front}
 use Rattle.sheet_answer.specs.Answer.{answerLine, okLine, noLine, badLine, replyLine, fitted}

@@ -1,5 +1,5 @@
 -- Paper 01, "The sheet program": its example, line by line.
-use Prim.Native.Nat.{ℕ, zero, suc}
+use Prim.Native.Nat.{ℕ, suc}
 use mathlib.Core.Path.{_≡_, refl}
 use mathlib.Core.List.{List, [], _∷_, map}
 use Rattle.shape.specs.Shape.{count, small, shapeRule}

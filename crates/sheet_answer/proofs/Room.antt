@@ -1,18 +1,17 @@
 -- The answer to each line of the program fits a text as long as the longest line.
-use Prim.Native.Nat.{ℕ, zero, suc, _+_, _*_, _≤_, _<_, _^_}
+use Prim.Native.Nat.{ℕ, zero, suc, _*_, _≤_, _<_, _^_}
 use native.Mathlib.Omega.{arith}
-use native.Mathlib.Nat.{mul-le-mul-left}
-use mathlib.Core.Path.{_≡_, refl, sym, ap, _∙_}
-use mathlib.Core.List.{List, [], _∷_, _++_, map}
+use mathlib.Core.Path.{_≡_, refl, sym, _∙_}
+use mathlib.Core.List.{List, [], _∷_, map}
 use mathlib.Core.Bool.{Bool, true, false, cond}
-use lib.Dec.{leb, ltb}
+use lib.Dec.{leb}
 use lib.ListN.{length, take, length-append, length-take}
 use lib.IntN.{ℤ, pos, negsuc}
-use borrow.Author.Tests.{leb-true, ltb-true, le-leb}
+use borrow.Author.Tests.{leb-true, ltb-true}
 use Rattle.shape.specs.Shape.{maxRank, maxCount, count, counted, small, goodShape}
-use Rattle.shape.proofs.Bools.{both, no-way}
+use Rattle.shape.proofs.Bools.{both}
 use Rattle.shape.proofs.Rule.{rule-rank, rule-small}
-use Rattle.meaning.specs.Array.{Operand, Array, arrayOf, goodForm}
+use Rattle.meaning.specs.Array.{Operand, arrayOf, goodForm}
 use Rattle.meaning.specs.Terms.{every}
 use Rattle.sheet_line.specs.Text.{digits, decimal, following}
 use Rattle.sheet_line.specs.Numbers.{fits}

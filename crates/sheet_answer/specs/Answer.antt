@@ -8,14 +8,14 @@ use Rattle.meaning.specs.Array.{Operand, Array, arrayOf, goodForm}
 use Rattle.sheet_line.specs.Text.{newline, digits, decimal, spaced}
 
 -- `ok`, `no`, `bad`.
-abbrev pub ok : List ℕ
-ok = 111 ∷ 107 ∷ []
+abbrev pub ok-word : List ℕ
+ok-word = 111 ∷ 107 ∷ []
 
 abbrev pub no-word : List ℕ
 no-word = 110 ∷ 111 ∷ []
 
-abbrev pub bad : List ℕ
-bad = 98 ∷ 97 ∷ 100 ∷ []
+abbrev pub bad-word : List ℕ
+bad-word = 98 ∷ 97 ∷ 100 ∷ []
 
 -- The line number and other parts stand one blank apart, and a newline ends it.
 unfoldable pub answerLine : ℕ → List (List ℕ) → List ℕ
@@ -23,14 +23,14 @@ answerLine line parts = spaced (digits line ∷ parts) ++ newline ∷ []
 
 -- `ok`, rank, lengths, elements.
 unfoldable pub okLine : ℕ → Array → List ℕ
-okLine line a = answerLine line (ok ∷ digits (length (a .lengths)) ∷ map digits (a .lengths) ++ map decimal (a .elements))
+okLine line a = answerLine line (ok-word ∷ digits (length (a .lengths)) ∷ map digits (a .lengths) ++ map decimal (a .elements))
 
 -- `no` and the refusal.
 unfoldable pub noLine : ℕ → ℕ → List ℕ
 noLine line refusal = answerLine line (no-word ∷ digits refusal ∷ [])
 
 unfoldable pub badLine : ℕ → List ℕ
-badLine line = answerLine line (bad ∷ [])
+badLine line = answerLine line (bad-word ∷ [])
 
 -- The line for a reply: its number, and for a success its shape and buffer, which print nothing where they are not of good form.
 unfoldable pub replyLine : ℕ → ℕ → Operand → List ℕ

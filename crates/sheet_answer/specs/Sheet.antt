@@ -3,7 +3,7 @@ use Prim.Native.Nat.{ℕ}
 use mathlib.Core.List.{List}
 use mathlib.Core.Option.{Option, none, some}
 use lib.ListN.{replicate}
-use lib.IntN.{ℤ, pos}
+use lib.IntN.{pos}
 use Rattle.shape.specs.Shape.{shapeOf}
 use Rattle.meaning.specs.Array.{Operand, Array}
 use Rattle.meaning.specs.Reply.{Reply, reply}

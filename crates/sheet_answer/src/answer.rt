@@ -1,10 +1,8 @@
 // The output for a line: written only if all of it fits.
 ghost use mathlib.Core.Path.{_≡_};
 ghost use Prim.Native.Nat.{_≤_};
-ghost use mathlib.Core.List.{[]};
 ghost use lib.ListN.{length};
 ghost use Rattle.shape.specs.Shape.{maxRank, maxCount};
-ghost use Rattle.meaning.specs.Array.{Array, arrayOf, goodForm};
 ghost use Rattle.sheet_line.specs.Call.{front};
 ghost use Rattle.sheet_answer.specs.Answer.{okLine, noLine, replyLine, fitted};
 use crate::print::elements_width;

@@ -2,7 +2,7 @@
 ghost use mathlib.Core.Path.{_≡_};
 ghost use Prim.Native.Nat.{suc, _+_, _*_, _≤_, _<_};
 ghost use mathlib.Core.List.{[], _∷_, _++_, map};
-ghost use lib.ListN.{length, take};
+ghost use lib.ListN.{length};
 ghost use Rattle.shape.specs.Shape.{maxRank, maxCount};
 ghost use Rattle.sheet_line.specs.Text.{blank, digits, decimal, following};
 ghost use Rattle.sheet_answer.specs.Steps.{Written};

@@ -1,11 +1,10 @@
 -- A line's call, by what was taken of it.
-use Prim.Native.Nat.{ℕ, zero, suc, _≤_, _<_}
+use Prim.Native.Nat.{ℕ, _≤_, _<_}
 use native.Mathlib.Omega.{arith}
 use mathlib.Core.Path.{_≡_, refl, sym, ap, _∙_}
-use mathlib.Core.List.{List, [], _∷_, _++_}
+use mathlib.Core.List.{List, [], _∷_}
 use mathlib.Core.Option.{Option, none, some}
-use mathlib.Core.Bool.{Bool, true, false, cond}
-use lib.Dec.{leb}
+use mathlib.Core.Bool.{Bool, true, false}
 use lib.ListN.{length, drop}
 use lib.IntN.{ℤ}
 use borrow.Author.Tests.{le-leb, lt-leb}
@@ -14,58 +13,58 @@ use Rattle.shape.proofs.Bools.{no-way}
 use Rattle.meaning.specs.Array.{Array}
 use Rattle.sheet_line.specs.declared.Read.{Read}
 use Rattle.sheet_line.specs.Numbers.{andThen, numbers}
-use Rattle.sheet_line.specs.Call.{maxLine, Reader, give, _then_, number, operand, Head, head, Call, call, allRead, callOf, lineCall, readOf, leftOf, rightOf, front, room}
+use Rattle.sheet_line.specs.Call.{maxLine, give, _then_, number, operand, Head, head, Call, call, allRead, callOf, lineCall, readOf, leftOf, rightOf, front, room}
 use Rattle.sheet_line.specs.Steps.{left, got}
-use Rattle.sheet_line.proofs.Readers.{then-both, then-bad, then-good}
+use Rattle.sheet_line.proofs.Readers.{then-bad, then-good}
 use Rattle.sheet_line.proofs.Round.{read-is-printing}
 
 -- Number, origin and axis, taken one after the other.
-module _ (o : Option (List ℤ)) (numbered : Bool) (n : ℤ) (o₁ : Option (List ℤ)) (e₁ : andThen o number ≡ got numbered n o₁) where
-  pub no-primitive : numbered ≡ false → andThen o head ≡ none
+module _ (o : Option (List ℤ)) (has-number : Bool) (n : ℤ) (o₁ : Option (List ℤ)) (e₁ : andThen o number ≡ got has-number n o₁) where
+  pub no-primitive : has-number ≡ false → andThen o head ≡ none
   unfolding head
   no-primitive g = then-bad number _ o (rw g at e₁)
 
-  module _ (t₁ : numbered ≡ true) (placed : Bool) (G : ℤ) (o₂ : Option (List ℤ)) (e₂ : andThen o₁ number ≡ got placed G o₂) where
-    numbered-on : andThen o head ≡ andThen o₁ (number then λ x. number then λ y. give (record { primitive = n; origin = x; axis = y }))
+  module _ (t₁ : has-number ≡ true) (has-origin : Bool) (G : ℤ) (o₂ : Option (List ℤ)) (e₂ : andThen o₁ number ≡ got has-origin G o₂) where
+    number-taken : andThen o head ≡ andThen o₁ (number then λ x. number then λ y. give (record { primitive = n; origin = x; axis = y }))
     unfolding head
-    numbered-on = then-good number (λ w. number then λ x. number then λ y. give (record { primitive = w; origin = x; axis = y })) o n o₁ (rw t₁ at e₁)
+    number-taken = then-good number (λ w. number then λ x. number then λ y. give (record { primitive = w; origin = x; axis = y })) o n o₁ (rw t₁ at e₁)
 
-    pub no-origin : placed ≡ false → andThen o head ≡ none
-    no-origin g = numbered-on ∙ then-bad number _ o₁ (rw g at e₂)
+    pub no-origin : has-origin ≡ false → andThen o head ≡ none
+    no-origin g = number-taken ∙ then-bad number _ o₁ (rw g at e₂)
 
-    module _ (t₂ : placed ≡ true) (turned : Bool) (K : ℤ) (o₃ : Option (List ℤ)) (e₃ : andThen o₂ number ≡ got turned K o₃) where
-      placed-on : andThen o head ≡ andThen o₂ (number then λ y. give (record { primitive = n; origin = G; axis = y }))
-      placed-on = numbered-on ∙ then-good number (λ x. number then λ y. give (record { primitive = n; origin = x; axis = y })) o₁ G o₂ (rw t₂ at e₂)
+    module _ (t₂ : has-origin ≡ true) (has-axis : Bool) (K : ℤ) (o₃ : Option (List ℤ)) (e₃ : andThen o₂ number ≡ got has-axis K o₃) where
+      origin-taken : andThen o head ≡ andThen o₂ (number then λ y. give (record { primitive = n; origin = G; axis = y }))
+      origin-taken = number-taken ∙ then-good number (λ x. number then λ y. give (record { primitive = n; origin = x; axis = y })) o₁ G o₂ (rw t₂ at e₂)
 
-      pub no-axis : turned ≡ false → andThen o head ≡ none
-      no-axis g = placed-on ∙ then-bad number _ o₂ (rw g at e₃)
+      pub no-axis : has-axis ≡ false → andThen o head ≡ none
+      no-axis g = origin-taken ∙ then-bad number _ o₂ (rw g at e₃)
 
-      pub whole-head : turned ≡ true → andThen o head ≡ andThen o₃ (give (record { primitive = n; origin = G; axis = K }))
-      whole-head g = placed-on ∙ then-good number (λ y. give (record { primitive = n; origin = G; axis = y })) o₂ K o₃ (rw g at e₃)
+      pub whole-head : has-axis ≡ true → andThen o head ≡ andThen o₃ (give (record { primitive = n; origin = G; axis = K }))
+      whole-head g = origin-taken ∙ then-good number (λ y. give (record { primitive = n; origin = G; axis = y })) o₂ K o₃ (rw g at e₃)
 
 -- Head, L and R, taken one after the other.
-module _ (a b : ℕ) (o : Option (List ℤ)) (headed : Bool) (h : Head) (o₁ : Option (List ℤ)) (e₁ : andThen o head ≡ got headed h o₁) where
-  pub no-head : headed ≡ false → andThen o (call a b) ≡ none
+module _ (a b : ℕ) (o : Option (List ℤ)) (has-head : Bool) (h : Head) (o₁ : Option (List ℤ)) (e₁ : andThen o head ≡ got has-head h o₁) where
+  pub no-head : has-head ≡ false → andThen o (call a b) ≡ none
   unfolding call
   no-head g = then-bad head _ o (rw g at e₁)
 
-  module _ (t₁ : headed ≡ true) (lefted : Bool) (L : Array) (o₂ : Option (List ℤ)) (e₂ : andThen o₁ (operand a) ≡ got lefted L o₂) where
-    headed-on : andThen o (call a b) ≡ andThen o₁ (operand a then λ x. operand b then λ y. give (record { head = h; left = x; right = y }))
+  module _ (t₁ : has-head ≡ true) (has-left : Bool) (L : Array) (o₂ : Option (List ℤ)) (e₂ : andThen o₁ (operand a) ≡ got has-left L o₂) where
+    head-taken : andThen o (call a b) ≡ andThen o₁ (operand a then λ x. operand b then λ y. give (record { head = h; left = x; right = y }))
     unfolding call
-    headed-on = then-good head (λ w. operand a then λ x. operand b then λ y. give (record { head = w; left = x; right = y })) o h o₁ (rw t₁ at e₁)
+    head-taken = then-good head (λ w. operand a then λ x. operand b then λ y. give (record { head = w; left = x; right = y })) o h o₁ (rw t₁ at e₁)
 
-    pub no-left : lefted ≡ false → andThen o (call a b) ≡ none
-    no-left g = headed-on ∙ then-bad (operand a) _ o₁ (rw g at e₂)
+    pub no-left : has-left ≡ false → andThen o (call a b) ≡ none
+    no-left g = head-taken ∙ then-bad (operand a) _ o₁ (rw g at e₂)
 
-    module _ (t₂ : lefted ≡ true) (righted : Bool) (R : Array) (o₃ : Option (List ℤ)) (e₃ : andThen o₂ (operand b) ≡ got righted R o₃) where
-      lefted-on : andThen o (call a b) ≡ andThen o₂ (operand b then λ y. give (record { head = h; left = L; right = y }))
-      lefted-on = headed-on ∙ then-good (operand a) (λ x. operand b then λ y. give (record { head = h; left = x; right = y })) o₁ L o₂ (rw t₂ at e₂)
+    module _ (t₂ : has-left ≡ true) (has-right : Bool) (R : Array) (o₃ : Option (List ℤ)) (e₃ : andThen o₂ (operand b) ≡ got has-right R o₃) where
+      left-taken : andThen o (call a b) ≡ andThen o₂ (operand b then λ y. give (record { head = h; left = L; right = y }))
+      left-taken = head-taken ∙ then-good (operand a) (λ x. operand b then λ y. give (record { head = h; left = x; right = y })) o₁ L o₂ (rw t₂ at e₂)
 
-      pub no-right : righted ≡ false → andThen o (call a b) ≡ none
-      no-right g = lefted-on ∙ then-bad (operand b) _ o₂ (rw g at e₃)
+      pub no-right : has-right ≡ false → andThen o (call a b) ≡ none
+      no-right g = left-taken ∙ then-bad (operand b) _ o₂ (rw g at e₃)
 
-      pub whole-call : righted ≡ true → andThen o (call a b) ≡ andThen o₃ (give (record { head = h; left = L; right = R }))
-      whole-call g = lefted-on ∙ then-good (operand b) (λ y. give (record { head = h; left = L; right = y })) o₂ R o₃ (rw g at e₃)
+      pub whole-call : has-right ≡ true → andThen o (call a b) ≡ andThen o₃ (give (record { head = h; left = L; right = R }))
+      whole-call g = left-taken ∙ then-good (operand b) (λ y. give (record { head = h; left = L; right = y })) o₂ R o₃ (rw g at e₃)
 
 -- A line and the call at its start.
 module _ (a b : ℕ) (line : List ℕ) where

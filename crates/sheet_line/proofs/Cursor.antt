@@ -1,16 +1,16 @@
 -- Reading at a place of a line.
-use Prim.Native.Nat.{ℕ, zero, suc, _+_, _*_, _-_, _≤_, _<_, _^_}
+use Prim.Native.Nat.{ℕ, suc, _+_, _*_, _≤_, _<_, _^_}
 use native.Mathlib.Omega.{arith}
 use native.Mathlib.Numerals.{add-one}
-use mathlib.Core.Path.{_≡_, refl, sym, ap, _∙_}
-use mathlib.Core.List.{List, [], _∷_, _++_}
+use mathlib.Core.Path.{_≡_, refl, _∙_}
+use mathlib.Core.List.{List, [], _∷_}
 use mathlib.Core.Option.{Option, none, some}
-use mathlib.Core.Bool.{Bool, true, false, cond, _&&_}
+use mathlib.Core.Bool.{Bool, true, false, cond}
 use lib.Dec.{eqb, leb}
 use lib.ListN.{length, getD, drop, drop-of-length-le}
 use lib.Seq.{drop-cons}
-use lib.IntN.{ℤ, pos, negsuc}
-use borrow.Author.Tests.{le-leb, lt-leb, ne-eqb, eq-eqb, eqb-true, eqb-false}
+use lib.IntN.{ℤ}
+use borrow.Author.Tests.{le-leb, lt-leb, ne-eqb, eqb-true, eqb-false}
 use Rattle.sheet_line.specs.Text as Text
 use Rattle.sheet_line.specs.Numbers.{andThen, Begun, nothing, minus, size, digitOf, first, more, ended, scan, numbers}
 use Rattle.sheet_line.specs.Call.{number}

@@ -1,8 +1,8 @@
 -- The digits of a number: one digit, and one digit more.
-use Prim.Native.Nat.{ℕ, zero, suc, _+_, _*_, _-_, _/_, _%_, _≤_, _<_}
+use Prim.Native.Nat.{ℕ, zero, suc, _+_, _*_, _/_, _%_, _≤_, _<_}
 use native.Mathlib.Omega.{arith}
-use mathlib.Core.Path.{_≡_, refl, sym, ap, _∙_}
-use mathlib.Core.List.{List, [], _∷_, _++_}
+use mathlib.Core.Path.{_≡_, refl, _∙_}
+use mathlib.Core.List.{[], _∷_, _++_}
 use borrow.Author.Tests.{lt-ltb, le-ltb}
 use Rattle.sheet_line.specs.Text.{digit, digitsWithin, digits}
 

@@ -1,9 +1,9 @@
 -- An operand, by what was taken of it.
-use Prim.Native.Nat.{ℕ, zero, suc, _+_, _-_, _≤_, _<_, min}
+use Prim.Native.Nat.{ℕ, zero, suc, _≤_, _<_, min}
 use native.Mathlib.Omega.{arith}
-use mathlib.Core.Path.{_≡_, refl, sym, ap, _∙_}
-use mathlib.Core.List.{List, [], _∷_, _++_}
-use mathlib.Core.Option.{Option, none, some}
+use mathlib.Core.Path.{_≡_, refl, sym, _∙_}
+use mathlib.Core.List.{List, []}
+use mathlib.Core.Option.{Option, none}
 use mathlib.Core.Bool.{Bool, true, false, cond}
 use lib.Dec.{leb}
 use lib.ListN.{length, take, drop, replicate, take-append-drop}
@@ -47,45 +47,45 @@ made rank lens s n h l f e k =
     record { shape = shape; counts = counts; held = k ∙ count-held s bound (rw counts f) ∙ rw counts }
 
 -- The operand that the rank, the lengths and the elements taken make.
-module _ (limit : ℕ) (o : Option (List ℤ)) (ranked : Bool) (rank : ℕ) (o₁ : Option (List ℤ)) (e₁ : andThen o (natural maxRank) ≡ got ranked rank o₁) where
+module _ (limit : ℕ) (o : Option (List ℤ)) (has-rank : Bool) (rank : ℕ) (o₁ : Option (List ℤ)) (e₁ : andThen o (natural maxRank) ≡ got has-rank rank o₁) where
   elementsOf : List ℕ → Reader Array
   elementsOf ns = many number (count ns) then λ zs. give (record { lengths = ns; elements = zs })
 
   lengthsOf : ℕ → Reader Array
   lengthsOf r = many (natural maxHeld) r then λ ns. cond (leb (count ns) limit) (elementsOf ns) fail
 
-  pub no-rank : ranked ≡ false → andThen o (operand limit) ≡ none
+  pub no-rank : has-rank ≡ false → andThen o (operand limit) ≡ none
   unfolding operand
   no-rank g = then-bad (natural maxRank) _ o (rw g at e₁)
 
-  module _ (t₁ : ranked ≡ true) (measured : Bool) (ns : List ℕ) (o₂ : Option (List ℤ)) (e₂ : andThen o₁ (many (natural maxHeld) rank) ≡ got measured ns o₂) where
-    ranked-on : andThen o (operand limit) ≡ andThen o₁ (lengthsOf rank)
+  module _ (t₁ : has-rank ≡ true) (has-lengths : Bool) (ns : List ℕ) (o₂ : Option (List ℤ)) (e₂ : andThen o₁ (many (natural maxHeld) rank) ≡ got has-lengths ns o₂) where
+    rank-taken : andThen o (operand limit) ≡ andThen o₁ (lengthsOf rank)
     unfolding operand lengthsOf elementsOf
-    ranked-on = then-good (natural maxRank) lengthsOf o rank o₁ (rw t₁ at e₁)
+    rank-taken = then-good (natural maxRank) lengthsOf o rank o₁ (rw t₁ at e₁)
 
-    pub no-lengths : measured ≡ false → andThen o (operand limit) ≡ none
+    pub no-lengths : has-lengths ≡ false → andThen o (operand limit) ≡ none
     unfolding lengthsOf
-    no-lengths g = ranked-on ∙ then-bad (many (natural maxHeld) rank) _ o₁ (rw g at e₂)
+    no-lengths g = rank-taken ∙ then-bad (many (natural maxHeld) rank) _ o₁ (rw g at e₂)
 
-    module _ (t₂ : measured ≡ true) where
-      measured-on : andThen o (operand limit) ≡ andThen o₂ (cond (leb (count ns) limit) (elementsOf ns) fail)
+    module _ (t₂ : has-lengths ≡ true) where
+      lengths-taken : andThen o (operand limit) ≡ andThen o₂ (cond (leb (count ns) limit) (elementsOf ns) fail)
       unfolding lengthsOf
-      measured-on = ranked-on ∙ then-good (many (natural maxHeld) rank) (λ ms. cond (leb (count ms) limit) (elementsOf ms) fail) o₁ ns o₂ (rw t₂ at e₂)
+      lengths-taken = rank-taken ∙ then-good (many (natural maxHeld) rank) (λ ms. cond (leb (count ms) limit) (elementsOf ms) fail) o₁ ns o₂ (rw t₂ at e₂)
 
       pub too-many : limit < count ns → andThen o (operand limit) ≡ none
-      too-many h = measured-on ∙ rw (lt-leb (count ns) limit h) (fails o₂)
+      too-many h = lengths-taken ∙ rw (lt-leb (count ns) limit h) (fails o₂)
 
-      module _ (h : count ns ≤ limit) (filled : Bool) (zs : List ℤ) (o₃ : Option (List ℤ)) (e₃ : andThen o₂ (many number (count ns)) ≡ got filled zs o₃) where
-        counted-on : andThen o (operand limit) ≡ andThen o₂ (elementsOf ns)
-        counted-on = measured-on ∙ rw (le-leb (count ns) limit h)
+      module _ (h : count ns ≤ limit) (has-elements : Bool) (zs : List ℤ) (o₃ : Option (List ℤ)) (e₃ : andThen o₂ (many number (count ns)) ≡ got has-elements zs o₃) where
+        count-within : andThen o (operand limit) ≡ andThen o₂ (elementsOf ns)
+        count-within = lengths-taken ∙ rw (le-leb (count ns) limit h)
 
-        pub no-elements : filled ≡ false → andThen o (operand limit) ≡ none
+        pub no-elements : has-elements ≡ false → andThen o (operand limit) ≡ none
         unfolding elementsOf
-        no-elements g = counted-on ∙ then-bad (many number (count ns)) _ o₂ (rw g at e₃)
+        no-elements g = count-within ∙ then-bad (many number (count ns)) _ o₂ (rw g at e₃)
 
-        pub all-taken : filled ≡ true → andThen o (operand limit) ≡ andThen o₃ (give (record { lengths = ns; elements = zs }))
+        pub all-taken : has-elements ≡ true → andThen o (operand limit) ≡ andThen o₃ (give (record { lengths = ns; elements = zs }))
         unfolding elementsOf
-        all-taken g = counted-on ∙ then-good (many number (count ns)) (λ xs. give (record { lengths = ns; elements = xs })) o₂ zs o₃ (rw g at e₃)
+        all-taken g = count-within ∙ then-good (many number (count ns)) (λ xs. give (record { lengths = ns; elements = xs })) o₂ zs o₃ (rw g at e₃)
 
 -- No operand.
 module _ (line : List ℕ) (at : ℕ) (before after : List ℤ) (r : Operand) where

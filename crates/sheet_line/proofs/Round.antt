@@ -1,23 +1,23 @@
 -- A line of numbers is exactly the printing of what is read from it.
-use Prim.Native.Nat.{ℕ, zero, suc, _+_, _*_, _-_, _/_, _%_, _≤_, _<_, _^_}
+use Prim.Native.Nat.{ℕ, zero, suc, _+_, _*_, _-_, _<_}
 use native.Mathlib.Omega.{arith}
-use mathlib.Core.Path.{_≡_, refl, sym, ap, _∙_}
-use mathlib.Core.List.{List, [], _∷_, _++_, append-assoc, append-nil, map}
-use mathlib.Core.Option.{Option, none, some}
+use mathlib.Core.Path.{_≡_, refl, sym, _∙_}
+use mathlib.Core.List.{List, [], _∷_, _++_, append-nil, map}
+use mathlib.Core.Option.{none, some}
 use mathlib.Core.Bool.{Bool, true, false, cond, _&&_}
 use lib.Dec.{eqb, leb, ltb}
-use lib.IntN.{ℤ, pos, negsuc, negℤ}
+use lib.IntN.{ℤ, pos, negsuc}
 use lib.ListN.{length}
 use lib.Seq.{append-snoc}
-use borrow.Author.Tests.{lt-ltb, le-ltb, le-leb, ne-eqb, eqb-true, eqb-false, leb-true, ltb-true, ltb-false}
-use Rattle.shape.proofs.Bools.{both, no-way}
+use borrow.Author.Tests.{eqb-true, eqb-false, leb-true, ltb-true, ltb-false}
+use Rattle.shape.proofs.Bools.{both}
 use Rattle.meaning.specs.Terms.{every}
 use Rattle.sheet_line.specs.Text as Text
 use Rattle.sheet_line.specs.Text.{digit, digits, decimal, following, spaced, printed}
 use Rattle.sheet_line.specs.Numbers.{andThen, fits, Begun, nothing, minus, size, digitOf, first, more, signed, ended, scan, numbers}
-use Rattle.sheet_line.proofs.Options.{none-some, some-inj, Passed, passed, if-some, unless-some}
+use Rattle.sheet_line.proofs.Options.{none-some, some-inj, passed, if-some, unless-some}
 use Rattle.sheet_line.proofs.Digits.{digits-one, digits-append}
-use Rattle.sheet_line.proofs.Scan.{sign, begun, ended-fits, scan-decimal, scan-blank}
+use Rattle.sheet_line.proofs.Scan.{sign, ended-fits, scan-decimal}
 
 scan-printed : (z : ℤ) (zs : List ℤ) → every fits (z ∷ zs) ≡ true → scan nothing (decimal z ++ following (map decimal zs)) ≡ some (z ∷ zs)
 unfolding every following scan

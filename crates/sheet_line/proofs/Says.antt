@@ -1,14 +1,13 @@
 -- A line that says a call is the printing of the call's numbers.
-use Prim.Native.Nat.{ℕ, zero, suc, _≤_, _<_}
-use native.Mathlib.Omega.{arith}
+use Prim.Native.Nat.{ℕ, zero, suc, _≤_}
 use mathlib.Core.Path.{_≡_, refl, sym, ap, _∙_}
 use mathlib.Core.List.{List, [], _∷_, _++_, append-assoc, append-nil, map, map-id}
-use mathlib.Core.Option.{Option, none, some}
+use mathlib.Core.Option.{Option, some}
 use mathlib.Core.Bool.{Bool, true, false, cond}
 use lib.Dec.{leb}
 use lib.ListN.{length}
 use lib.IntN.{ℤ, pos, negsuc}
-use borrow.Author.Tests.{le-leb, lt-leb, leb-true}
+use borrow.Author.Tests.{le-leb}
 use Rattle.shape.specs.Shape.{maxRank, count}
 use Rattle.shape.proofs.Bools.{both}
 use Rattle.meaning.specs.Array.{Array}
@@ -16,7 +15,7 @@ use Rattle.meaning.specs.Terms.{every}
 use Rattle.sheet_line.specs.Text.{printed}
 use Rattle.sheet_line.specs.Numbers.{andThen, fits, numbers}
 use Rattle.sheet_line.specs.Call.{maxLine, maxHeld, Reader, give, fail, _then_, number, upTo, natural, many, operand, Head, head, Call, call, operandNumbers, callNumbers, allRead, callOf, lineCall}
-use Rattle.sheet_line.proofs.Options.{none-some, some-inj, Passed, passed, if-some}
+use Rattle.sheet_line.proofs.Options.{none-some, some-inj, passed, if-some}
 use Rattle.sheet_line.proofs.Round.{printed-is-read, read-is-printing}
 
 -- Both parts of what was taken.

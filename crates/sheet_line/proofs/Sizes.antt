@@ -1,14 +1,14 @@
 -- The number of a sign and a size, where it fits.
-use Prim.Native.Nat.{ℕ, zero, suc, _≤_, _<_, _^_}
+use Prim.Native.Nat.{ℕ, zero, suc, _<_, _^_}
 use native.Mathlib.Omega.{arith}
-use mathlib.Core.Path.{_≡_, refl, sym, ap, _∙_}
-use mathlib.Core.Option.{Option, none, some}
-use mathlib.Core.Bool.{Bool, true, false, cond}
-use lib.IntN.{ℤ, pos, negsuc, negℤ, _-ℤ_, +ℤ-idl}
+use mathlib.Core.Path.{_≡_, refl}
+use mathlib.Core.Option.{none, some}
+use mathlib.Core.Bool.{Bool, true, false}
+use lib.IntN.{pos, negsuc, negℤ, _-ℤ_, +ℤ-idl}
 use mir.Syntax.{w32}
 use mir.Val.{SFits}
 use borrow.Author.Tests.{lt-ltb, le-ltb}
-use Rattle.sheet_line.specs.Numbers.{Begun, nothing, minus, size, fits, signed, ended}
+use Rattle.sheet_line.specs.Numbers.{size, fits, signed, ended}
 
 pub size-fits : (negative : Bool) (n : ℕ) → n < 2 ^ 31 → ended (size negative n) ≡ some (signed negative n)
 unfolding ended signed fits

@@ -1,6 +1,6 @@
 -- What the private functions' contracts cite: a place in a line, and what was taken from it.
 use Prim.Native.Nat.{ℕ}
-use mathlib.Core.List.{List, [], _∷_}
+use mathlib.Core.List.{List, []}
 use mathlib.Core.Path.{_≡_}
 use mathlib.Core.Option.{Option, none, some}
 use mathlib.Core.Bool.{Bool, true, false, cond}
@@ -11,7 +11,7 @@ use Rattle.sheet_line.specs.declared.numbers.Number.{Number}
 use Rattle.sheet_line.specs.Numbers.{andThen, numbers}
 use Rattle.sheet_line.specs.declared.operand.Operand.{Operand}
 use Rattle.shape.specs.Shape.{count, counted, shapeOf}
-use Rattle.sheet_line.specs.Call.{Reader, give, operand, front, room}
+use Rattle.sheet_line.specs.Call.{give, operand, front, room}
 
 -- The numbers left from a place on; none are past the end, where the last number ended.
 unfoldable pub left : List ℕ → ℕ → Option (List ℤ)

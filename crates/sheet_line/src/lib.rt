@@ -6,7 +6,6 @@ ghost use mathlib.Core.Path.{_≡_};
 ghost use mathlib.Core.Bool.{true, false};
 ghost use mathlib.Core.Option.{none};
 ghost use lib.ListN.{length};
-ghost use lib.IntN.{pos};
 ghost use Rattle.sheet_line.specs.Numbers.{andThen};
 ghost use Rattle.sheet_line.specs.Call.{head, lineCall, readOf, leftOf, rightOf, front, room};
 ghost use Rattle.sheet_line.specs.Steps.{left, got};
@@ -15,10 +14,10 @@ use operand::operand_at;
 use shape::Shape;
 
 // The longest line, in bytes, without its newline.
-const MAX_LINE: usize = 16384;
+pub const MAX_LINE: usize = 16384;
 
 // The largest length and count on a line.
-const MAX_HELD: usize = 1024;
+pub const MAX_HELD: usize = 1024;
 
 // Number, origin and axis, and the place of the next number.
 struct Head {
@@ -45,21 +44,21 @@ fn head_at(line: &[u8], at: usize) -> Head
     ensures { λ r. ⌜ andThen (left (now (line .entry)) at) head ≡ got (r .good) (record { primitive = r .number; origin = r .origin; axis = r .axis }) (left (now (line .entry)) (r .next)) ⌝ }
 {
     let n = number_at(line, at);
-    let numbered = n.good;
+    let has_number = n.good;
     let number = n.value;
-    if !numbered {
+    if !has_number {
         return no_head();
     }
     let g = number_at(line, n.next);
-    let placed = g.good;
+    let has_origin = g.good;
     let origin = g.value;
-    if !placed {
+    if !has_origin {
         return no_head();
     }
     let k = number_at(line, g.next);
-    let turned = k.good;
+    let has_axis = k.good;
     let axis = k.value;
-    if !turned {
+    if !has_axis {
         return no_head();
     }
     Head {
@@ -125,19 +124,19 @@ pub fn read_line(line: &[u8], l: &mut [i32], r: &mut [i32]) -> Read
         return Read::bad();
     }
     let head = head_at(line, 0);
-    let headed = head.good;
-    if !headed {
+    let has_head = head.good;
+    if !has_head {
         return Read::bad();
     }
     let left = operand_at(line, head.next, l);
-    let lefted = left.good;
-    if !lefted {
+    let has_left = left.good;
+    if !has_left {
         return Read::bad();
     }
     let right = operand_at(line, left.next, r);
-    let righted = right.good;
+    let has_right = right.good;
     let end = right.next;
-    if !righted {
+    if !has_right {
         return Read::bad();
     }
     if end <= line.len() {

@@ -1,8 +1,7 @@
 // An operand of a line: rank, lengths, elements.
 ghost use mathlib.Core.Path.{_≡_};
-ghost use Prim.Native.Nat.{_≤_, min};
+ghost use Prim.Native.Nat.{_≤_};
 ghost use mathlib.Core.Bool.{true, false};
-ghost use mathlib.Core.Option.{none, some};
 ghost use lib.ListN.{length, take, drop};
 ghost use Rattle.shape.specs.Shape.{maxRank, small, scalar};
 ghost use Rattle.sheet_line.specs.Numbers.{andThen};
@@ -144,15 +143,15 @@ pub fn operand_at(line: &[u8], at: usize, out: &mut [i32]) -> Operand
     ensures { λ r. ⌜ Taken (now (line .entry)) at (now (out .entry)) (now (out .exit)) r ⌝ }
 {
     let rank = natural_at(line, at, Shape::MAX_RANK);
-    let ranked = rank.good;
+    let has_rank = rank.good;
     let n = rank.value;
-    if !ranked {
+    if !has_rank {
         return no_operand();
     }
     let lengths = lengths_at(line, rank.next, n);
-    let measured = lengths.good;
+    let has_lengths = lengths.good;
     let lens = lengths.lens;
-    if !measured {
+    if !has_lengths {
         return no_operand();
     }
     let shape = Shape::of_lengths(n, lens);
@@ -164,8 +163,8 @@ pub fn operand_at(line: &[u8], at: usize, out: &mut [i32]) -> Operand
         return no_operand();
     }
     let elements = elements_at(line, lengths.next, count, out);
-    let filled = elements.good;
-    if !filled {
+    let has_elements = elements.good;
+    if !has_elements {
         return no_operand();
     }
     Operand {

@@ -10,43 +10,30 @@ use Rattle.sheet_answer.proofs.Answers.{no-room, all-printed, bad-text,
 use borrow.Author.Needs.{needs}
 use Rattle.sheet_answer.proofs.print_bad.Statement.{statement}
 use Rattle.sheet_answer.proofs.print_bad.Tie as tie
-use Rattle.sheet_answer.proofs.print_bad.Reads as reads
-use Rattle.sheet_answer.proofs.print_bad.Lts as lts
-use Rattle.sheet_answer.proofs.print.put_byte.Reads as put-byte-reads
-use Rattle.sheet_answer.proofs.print.put_head.Reads as put-head-reads
-use Rattle.sheet_answer.proofs.print.width.Reads as width-reads
 
--- src/lib.rt:165:16
 width-requires : tie.Need-width-requires
 width-requires c κs = search needs
 
--- src/lib.rt:165:16
 add-need : tie.Need-add-need
 add-need c = search needs
 
--- src/lib.rt:167:9
 returns : tie.Need-returns
 returns c =
     let st = c .before .before .before in
     no-room (badLine (st .args .line-number)) (st .args .text .now) (omega (arith, bad-length (st .args .line-number), c .before .width .ensures .0))
 
--- src/lib.rt:169:9
 put-byte-requires : tie.Need-put-byte-requires
 put-byte-requires c κs = search needs
 
--- src/lib.rt:170:9
 put-byte-requires-2 : tie.Need-put-byte-requires-2
 put-byte-requires-2 c κs = search needs
 
--- src/lib.rt:171:5
 put-head-requires : tie.Need-put-head-requires
 put-head-requires c κs = search needs
 
--- src/lib.rt:160:1
 same-length : tie.Need-same-length
 same-length c = search needs
 
--- src/lib.rt:160:1
 returns-2 : tie.Need-returns-2
 returns-2 c =
     let st = c .before .before .before .before .before .before .before .before .before .before .before .before .before .before .before in

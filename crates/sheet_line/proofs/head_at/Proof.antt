@@ -8,10 +8,6 @@ use Rattle.sheet_line.proofs.Calls.{no-primitive, no-origin, no-axis, w
 use borrow.Author.Needs.{needs}
 use Rattle.sheet_line.proofs.head_at.Statement.{statement}
 use Rattle.sheet_line.proofs.head_at.Tie as tie
-use Rattle.sheet_line.proofs.head_at.Reads as reads
-use Rattle.sheet_line.proofs.head_at.Lts as lts
-use Rattle.sheet_line.proofs.no_head.Reads as no-head-reads
-use Rattle.sheet_line.proofs.numbers.number_at.Reads as number-at-reads
 
 first-fits : (c : tie.After-struct-told) → SFits w32 (c .before .number-at .result .value)
 first-fits c = search needs
@@ -22,15 +18,12 @@ second-fits c = search needs
 third-fits : (c : tie.After-struct-told3) → SFits w32 (c .before .number-at3 .result .value)
 third-fits c = search needs
 
--- src/lib.rt:47:9
 number-at-requires : tie.Need-number-at-requires
 number-at-requires c κs = search needs
 
--- src/lib.rt:51:9
 no-head-requires : tie.Need-no-head-requires
 no-head-requires c κs = search needs
 
--- src/lib.rt:51:9
 returns : tie.Need-returns
 returns c =
     let st = c .before .before .before .before .before in
@@ -38,15 +31,12 @@ returns c =
     let n = c .before .before .before .number-at in
     rw (c .no-head .ensures) (no-primitive (left line (st .args .at)) (n .result .good) (n .result .value) (left line (n .result .next)) (n .ensures) (not-true (n .result .good) (c .before .if1 .taken)))
 
--- src/lib.rt:53:9
 number-at-requires-2 : tie.Need-number-at-requires-2
 number-at-requires-2 c κs = search needs
 
--- src/lib.rt:57:9
 no-head-requires-2 : tie.Need-no-head-requires-2
 no-head-requires-2 c κs = search needs
 
--- src/lib.rt:57:9
 returns-2 : tie.Need-returns-2
 returns-2 c =
     let st = c .before .before .before .before .before .before .before .before in
@@ -55,15 +45,12 @@ returns-2 c =
     let g = c .before .before .before .number-at2 in
     rw (c .no-head2 .ensures) (no-origin (left line (st .args .at)) (n .result .good) (n .result .value) (left line (n .result .next)) (n .ensures) (not-false (n .result .good) (c .before .before .before .before .if1 .left)) (g .result .good) (g .result .value) (left line (g .result .next)) (g .ensures) (not-true (g .result .good) (c .before .if2 .taken)))
 
--- src/lib.rt:59:9
 number-at-requires-3 : tie.Need-number-at-requires-3
 number-at-requires-3 c κs = search needs
 
--- src/lib.rt:63:9
 no-head-requires-3 : tie.Need-no-head-requires-3
 no-head-requires-3 c κs = search needs
 
--- src/lib.rt:63:9
 returns-3 : tie.Need-returns-3
 returns-3 c =
     let st = c .before .before .before .before .before .before .before .before .before .before .before in
@@ -73,7 +60,6 @@ returns-3 c =
     let k = c .before .before .before .number-at3 in
     rw (c .no-head3 .ensures) (no-axis (left line (st .args .at)) (n .result .good) (n .result .value) (left line (n .result .next)) (n .ensures) (not-false (n .result .good) (c .before .before .before .before .before .before .before .if1 .left)) (g .result .good) (g .result .value) (left line (g .result .next)) (g .ensures) (not-false (g .result .good) (c .before .before .before .before .if2 .left)) (k .result .good) (k .result .value) (left line (k .result .next)) (k .ensures) (not-true (k .result .good) (c .before .if3 .taken)))
 
--- src/lib.rt:44:1
 returns-4 : tie.Need-returns-4
 returns-4 c =
     let st = c .before .before .before .before .before .before .before .before .before .before in

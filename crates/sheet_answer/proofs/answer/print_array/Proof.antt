@@ -10,50 +10,31 @@ use Rattle.sheet_answer.proofs.Answers.{no-room, all-printed, ok-text, 
 use borrow.Author.Needs.{needs}
 use Rattle.sheet_answer.proofs.answer.print_array.Statement.{statement}
 use Rattle.sheet_answer.proofs.answer.print_array.Tie as tie
-use Rattle.sheet_answer.proofs.answer.print_array.Reads as reads
-use Rattle.sheet_answer.proofs.answer.print_array.Lts as lts
-use Rattle.sheet_answer.proofs.print.elements_width.Reads as elements-width-reads
-use Rattle.sheet_answer.proofs.print.lengths_width.Reads as lengths-width-reads
-use Rattle.sheet_answer.proofs.print.put_byte.Reads as put-byte-reads
-use Rattle.sheet_answer.proofs.print.put_elements.Reads as put-elements-reads
-use Rattle.sheet_answer.proofs.print.put_head.Reads as put-head-reads
-use Rattle.sheet_answer.proofs.print.put_lengths.Reads as put-lengths-reads
-use Rattle.sheet_answer.proofs.print.put_part.Reads as put-part-reads
-use Rattle.sheet_answer.proofs.print.width.Reads as width-reads
 
--- src/answer.rt:41:16
 width-requires : tie.Need-width-requires
 width-requires c κs = search needs
 
--- src/answer.rt:41:30
 width-requires-2 : tie.Need-width-requires-2
 width-requires-2 c κs = search needs
 
--- src/answer.rt:41:16
 add-need : tie.Need-add-need
 add-need c = search needs
 
--- src/answer.rt:41:44
 lengths-width-requires : tie.Need-lengths-width-requires
 lengths-width-requires c κs = search needs
 
--- src/answer.rt:41:16
 add-need-2 : tie.Need-add-need-2
 add-need-2 c = search needs
 
--- src/answer.rt:41:66
 elements-width-requires : tie.Need-elements-width-requires
 elements-width-requires c κs = search needs
 
--- src/answer.rt:41:16
 add-need-3 : tie.Need-add-need-3
 add-need-3 c = search needs
 
--- src/answer.rt:41:16
 add-need-4 : tie.Need-add-need-4
 add-need-4 c = search needs
 
--- src/answer.rt:43:9
 returns : tie.Need-returns
 returns c =
     let st = c .before .before .before .before .before .before .before in
@@ -62,31 +43,24 @@ returns c =
     no-room (okLine (st .args .line) (record { lengths = ns; elements = zs })) (st .args .text .now)
     (omega (arith, ok-length (st .args .line) ns zs, c .before .before .before .before .width .ensures .0, c .before .before .before .width2 .ensures .0, c .before .before .lengths-width .ensures .0, c .before .elements-width .ensures .0))
 
--- src/answer.rt:45:9
 put-byte-requires : tie.Need-put-byte-requires
 put-byte-requires c κs = search needs
 
--- src/answer.rt:46:9
 put-elements-requires : tie.Need-put-elements-requires
 put-elements-requires c κs = search needs
 
--- src/answer.rt:47:9
 put-lengths-requires : tie.Need-put-lengths-requires
 put-lengths-requires c κs = search needs
 
--- src/answer.rt:48:9
 put-part-requires : tie.Need-put-part-requires
 put-part-requires c κs = search needs
 
--- src/answer.rt:49:5
 put-head-requires : tie.Need-put-head-requires
 put-head-requires c κs = search needs
 
--- src/answer.rt:35:1
 same-length : tie.Need-same-length
 same-length c = search needs
 
--- src/answer.rt:35:1
 returns-2 : tie.Need-returns-2
 returns-2 c =
     let st = c .before .before .before .before .before .before .before .before .before .before .before .before .before .before .before .before .before .before .before .before .before .before .before .before .before .before .before in

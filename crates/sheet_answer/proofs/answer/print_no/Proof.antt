@@ -10,52 +10,36 @@ use Rattle.sheet_answer.proofs.Answers.{no-room, all-printed, no-text, 
 use borrow.Author.Needs.{needs}
 use Rattle.sheet_answer.proofs.answer.print_no.Statement.{statement}
 use Rattle.sheet_answer.proofs.answer.print_no.Tie as tie
-use Rattle.sheet_answer.proofs.answer.print_no.Reads as reads
-use Rattle.sheet_answer.proofs.answer.print_no.Lts as lts
-use Rattle.sheet_answer.proofs.print.put_byte.Reads as put-byte-reads
-use Rattle.sheet_answer.proofs.print.put_head.Reads as put-head-reads
-use Rattle.sheet_answer.proofs.print.put_part.Reads as put-part-reads
-use Rattle.sheet_answer.proofs.print.width.Reads as width-reads
 
--- src/answer.rt:24:16
 width-requires : tie.Need-width-requires
 width-requires c κs = search needs
 
--- src/answer.rt:24:30
 width-requires-2 : tie.Need-width-requires-2
 width-requires-2 c κs = search needs
 
--- src/answer.rt:24:16
 add-need : tie.Need-add-need
 add-need c = search needs
 
--- src/answer.rt:24:16
 add-need-2 : tie.Need-add-need-2
 add-need-2 c = search needs
 
--- src/answer.rt:26:9
 returns : tie.Need-returns
 returns c =
     let st = c .before .before .before .before in
     no-room (noLine (st .args .line) (st .args .refusal)) (st .args .text .now) (omega (arith, no-length (st .args .line) (st .args .refusal), c .before .before .width .ensures .0, c .before .width2 .ensures .0))
 
--- src/answer.rt:28:9
 put-byte-requires : tie.Need-put-byte-requires
 put-byte-requires c κs = search needs
 
--- src/answer.rt:29:9
 put-part-requires : tie.Need-put-part-requires
 put-part-requires c κs = search needs
 
--- src/answer.rt:30:5
 put-head-requires : tie.Need-put-head-requires
 put-head-requires c κs = search needs
 
--- src/answer.rt:20:1
 same-length : tie.Need-same-length
 same-length c = search needs
 
--- src/answer.rt:20:1
 returns-2 : tie.Need-returns-2
 returns-2 c =
     let st = c .before .before .before .before .before .before .before .before .before .before .before .before .before .before .before .before in

@@ -10,65 +10,49 @@ use Rattle.sheet_answer.proofs.Answers.{nothing-to-print, bad-shape, sh
 use borrow.Author.Needs.{needs}
 use Rattle.sheet_answer.proofs.answer.print_ok.Statement.{statement}
 use Rattle.sheet_answer.proofs.answer.print_ok.Tie as tie
-use Rattle.sheet_answer.proofs.answer.print_ok.Reads as reads
-use Rattle.sheet_answer.proofs.answer.print_ok.Lts as lts
-use Rattle.shape.proofs.Shape.count.Reads as count-reads
-use Rattle.sheet_answer.proofs.answer.print_array.Reads as print-array-reads
 
 ranked : (c : tie.After-count) → c .count .result ≤ maxCount → c .before .before .args .shape .rank ≤ maxRank
 ranked c h = let s = c .before .before .args .shape in good-rank s (good-count s (omega (arith, c .count .ensures)))
 
--- src/answer.rt:57:9
 count-requires : tie.Need-count-requires
 count-requires c κs = search needs
 
--- src/answer.rt:59:9
 returns : tie.Need-returns
 returns c =
     let st = c .before .before .before in
     nothing-to-print (replyLine (st .args .line) 0 (record { shape = st .args .shape; buffer = st .args .out .now })) (st .args .text .now) (bad-shape (st .args .line) (st .args .shape) (st .args .out .now) (omega (arith, c .before .count .ensures)))
 
--- src/answer.rt:62:9
 returns-2 : tie.Need-returns-2
 returns-2 c =
     let st = c .before .before .before .before in
     nothing-to-print (replyLine (st .args .line) 0 (record { shape = st .args .shape; buffer = st .args .out .now })) (st .args .text .now) (short-buffer (st .args .line) (st .args .shape) (st .args .out .now) (omega (arith, c .before .before .count .ensures)) (omega (arith, c .before .before .count .ensures)))
 
--- src/answer.rt:66:23
 sub-print-array : tie.Need-sub-print-array
 sub-print-array c = search needs
 
--- src/answer.rt:66:23
 part-print-array-start : tie.Need-part-print-array-start
 part-print-array-start c = search needs
 
--- src/answer.rt:66:23
 part-print-array-end : tie.Need-part-print-array-end
 part-print-array-end c =
     let long : length (c .before .before .before .before .before .before .args .shape .lens) ≡ maxRank = search needs in
     omega (arith, ranked (c .before .before .before .before) (omega arith))
 
--- src/answer.rt:66:39
 sub-print-array-2 : tie.Need-sub-print-array-2
 sub-print-array-2 c = search needs
 
--- src/answer.rt:66:39
 part-print-array-start-2 : tie.Need-part-print-array-start-2
 part-print-array-start-2 c = search needs
 
--- src/answer.rt:66:39
 part-print-array-end-2 : tie.Need-part-print-array-end-2
 part-print-array-end-2 c = search needs
 
--- src/answer.rt:66:5
 print-array-requires : tie.Need-print-array-requires
 print-array-requires c κs = simp (length-take) (omega (arith, ranked (c .before .before .before .before .before .before .before) (omega arith)))
 
--- src/answer.rt:53:1
 same-length : tie.Need-same-length
 same-length c = search needs
 
--- src/answer.rt:53:1
 returns-3 : tie.Need-returns-3
 returns-3 c =
     let st = c .before .before .before .before .before .before .before .before .before .before .before .before in

@@ -1,5 +1,4 @@
 use mathlib.Core.Path.{_≡_, sym, _∙_}
-use mathlib.Core.Bool.{true, false}
 use native.Mathlib.Omega.{arith}
 use lib.IntN.{natAbs}
 use mir.Facts.{toZ-ofZ}
@@ -8,11 +7,6 @@ use Rattle.sheet_answer.proofs.Parts.{decimal-natural, decimal-negative
 use borrow.Author.Needs.{needs}
 use Rattle.sheet_answer.proofs.print.element_width.Statement.{statement}
 use Rattle.sheet_answer.proofs.print.element_width.Tie as tie
-use Rattle.sheet_answer.proofs.print.element_width.Reads as reads
-use Rattle.sheet_answer.proofs.print.element_width.Lts as lts
-use Rattle.sheet_answer.proofs.print.width.Reads as width-reads
-use Rattle.signed.proofs.negative.Reads as negative-reads
-use Rattle.signed.proofs.size.Reads as size-reads
 
 size-is : (c : tie.After-negative) → c .before .before .size .result ≡ natAbs (c .before .before .before .args .z)
 size-is c = rw (toZ-ofZ (c .before .before .before .fits .z)) at (c .before .before .size .ensures)
@@ -20,33 +14,26 @@ size-is c = rw (toZ-ofZ (c .before .before .before .fits .z)) at (c .before .bef
 sign-is : (c : tie.After-negative) → c .negative .result ≡ negative (c .before .before .before .args .z)
 sign-is c = rw (toZ-ofZ (c .before .before .before .fits .z)) at (c .negative .ensures)
 
--- src/print.rt:62:9
 size-requires : tie.Need-size-requires
 size-requires c κs = search needs
 
--- src/print.rt:63:9
 width-requires : tie.Need-width-requires
 width-requires c κs = search needs
 
--- src/print.rt:64:8
 negative-requires : tie.Need-negative-requires
 negative-requires c κs = search needs
 
--- src/print.rt:64:30
 add-result : tie.Need-add-result
 add-result c = search needs
 
--- src/print.rt:64:45
 add-result-2 : tie.Need-add-result-2
 add-result-2 c = search needs
 
--- src/print.rt:58:1
 returns : tie.Need-returns
 returns c =
     let w = c .before .before .width .ensures in
     rw (decimal-negative (c .before .before .before .before .args .z) (sym (sign-is (c .before)) ∙ c .if1 .taken), ← size-is (c .before)) (omega arith)
 
--- src/print.rt:58:1
 returns-2 : tie.Need-returns-2
 returns-2 c =
     let w = c .before .before .width .ensures in

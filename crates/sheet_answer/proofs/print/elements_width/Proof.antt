@@ -11,9 +11,6 @@ use Rattle.sheet_line.specs.Text.{decimal}
 use Rattle.sheet_answer.proofs.Parts.{partsFrom, parts-end, part-width}
 use Rattle.sheet_answer.proofs.print.elements_width.Statement.{statement}
 use Rattle.sheet_answer.proofs.print.elements_width.Tie as tie
-use Rattle.sheet_answer.proofs.print.elements_width.Reads as reads
-use Rattle.sheet_answer.proofs.print.elements_width.Lts as lts
-use Rattle.sheet_answer.proofs.print.element_width.Reads as element-width-reads
 
 abbrev Inv-loop : tie.InvT-loop
 Inv-loop out sum₀ i₀ sum i = (i ≤ length out) × ((sum ≡ length (partsFrom decimal out i)) × (sum + 22 * i ≤ 22 * length out))
@@ -21,35 +18,27 @@ Inv-loop out sum₀ i₀ sum i = (i ≤ length out) × ((sum ≡ length (partsFr
 abbrev μ-loop : tie.MeasureT-loop
 μ-loop out sum₀ i₀ sum i = i
 
--- src/print.rt:102:5
 loop-holds : tie.Need-loop-holds Inv-loop μ-loop
 loop-holds c = (omega arith, (sym (ap length (parts-end decimal (c .args .out .now))), omega arith))
 
--- src/print.rt:103:9
 sub-i : tie.Need-sub-i Inv-loop μ-loop
 sub-i c = search needs
 
--- src/print.rt:104:17
 mul-z : tie.Need-mul-z Inv-loop μ-loop
 mul-z c = search needs
 
--- src/print.rt:104:17
 shared-slice-copy-out-z : tie.Need-shared-slice-copy-out-z Inv-loop μ-loop
 shared-slice-copy-out-z c = search needs
 
--- src/print.rt:105:16
 element-width-requires : tie.Need-element-width-requires Inv-loop μ-loop
 element-width-requires c κs = search needs
 
--- src/print.rt:105:9
 add-sum : tie.Need-add-sum Inv-loop μ-loop
 add-sum c = omega (arith, c .element-width .ensures .1)
 
--- src/print.rt:102:5
 loop-less : tie.Need-loop-less Inv-loop μ-loop
 loop-less c = search needs
 
--- src/print.rt:102:5
 loop-again : tie.Need-loop-again Inv-loop μ-loop
 loop-again c =
     let xs = c .before .before .before .before .args .out .now in
@@ -59,7 +48,6 @@ loop-again c =
     let n = rw z at (c .element-width .ensures .0) in
     (omega arith, (omega (arith, w, n), omega (arith, c .element-width .ensures .1)))
 
--- src/print.rt:95:1
 returns : tie.Need-returns Inv-loop μ-loop
 returns c =
     let e : c .before .loop .i ≡ 0 = omega arith in

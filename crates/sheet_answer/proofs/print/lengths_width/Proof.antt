@@ -1,19 +1,12 @@
 use Prim.Native.Nat.{_+_, _*_, _-_, _≤_}
 use native.Mathlib.Omega.{arith}
 use mathlib.Core.Path.{_≡_, sym, ap}
-use lib.ListN.{length, getD}
-use lib.IntN.{pos}
-use mir.Syntax.{w32}
-use mir.Val.{toZ, ofZ}
-use mir.Facts.{toZ-ofZ}
-use borrow.Author.Needs.{needs, sfits-of}
+use lib.ListN.{length}
+use borrow.Author.Needs.{needs}
 use Rattle.sheet_line.specs.Text.{digits}
 use Rattle.sheet_answer.proofs.Parts.{partsFrom, parts-end, part-width}
 use Rattle.sheet_answer.proofs.print.lengths_width.Statement.{statement}
 use Rattle.sheet_answer.proofs.print.lengths_width.Tie as tie
-use Rattle.sheet_answer.proofs.print.lengths_width.Reads as reads
-use Rattle.sheet_answer.proofs.print.lengths_width.Lts as lts
-use Rattle.sheet_answer.proofs.print.width.Reads as width-reads
 
 abbrev Inv-loop : tie.InvT-loop
 Inv-loop lens sum₀ i₀ sum i = (i ≤ length lens) × ((sum ≡ length (partsFrom digits lens i)) × (sum + 22 * i ≤ 22 * length lens))
@@ -21,39 +14,30 @@ Inv-loop lens sum₀ i₀ sum i = (i ≤ length lens) × ((sum ≡ length (parts
 abbrev μ-loop : tie.MeasureT-loop
 μ-loop lens sum₀ i₀ sum i = i
 
--- src/print.rt:87:5
 loop-holds : tie.Need-loop-holds Inv-loop μ-loop
 loop-holds c = (omega arith, (sym (ap length (parts-end digits (c .before .args .lens .now))), omega arith))
 
--- src/print.rt:88:9
 sub-i : tie.Need-sub-i Inv-loop μ-loop
 sub-i c = search needs
 
--- src/print.rt:89:17
 mul-n : tie.Need-mul-n Inv-loop μ-loop
 mul-n c = search needs
 
--- src/print.rt:89:17
 shared-slice-read-n : tie.Need-shared-slice-read-n Inv-loop μ-loop
 shared-slice-read-n c = search needs
 
--- src/print.rt:90:16
 width-requires : tie.Need-width-requires Inv-loop μ-loop
 width-requires c κs = search needs
 
--- src/print.rt:90:16
 add-sum : tie.Need-add-sum Inv-loop μ-loop
 add-sum c = omega (arith, c .width .ensures .1)
 
--- src/print.rt:90:9
 add-sum-2 : tie.Need-add-sum-2 Inv-loop μ-loop
 add-sum-2 c = omega (arith, c .width .ensures .1)
 
--- src/print.rt:87:5
 loop-less : tie.Need-loop-less Inv-loop μ-loop
 loop-less c = search needs
 
--- src/print.rt:87:5
 loop-again : tie.Need-loop-again Inv-loop μ-loop
 loop-again c =
     let xs = c .before .before .before .before .before .args .lens .now in
@@ -61,7 +45,6 @@ loop-again c =
     let w = part-width digits xs 0 i (i - 1) (omega arith) (omega arith) in
     (omega arith, (omega (arith, w, c .width .ensures .0), omega (arith, c .width .ensures .1)))
 
--- src/print.rt:80:1
 returns : tie.Need-returns Inv-loop μ-loop
 returns c =
     let e : c .before .loop .i ≡ 0 = omega arith in

@@ -4,22 +4,16 @@ use Rattle.sheet_answer.proofs.Writing.{write-byte}
 use borrow.Author.Needs.{needs}
 use Rattle.sheet_answer.proofs.print.put_byte.Statement.{statement}
 use Rattle.sheet_answer.proofs.print.put_byte.Tie as tie
-use Rattle.sheet_answer.proofs.print.put_byte.Reads as reads
-use Rattle.sheet_answer.proofs.print.put_byte.Lts as lts
 
--- src/print.rt:15:14
 sub-at : tie.Need-sub-at
 sub-at c = search needs
 
--- src/print.rt:16:5
 slice-write-text : tie.Need-slice-write-text
 slice-write-text c = search needs
 
--- src/print.rt:11:1
 same-length : tie.Need-same-length
 same-length c = search needs
 
--- src/print.rt:11:1
 returns : tie.Need-returns
 returns c = write-byte (c .args .text .now) (c .args .end - 1) (c .args .end) (c .args .b) (omega arith) (omega arith)
 

@@ -1,13 +1,9 @@
-use Prim.Native.Nat.{_≤_}
 use native.Mathlib.Omega.{arith}
-use mathlib.Core.Path.{_≡_, _∙_}
+use mathlib.Core.Path.{_∙_}
 use borrow.Author.Needs.{needs}
 use Rattle.sheet_answer.proofs.Writing.{Spelt, spell-none, spell-room, spell-more, spell-last}
 use Rattle.sheet_answer.proofs.print.put_digits.Statement.{statement}
 use Rattle.sheet_answer.proofs.print.put_digits.Tie as tie
-use Rattle.sheet_answer.proofs.print.put_digits.Reads as reads
-use Rattle.sheet_answer.proofs.print.put_digits.Lts as lts
-use Rattle.sheet_answer.proofs.print.put_byte.Reads as put-byte-reads
 
 abbrev Inv-loop : tie.InvT-loop
 Inv-loop text₀ end n i₀ rest₀ text i rest = Spelt text₀ text i end n rest
@@ -15,30 +11,24 @@ Inv-loop text₀ end n i₀ rest₀ text i rest = Spelt text₀ text i end n res
 abbrev μ-loop : tie.MeasureT-loop
 μ-loop text₀ end n i₀ rest₀ text i rest = rest
 
--- src/print.rt:40:5
 loop-holds : tie.Need-loop-holds Inv-loop μ-loop
 loop-holds c = spell-none (c .before .args .text .now) (c .before .args .end) (c .before .args .n)
 
--- src/print.rt:41:17
 cast-d : tie.Need-cast-d Inv-loop μ-loop
 cast-d c = search needs
 
--- src/print.rt:42:31
 add-put-byte : tie.Need-add-put-byte Inv-loop μ-loop
 add-put-byte c = search needs
 
--- src/print.rt:42:9
 put-byte-requires : tie.Need-put-byte-requires Inv-loop μ-loop
 put-byte-requires c κs =
     let st = c .before .before .before .before in
     let lp = c .before .before .loop in
     (spell-room (st .args .text .now) (lp .text) (lp .i) (st .args .end) (st .args .n) (lp .rest) (lp .inv) (st .pre .0), omega (arith, lp .inv .kept, lp .inv .written .place))
 
--- src/print.rt:40:5
 loop-less : tie.Need-loop-less Inv-loop μ-loop
 loop-less c = omega arith
 
--- src/print.rt:40:5
 loop-again : tie.Need-loop-again Inv-loop μ-loop
 loop-again c =
     let st = c .before .before .before .before .before .before .before in
@@ -46,28 +36,23 @@ loop-again c =
     let put = c .before .before .put-byte in
     spell-more (st .args .text .now) (lp .text) (lp .i) (st .args .end) (st .args .n) (lp .rest) (lp .inv) (put .last .0) (put .result) (st .pre .1) (c .before .before .before .before .loop-test .taken) (put .ensures) (put .kept .0)
 
--- src/print.rt:45:13
 cast-d-2 : tie.Need-cast-d-2 Inv-loop μ-loop
 cast-d-2 c = search needs
 
--- src/print.rt:46:23
 add-put-byte-2 : tie.Need-add-put-byte-2 Inv-loop μ-loop
 add-put-byte-2 c = search needs
 
--- src/print.rt:46:5
 put-byte-requires-2 : tie.Need-put-byte-requires-2 Inv-loop μ-loop
 put-byte-requires-2 c κs =
     let st = c .before .before .before .before in
     let lp = c .before .before .loop in
     (spell-room (st .args .text .now) (lp .text) (lp .i) (st .args .end) (st .args .n) (lp .rest) (lp .inv) (st .pre .0), omega (arith, lp .inv .kept, lp .inv .written .place))
 
--- src/print.rt:34:1
 same-length : tie.Need-same-length Inv-loop μ-loop
 same-length c =
     let lp = c .before .before .before .before .before .loop in
     c .before .before .put-byte2 .kept .0 ∙ lp .inv .kept
 
--- src/print.rt:34:1
 returns : tie.Need-returns Inv-loop μ-loop
 returns c =
     let st = c .before .before .before .before .before .before .before in

@@ -1,6 +1,4 @@
-use Prim.Native.Nat.{suc, _+_, _≤_}
 use mathlib.Core.Path.{_≡_, sym, ap, _∙_}
-use mathlib.Core.Bool.{true, false}
 use mathlib.Core.List.{[], _∷_}
 use native.Mathlib.Omega.{arith}
 use lib.ListN.{length}
@@ -13,13 +11,6 @@ use Rattle.sheet_answer.proofs.Parts.{decimal-natural, decimal-negative
 use borrow.Author.Needs.{needs}
 use Rattle.sheet_answer.proofs.print.put_element.Statement.{statement}
 use Rattle.sheet_answer.proofs.print.put_element.Tie as tie
-use Rattle.sheet_answer.proofs.print.put_element.Reads as reads
-use Rattle.sheet_answer.proofs.print.put_element.Lts as lts
-use Rattle.sheet_answer.proofs.print.put_byte.Reads as put-byte-reads
-use Rattle.sheet_answer.proofs.print.put_digits.Reads as put-digits-reads
-use Rattle.sheet_answer.proofs.print.put_part.Reads as put-part-reads
-use Rattle.signed.proofs.negative.Reads as negative-reads
-use Rattle.signed.proofs.size.Reads as size-reads
 
 size-is : (c : tie.After-negative) → c .before .size .result ≡ natAbs (c .before .before .before .args .z)
 size-is c = rw (toZ-ofZ (c .before .before .before .fits .z)) at (c .before .size .ensures)
@@ -34,26 +25,21 @@ below c = decimal-negative (c .before .before .before .before .args .z) (sym (si
 above : (c : tie.Else1) → decimal (c .before .before .before .before .args .z) ≡ digits (c .before .before .size .result)
 above c = decimal-natural (c .before .before .before .before .args .z) (sym (sign-is (c .before)) ∙ c .if1 .left) ∙ rw (size-is (c .before))
 
--- src/print.rt:71:9
 size-requires : tie.Need-size-requires
 size-requires c κs = search needs
 
--- src/print.rt:72:8
 negative-requires : tie.Need-negative-requires
 negative-requires c κs = search needs
 
--- src/print.rt:73:13
 put-digits-requires : tie.Need-put-digits-requires
 put-digits-requires c κs = let e = ap length (below (c .before)) in omega arith
 
--- src/print.rt:74:13
 put-byte-requires : tie.Need-put-byte-requires
 put-byte-requires c κs =
     let e = ap length (below (c .before .before .before .before .before)) in
     let p = c .before .before .before .put-digits .ensures .place in
     omega (arith, c .before .before .before .put-digits .kept .0)
 
--- src/print.rt:75:9
 put-byte-requires-2 : tie.Need-put-byte-requires-2
 put-byte-requires-2 c κs =
     let e = ap length (below (c .before .before .before .before .before .before .before .before .before)) in
@@ -61,11 +47,9 @@ put-byte-requires-2 c κs =
     let q = c .before .before .before .put-byte .ensures .place in
     omega (arith, c .before .before .before .before .before .before .before .put-digits .kept .0, c .before .before .before .put-byte .kept .0)
 
--- src/print.rt:75:9
 same-length : tie.Need-same-length
 same-length c = search needs
 
--- src/print.rt:75:9
 returns : tie.Need-returns
 returns c =
     let st = c .before .before .before .before .before .before .before .before .before .before .before .before .before .before .before .before in
@@ -76,15 +60,12 @@ returns c =
     let signed = write-more t (d .last .0) (m .last .0) (m .result) (d .result) (st .args .end) (minus ∷ []) (digits (c .before .before .before .before .before .before .before .before .before .before .before .before .before .before .size .result)) (st .pre .1) (d .ensures) (m .ensures) in
     rw (below (c .before .before .before .before .before .before .before .before .before .before .before .before)) (write-more t (m .last .0) (p .last .0) (p .result) (m .result) (st .args .end) (blank ∷ []) (minus ∷ digits (c .before .before .before .before .before .before .before .before .before .before .before .before .before .before .size .result)) (st .pre .1) signed (p .ensures))
 
--- src/print.rt:77:5
 put-part-requires : tie.Need-put-part-requires
 put-part-requires c κs = let e = ap length (above (c .before)) in omega arith
 
--- src/print.rt:67:1
 same-length-2 : tie.Need-same-length-2
 same-length-2 c = search needs
 
--- src/print.rt:67:1
 returns-2 : tie.Need-returns-2
 returns-2 c = rw (above (c .before .before .before .before)) (c .before .before .put-part .ensures)
 

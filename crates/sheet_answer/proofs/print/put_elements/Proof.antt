@@ -1,6 +1,6 @@
-use Prim.Native.Nat.{_+_, _*_, _-_, _≤_}
+use Prim.Native.Nat.{_-_, _≤_}
 use native.Mathlib.Omega.{arith}
-use mathlib.Core.Path.{_≡_, refl, sym, ap, _∙_}
+use mathlib.Core.Path.{_≡_, refl, _∙_}
 use lib.ListN.{length, getD}
 use lib.IntN.{pos}
 use mir.Syntax.{w32}
@@ -12,9 +12,6 @@ use Rattle.sheet_answer.specs.Steps.{Written}
 use Rattle.sheet_answer.proofs.Parts.{partsFrom, parts-none, part-room, part-put}
 use Rattle.sheet_answer.proofs.print.put_elements.Statement.{statement}
 use Rattle.sheet_answer.proofs.print.put_elements.Tie as tie
-use Rattle.sheet_answer.proofs.print.put_elements.Reads as reads
-use Rattle.sheet_answer.proofs.print.put_elements.Lts as lts
-use Rattle.sheet_answer.proofs.print.put_element.Reads as put-element-reads
 
 abbrev Inv-loop : tie.InvT-loop
 Inv-loop text₀ end out at₀ i₀ text at i = (i ≤ length out) × (Written text₀ text at end (partsFrom decimal out i) × (length text ≡ length text₀))
@@ -22,25 +19,20 @@ Inv-loop text₀ end out at₀ i₀ text at i = (i ≤ length out) × (Written t
 abbrev μ-loop : tie.MeasureT-loop
 μ-loop text₀ end out at₀ i₀ text at i = i
 
--- src/print.rt:130:5
 loop-holds : tie.Need-loop-holds Inv-loop μ-loop
 loop-holds c =
     let st = c .before in
     (omega arith, (parts-none decimal (st .args .out .now) (st .args .text .now) (st .args .end), refl))
 
--- src/print.rt:131:9
 sub-i : tie.Need-sub-i Inv-loop μ-loop
 sub-i c = search needs
 
--- src/print.rt:132:17
 mul-z : tie.Need-mul-z Inv-loop μ-loop
 mul-z c = search needs
 
--- src/print.rt:132:17
 shared-slice-copy-out-z : tie.Need-shared-slice-copy-out-z Inv-loop μ-loop
 shared-slice-copy-out-z c = search needs
 
--- src/print.rt:133:9
 put-element-requires : tie.Need-put-element-requires Inv-loop μ-loop
 put-element-requires c κs =
     let st = c .before .before .before .before .before in
@@ -51,11 +43,9 @@ put-element-requires c κs =
     let room = part-room decimal xs (pos 0) (lp .i) (lp .i - 1) (omega arith) (omega arith) (lp .at) (st .args .end) (st .pre .0) p in
     rw z (room, omega (arith, lp .inv .1 .1))
 
--- src/print.rt:130:5
 loop-less : tie.Need-loop-less Inv-loop μ-loop
 loop-less c = search needs
 
--- src/print.rt:130:5
 loop-again : tie.Need-loop-again Inv-loop μ-loop
 loop-again c =
     let st = c .before .before .before .before .before .before .before .before in
@@ -70,11 +60,9 @@ loop-again c =
       ),
     )
 
--- src/print.rt:124:1
 same-length : tie.Need-same-length Inv-loop μ-loop
 same-length c = search needs
 
--- src/print.rt:124:1
 returns : tie.Need-returns Inv-loop μ-loop
 returns c =
     let e : c .before .loop .i ≡ 0 = omega arith in

@@ -4,32 +4,22 @@ use Rattle.sheet_answer.proofs.Writing.{write-more}
 use borrow.Author.Needs.{needs}
 use Rattle.sheet_answer.proofs.print.put_head.Statement.{statement}
 use Rattle.sheet_answer.proofs.print.put_head.Tie as tie
-use Rattle.sheet_answer.proofs.print.put_head.Reads as reads
-use Rattle.sheet_answer.proofs.print.put_head.Lts as lts
-use Rattle.sheet_answer.proofs.print.put_byte.Reads as put-byte-reads
-use Rattle.sheet_answer.proofs.print.put_digits.Reads as put-digits-reads
 
--- src/print.rt:143:9
 put-byte-requires : tie.Need-put-byte-requires
 put-byte-requires c κs = search needs
 
--- src/print.rt:144:9
 put-byte-requires-2 : tie.Need-put-byte-requires-2
 put-byte-requires-2 c κs = search needs
 
--- src/print.rt:145:9
 put-byte-requires-3 : tie.Need-put-byte-requires-3
 put-byte-requires-3 c κs = search needs
 
--- src/print.rt:146:5
 put-digits-requires : tie.Need-put-digits-requires
 put-digits-requires c κs = search needs
 
--- src/print.rt:139:1
 same-length : tie.Need-same-length
 same-length c = search needs
 
--- src/print.rt:139:1
 returns : tie.Need-returns
 returns c =
     let st = c .before .before .before .before .before .before .before .before .before .before .before .before .before .before .before .before .before in

@@ -1,20 +1,13 @@
-use Prim.Native.Nat.{_+_, _*_, _-_, _≤_}
+use Prim.Native.Nat.{_-_, _≤_}
 use native.Mathlib.Omega.{arith}
-use mathlib.Core.Path.{_≡_, refl, sym, ap, _∙_}
-use lib.ListN.{length, getD}
-use lib.IntN.{pos}
-use mir.Syntax.{w32}
-use mir.Val.{toZ, ofZ}
-use mir.Facts.{toZ-ofZ}
-use borrow.Author.Needs.{needs, sfits-of}
+use mathlib.Core.Path.{_≡_, refl, _∙_}
+use lib.ListN.{length}
+use borrow.Author.Needs.{needs}
 use Rattle.sheet_line.specs.Text.{digits}
 use Rattle.sheet_answer.specs.Steps.{Written}
 use Rattle.sheet_answer.proofs.Parts.{partsFrom, parts-none, part-room, part-put}
 use Rattle.sheet_answer.proofs.print.put_lengths.Statement.{statement}
 use Rattle.sheet_answer.proofs.print.put_lengths.Tie as tie
-use Rattle.sheet_answer.proofs.print.put_lengths.Reads as reads
-use Rattle.sheet_answer.proofs.print.put_lengths.Lts as lts
-use Rattle.sheet_answer.proofs.print.put_part.Reads as put-part-reads
 
 abbrev Inv-loop : tie.InvT-loop
 Inv-loop text₀ end lens at₀ i₀ text at i = (i ≤ length lens) × (Written text₀ text at end (partsFrom digits lens i) × (length text ≡ length text₀))
@@ -22,25 +15,20 @@ Inv-loop text₀ end lens at₀ i₀ text at i = (i ≤ length lens) × (Written
 abbrev μ-loop : tie.MeasureT-loop
 μ-loop text₀ end lens at₀ i₀ text at i = i
 
--- src/print.rt:116:5
 loop-holds : tie.Need-loop-holds Inv-loop μ-loop
 loop-holds c =
     let st = c .before .before in
     (omega arith, (parts-none digits (st .args .lens .now) (st .args .text .now) (st .args .end), refl))
 
--- src/print.rt:117:9
 sub-i : tie.Need-sub-i Inv-loop μ-loop
 sub-i c = search needs
 
--- src/print.rt:118:17
 mul-n : tie.Need-mul-n Inv-loop μ-loop
 mul-n c = search needs
 
--- src/print.rt:118:17
 shared-slice-read-n : tie.Need-shared-slice-read-n Inv-loop μ-loop
 shared-slice-read-n c = search needs
 
--- src/print.rt:119:9
 put-part-requires : tie.Need-put-part-requires Inv-loop μ-loop
 put-part-requires c κs =
     let st = c .before .before .before .before .before .before in
@@ -50,11 +38,9 @@ put-part-requires c κs =
     let room = part-room digits xs 0 (lp .i) (lp .i - 1) (omega arith) (omega arith) (lp .at) (st .args .end) (st .pre .0) p in
     (room, omega (arith, lp .inv .1 .1))
 
--- src/print.rt:116:5
 loop-less : tie.Need-loop-less Inv-loop μ-loop
 loop-less c = search needs
 
--- src/print.rt:116:5
 loop-again : tie.Need-loop-again Inv-loop μ-loop
 loop-again c =
     let st = c .before .before .before .before .before .before .before .before .before in
@@ -68,11 +54,9 @@ loop-again c =
       ),
     )
 
--- src/print.rt:110:1
 same-length : tie.Need-same-length Inv-loop μ-loop
 same-length c = search needs
 
--- src/print.rt:110:1
 returns : tie.Need-returns Inv-loop μ-loop
 returns c =
     let e : c .before .loop .i ≡ 0 = omega arith in

@@ -4,24 +4,16 @@ use Rattle.sheet_answer.proofs.Writing.{write-more}
 use borrow.Author.Needs.{needs}
 use Rattle.sheet_answer.proofs.print.put_part.Statement.{statement}
 use Rattle.sheet_answer.proofs.print.put_part.Tie as tie
-use Rattle.sheet_answer.proofs.print.put_part.Reads as reads
-use Rattle.sheet_answer.proofs.print.put_part.Lts as lts
-use Rattle.sheet_answer.proofs.print.put_byte.Reads as put-byte-reads
-use Rattle.sheet_answer.proofs.print.put_digits.Reads as put-digits-reads
 
--- src/print.rt:53:9
 put-digits-requires : tie.Need-put-digits-requires
 put-digits-requires c κs = search needs
 
--- src/print.rt:54:5
 put-byte-requires : tie.Need-put-byte-requires
 put-byte-requires c κs = search needs
 
--- src/print.rt:49:1
 same-length : tie.Need-same-length
 same-length c = search needs
 
--- src/print.rt:49:1
 returns : tie.Need-returns
 returns c =
     let st = c .before .before .before .before .before .before .before .before .before in

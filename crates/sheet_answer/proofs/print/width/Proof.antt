@@ -7,8 +7,6 @@ use Rattle.sheet_line.specs.Text.{digits}
 use Rattle.sheet_answer.proofs.Writing.{width-one, width-more, width-most}
 use Rattle.sheet_answer.proofs.print.width.Statement.{statement}
 use Rattle.sheet_answer.proofs.print.width.Tie as tie
-use Rattle.sheet_answer.proofs.print.width.Reads as reads
-use Rattle.sheet_answer.proofs.print.width.Lts as lts
 
 abbrev Inv-loop : tie.InvT-loop
 Inv-loop n k₀ rest₀ k rest = (k + length (digits rest) ≡ length (digits n) + 1) × (rest + k ≤ n + 1)
@@ -16,23 +14,18 @@ Inv-loop n k₀ rest₀ k rest = (k + length (digits rest) ≡ length (digits n)
 abbrev μ-loop : tie.MeasureT-loop
 μ-loop n k₀ rest₀ k rest = rest
 
--- src/print.rt:27:5
 loop-holds : tie.Need-loop-holds Inv-loop μ-loop
 loop-holds c = omega arith
 
--- src/print.rt:29:9
 add-k : tie.Need-add-k Inv-loop μ-loop
 add-k c = search needs
 
--- src/print.rt:27:5
 loop-less : tie.Need-loop-less Inv-loop μ-loop
 loop-less c = omega arith
 
--- src/print.rt:27:5
 loop-again : tie.Need-loop-again Inv-loop μ-loop
 loop-again c = omega (arith, width-more (c .before .loop .rest) (c .loop-test .taken))
 
--- src/print.rt:21:1
 returns : tie.Need-returns Inv-loop μ-loop
 returns c =
     let one = width-one (c .before .loop .rest) (c .loop-test .left) in

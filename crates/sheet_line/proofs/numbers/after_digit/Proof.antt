@@ -7,11 +7,6 @@ use Rattle.sheet_line.specs.Numbers.{size, scan}
 use Rattle.sheet_line.proofs.Cursor.{is-digit, no-digit, line-ends, blank-ends, number-ends, stops, goes-on, over}
 use Rattle.sheet_line.proofs.numbers.after_digit.Statement.{statement}
 use Rattle.sheet_line.proofs.numbers.after_digit.Tie as tie
-use Rattle.sheet_line.proofs.numbers.after_digit.Reads as reads
-use Rattle.sheet_line.proofs.numbers.after_digit.Lts as lts
-use Rattle.sheet_line.proofs.numbers.digit_value.Reads as digit-value-reads
-use Rattle.sheet_line.proofs.numbers.no_number.Reads as no-number-reads
-use Rattle.sheet_line.proofs.numbers.whole.Reads as whole-reads
 
 abbrev Inv-loop : tie.InvT-loop
 Inv-loop line at negative first n₀ i₀ n i = (i ≤ length line) × ((0 < n) × (scan (size negative first) (drop at line) ≡ scan (size negative n) (drop i line)))
@@ -19,23 +14,18 @@ Inv-loop line at negative first n₀ i₀ n i = (i ≤ length line) × ((0 < n) 
 abbrev μ-loop : tie.MeasureT-loop
 μ-loop line at negative first n₀ i₀ n i = length line - i
 
--- src/numbers.rt:93:5
 loop-holds : tie.Need-loop-holds Inv-loop μ-loop
 loop-holds c = search needs
 
--- src/numbers.rt:94:17
 shared-slice-read-b : tie.Need-shared-slice-read-b Inv-loop μ-loop
 shared-slice-read-b c = search needs
 
--- src/numbers.rt:96:39
 add-whole : tie.Need-add-whole Inv-loop μ-loop
 add-whole c = search needs
 
--- src/numbers.rt:96:13
 whole-requires : tie.Need-whole-requires Inv-loop μ-loop
 whole-requires c κs = search needs
 
--- src/numbers.rt:96:13
 returns : tie.Need-returns Inv-loop μ-loop
 returns c =
     let st = c .before .before .before .before .before .before in
@@ -43,15 +33,12 @@ returns c =
     rw (lp .inv .1 .1, c .whole .ensures)
     (number-ends (st .args .line .now) (lp .i) (size (st .args .negative) (lp .n)) (blank-ends (st .args .line .now) (lp .i) (omega arith) (c .before .if1 .taken)))
 
--- src/numbers.rt:98:13
 digit-value-requires : tie.Need-digit-value-requires Inv-loop μ-loop
 digit-value-requires c κs = search needs
 
--- src/numbers.rt:100:13
 no-number-requires : tie.Need-no-number-requires Inv-loop μ-loop
 no-number-requires c κs = search needs
 
--- src/numbers.rt:100:13
 returns-2 : tie.Need-returns-2 Inv-loop μ-loop
 returns-2 c =
     let st = c .before .before .before .before .before .before .before .before in
@@ -59,34 +46,27 @@ returns-2 c =
     let e = c .before .before .digit-value in
     rw (lp .inv .1 .1, c .no-number .ensures, stops (st .args .line .now) (lp .i) (omega arith) (c .before .before .before .if1 .left) (st .args .negative) (lp .n) (no-digit (getD (st .args .line .now) (lp .i) 0) (e .result) (e .ensures) (c .before .if2 .taken)))
 
--- src/numbers.rt:103:13
 no-number-requires-2 : tie.Need-no-number-requires-2 Inv-loop μ-loop
 no-number-requires-2 c κs = search needs
 
--- src/numbers.rt:103:13
 returns-3 : tie.Need-returns-3 Inv-loop μ-loop
 returns-3 c =
     let st = c .before .before .before .before .before .before .before .before .before in
     let lp = c .before .before .before .before .before .before .before .loop in
     rw (lp .inv .1 .1, c .no-number2 .ensures, over (st .args .negative) (lp .n) (drop (lp .i) (st .args .line .now)) (c .before .if3 .taken))
 
--- src/numbers.rt:105:13
 mul-n : tie.Need-mul-n Inv-loop μ-loop
 mul-n c = search needs
 
--- src/numbers.rt:105:13
 add-n : tie.Need-add-n Inv-loop μ-loop
 add-n c = search needs
 
--- src/numbers.rt:106:9
 add-i : tie.Need-add-i Inv-loop μ-loop
 add-i c = search needs
 
--- src/numbers.rt:93:5
 loop-less : tie.Need-loop-less Inv-loop μ-loop
 loop-less c = search needs
 
--- src/numbers.rt:93:5
 loop-again : tie.Need-loop-again Inv-loop μ-loop
 loop-again c =
     let st = c .before .before .before .before .before .before .before .before in
@@ -101,15 +81,12 @@ loop-again c =
       ),
     )
 
--- src/numbers.rt:108:24
 add-whole-2 : tie.Need-add-whole-2 Inv-loop μ-loop
 add-whole-2 c = search needs
 
--- src/numbers.rt:108:5
 whole-requires-2 : tie.Need-whole-requires-2 Inv-loop μ-loop
 whole-requires-2 c κs = search needs
 
--- src/numbers.rt:87:1
 returns-4 : tie.Need-returns-4 Inv-loop μ-loop
 returns-4 c =
     let st = c .before .before .before .before in

@@ -5,48 +5,35 @@ use Rattle.sheet_line.proofs.Cursor.{line-ends, blank-ends, number-ends
 use borrow.Author.Needs.{needs}
 use Rattle.sheet_line.proofs.numbers.after_zero.Statement.{statement}
 use Rattle.sheet_line.proofs.numbers.after_zero.Tie as tie
-use Rattle.sheet_line.proofs.numbers.after_zero.Reads as reads
-use Rattle.sheet_line.proofs.numbers.after_zero.Lts as lts
-use Rattle.sheet_line.proofs.numbers.no_number.Reads as no-number-reads
-use Rattle.sheet_line.proofs.numbers.whole.Reads as whole-reads
 
--- src/numbers.rt:78:32
 add-whole : tie.Need-add-whole
 add-whole c = search needs
 
--- src/numbers.rt:78:9
 whole-requires : tie.Need-whole-requires
 whole-requires c κs = search needs
 
--- src/numbers.rt:78:9
 returns : tie.Need-returns
 returns c =
     let st = c .before .before .before in
     rw (c .whole .ensures) (number-ends (st .args .line .now) (st .args .at) (size false 0) (line-ends (st .args .line .now) (st .args .at) (omega arith)))
 
--- src/numbers.rt:80:8
 shared-slice-read-if2 : tie.Need-shared-slice-read-if2
 shared-slice-read-if2 c = search needs
 
--- src/numbers.rt:81:32
 add-whole-2 : tie.Need-add-whole-2
 add-whole-2 c = search needs
 
--- src/numbers.rt:81:9
 whole-requires-2 : tie.Need-whole-requires-2
 whole-requires-2 c κs = search needs
 
--- src/numbers.rt:81:9
 returns-2 : tie.Need-returns-2
 returns-2 c =
     let st = c .before .before .before .before .before in
     rw (c .whole2 .ensures) (number-ends (st .args .line .now) (st .args .at) (size false 0) (blank-ends (st .args .line .now) (st .args .at) (omega arith) (c .before .if2 .taken)))
 
--- src/numbers.rt:83:5
 no-number-requires : tie.Need-no-number-requires
 no-number-requires c κs = search needs
 
--- src/numbers.rt:73:1
 returns-3 : tie.Need-returns-3
 returns-3 c =
     let st = c .before .before .before .before .before in

@@ -5,24 +5,18 @@ use Rattle.sheet_line.specs.Numbers.{digitOf}
 use borrow.Author.Needs.{needs}
 use Rattle.sheet_line.proofs.numbers.digit_value.Statement.{statement}
 use Rattle.sheet_line.proofs.numbers.digit_value.Tie as tie
-use Rattle.sheet_line.proofs.numbers.digit_value.Reads as reads
-use Rattle.sheet_line.proofs.numbers.digit_value.Lts as lts
 
--- src/numbers.rt:64:9
 returns : tie.Need-returns
 unfolding digitOf
 returns c = rw (lt-leb 48 (c .before .args .b) (c .if1 .taken))
 
--- src/numbers.rt:67:9
 returns-2 : tie.Need-returns-2
 unfolding digitOf
 returns-2 c = rw (le-leb 48 (c .before .before .args .b) (c .before .if1 .left), lt-leb (c .before .before .args .b) 57 (c .if2 .taken))
 
--- src/numbers.rt:69:5
 cast-result : tie.Need-cast-result
 cast-result c = search needs
 
--- src/numbers.rt:60:1
 returns-3 : tie.Need-returns-3
 unfolding digitOf
 returns-3 c =

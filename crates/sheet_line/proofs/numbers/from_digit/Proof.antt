@@ -3,55 +3,40 @@ use Rattle.sheet_line.proofs.Cursor.{is-digit, no-digit, first-none, fi
 use borrow.Author.Needs.{needs}
 use Rattle.sheet_line.proofs.numbers.from_digit.Statement.{statement}
 use Rattle.sheet_line.proofs.numbers.from_digit.Tie as tie
-use Rattle.sheet_line.proofs.numbers.from_digit.Reads as reads
-use Rattle.sheet_line.proofs.numbers.from_digit.Lts as lts
-use Rattle.sheet_line.proofs.numbers.after_digit.Reads as after-digit-reads
-use Rattle.sheet_line.proofs.numbers.after_zero.Reads as after-zero-reads
-use Rattle.sheet_line.proofs.numbers.digit_value.Reads as digit-value-reads
-use Rattle.sheet_line.proofs.numbers.no_number.Reads as no-number-reads
 
--- src/numbers.rt:116:9
 digit-value-requires : tie.Need-digit-value-requires
 digit-value-requires c κs = search needs
 
--- src/numbers.rt:118:9
 no-number-requires : tie.Need-no-number-requires
 no-number-requires c κs = search needs
 
--- src/numbers.rt:118:9
 returns : tie.Need-returns
 returns c =
     let e = c .before .before .digit-value in
     let st = c .before .before .before .before in
     rw (c .no-number .ensures, first-none (st .args .b) (st .args .negative) (no-digit (st .args .b) (e .result) (e .ensures) (c .before .if1 .taken)))
 
--- src/numbers.rt:121:9
 after-digit-requires : tie.Need-after-digit-requires
 after-digit-requires c κs = search needs
 
--- src/numbers.rt:121:9
 returns-2 : tie.Need-returns-2
 returns-2 c =
     let e = c .before .before .before .digit-value in
     let st = c .before .before .before .before .before in
     rw (first-size (st .args .b) (e .result) (is-digit (st .args .b) (e .result) (e .ensures) (c .before .before .if1 .left)) (st .args .negative) (c .before .if2 .taken)) (c .after-digit .ensures)
 
--- src/numbers.rt:124:9
 no-number-requires-2 : tie.Need-no-number-requires-2
 no-number-requires-2 c κs = search needs
 
--- src/numbers.rt:124:9
 returns-3 : tie.Need-returns-3
 returns-3 c =
     let e = c .before .before .before .before .digit-value in
     let st = c .before .before .before .before .before .before in
     rw (c .no-number2 .ensures, minus-zero (st .args .b) (e .result) (is-digit (st .args .b) (e .result) (e .ensures) (c .before .before .before .if1 .left)) (st .args .negative) (omega arith) (c .before .if3 .taken))
 
--- src/numbers.rt:126:5
 after-zero-requires : tie.Need-after-zero-requires
 after-zero-requires c κs = search needs
 
--- src/numbers.rt:112:1
 returns-4 : tie.Need-returns-4
 returns-4 c =
     let e = c .before .before .before .before .digit-value in

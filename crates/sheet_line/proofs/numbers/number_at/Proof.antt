@@ -7,62 +7,46 @@ use Rattle.sheet_line.proofs.Cursor.{none-left, left-here, first-byte, 
 use borrow.Author.Needs.{needs}
 use Rattle.sheet_line.proofs.numbers.number_at.Statement.{statement}
 use Rattle.sheet_line.proofs.numbers.number_at.Tie as tie
-use Rattle.sheet_line.proofs.numbers.number_at.Reads as reads
-use Rattle.sheet_line.proofs.numbers.number_at.Lts as lts
-use Rattle.sheet_line.proofs.numbers.from_digit.Reads as from-digit-reads
-use Rattle.sheet_line.proofs.numbers.no_number.Reads as no-number-reads
 
--- src/numbers.rt:134:9
 no-number-requires : tie.Need-no-number-requires
 no-number-requires c κs = search needs
 
--- src/numbers.rt:134:9
 returns : tie.Need-returns
 returns c = rw (c .no-number .ensures, none-left (c .before .before .before .args .line .now) (c .before .before .before .args .at) (c .before .if1 .taken))
 
--- src/numbers.rt:136:13
 shared-slice-read-b : tie.Need-shared-slice-read-b
 shared-slice-read-b c = search needs
 
--- src/numbers.rt:137:16
 add-next : tie.Need-add-next
 add-next c = search needs
 
--- src/numbers.rt:139:9
 from-digit-requires : tie.Need-from-digit-requires
 from-digit-requires c κs = search needs
 
--- src/numbers.rt:139:9
 returns-2 : tie.Need-returns-2
 returns-2 c =
     let st = c .before .before .before .before .before in
     let line = st .args .line .now in
     rw (left-here line (st .args .at) (omega arith), first-byte false line (st .args .at) (omega arith) (λ t. c .before .if2 .taken)) (c .from-digit .ensures)
 
--- src/numbers.rt:142:9
 no-number-requires-2 : tie.Need-no-number-requires-2
 no-number-requires-2 c κs = search needs
 
--- src/numbers.rt:142:9
 returns-3 : tie.Need-returns-3
 returns-3 c =
     let st = c .before .before .before .before .before .before in
     let line = st .args .line .now in
     rw (c .no-number2 .ensures, left-here line (st .args .at) (omega arith), minus-on line (st .args .at) (omega arith) (c .before .before .if2 .left), minus-alone line (st .args .at + 1) (c .before .if3 .taken))
 
--- src/numbers.rt:144:13
 shared-slice-read-d : tie.Need-shared-slice-read-d
 shared-slice-read-d c = search needs
 
--- src/numbers.rt:145:22
 add-from-digit : tie.Need-add-from-digit
 add-from-digit c = search needs
 
--- src/numbers.rt:145:5
 from-digit-requires-2 : tie.Need-from-digit-requires-2
 from-digit-requires-2 c κs = search needs
 
--- src/numbers.rt:130:1
 returns-4 : tie.Need-returns-4
 returns-4 c =
     let st = c .before .before .before .before .before .before .before in

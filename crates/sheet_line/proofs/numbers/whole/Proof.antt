@@ -10,52 +10,40 @@ use Rattle.sheet_line.proofs.Sizes.{size-fits, size-over, least, no-lar
 use borrow.Author.Needs.{needs}
 use Rattle.sheet_line.proofs.numbers.whole.Statement.{statement}
 use Rattle.sheet_line.proofs.numbers.whole.Tie as tie
-use Rattle.sheet_line.proofs.numbers.whole.Reads as reads
-use Rattle.sheet_line.proofs.numbers.whole.Lts as lts
-use Rattle.sheet_line.proofs.numbers.no_number.Reads as no-number-reads
 
 read-size : (c : tie.Else2) → toZ w32 (c .before .before .args .size) ≡ pos (c .before .before .args .size)
 read-size c = toZ-pos w32 {n = c .before .before .args .size} (omega arith)
 
--- src/numbers.rt:36:9
 no-number-requires : tie.Need-no-number-requires
 no-number-requires c κs = search needs
 
--- src/numbers.rt:36:9
 returns : tie.Need-returns
 returns c = c .no-number .ensures ∙ rw (size-over (c .before .before .args .negative) (c .before .before .args .size) (c .before .if1 .taken))
 
--- src/numbers.rt:41:13
 no-number-requires-2 : tie.Need-no-number-requires-2
 no-number-requires-2 c κs = search needs
 
--- src/numbers.rt:41:13
 returns-2 : tie.Need-returns-2
 returns-2 c =
     let st = c .before .before .before .before in
     c .no-number2 .ensures ∙ rw (no-largest (st .args .negative) (st .args .size) (not-true (st .args .negative) (c .before .if3 .taken)) (c .before .before .if2 .taken))
 
--- src/numbers.rt:43:9
 returns-3 : tie.Need-returns-3
 returns-3 c =
     let st = c .before .before .before in
     rw (least (st .args .negative) (st .args .size) (not-false (st .args .negative) (c .if3 .left)) (c .before .if2 .taken))
 
--- src/numbers.rt:48:13
 cast-n : tie.Need-cast-n
 cast-n c = search needs
 
--- src/numbers.rt:49:31
 sub-value : tie.Need-sub-value
 sub-value c = rw (read-size (c .before)) (opposite-fits (c .before .before .before .args .size) (omega arith))
 
--- src/numbers.rt:32:1
 returns-4 : tie.Need-returns-4
 returns-4 c =
     let n = c .before .before .before .args .size in
     rw (toZ-ofZ (sub-value c), read-size (c .before), opposite n, c .if4 .taken, size-fits true n (omega arith))
 
--- src/numbers.rt:32:1
 returns-5 : tie.Need-returns-5
 returns-5 c =
     let n = c .before .before .before .args .size in

@@ -1,4 +1,4 @@
-use Prim.Native.Nat.{ℕ, suc, _+_, _-_, _≤_}
+use Prim.Native.Nat.{suc, _+_, _-_, _≤_}
 use native.Mathlib.Omega.{arith}
 use native.Mathlib.Nat.{sub-zero}
 use native.Mathlib.Numerals.{add-one}
@@ -17,9 +17,6 @@ use Rattle.sheet_line.specs.Steps.{left}
 use Rattle.sheet_line.proofs.Readers.{after, many-start, many-stop, many-more, many-end}
 use Rattle.sheet_line.proofs.operand.elements_at.Statement.{statement}
 use Rattle.sheet_line.proofs.operand.elements_at.Tie as tie
-use Rattle.sheet_line.proofs.operand.elements_at.Reads as reads
-use Rattle.sheet_line.proofs.operand.elements_at.Lts as lts
-use Rattle.sheet_line.proofs.numbers.number_at.Reads as number-at-reads
 
 abbrev Inv-loop : tie.InvT-loop
 Inv-loop line at count out₀ place₀ i₀ out place i =
@@ -34,21 +31,17 @@ abbrev μ-loop : tie.MeasureT-loop
 value-is : (c : tie.After-struct-told Inv-loop μ-loop) → toZ w32 (ofZ w32 (c .before .number-at .result .value)) ≡ c .before .number-at .result .value
 value-is c = toZ-ofZ (search needs)
 
--- src/operand.rt:105:5
 loop-holds : tie.Need-loop-holds Inv-loop μ-loop
 loop-holds c =
     let st = c .before in
     (omega arith, (refl, (refl, rw sub-zero (many-start number (st .args .count) (left (st .args .line .now) (st .args .at))))))
 
--- src/operand.rt:106:13
 number-at-requires : tie.Need-number-at-requires Inv-loop μ-loop
 number-at-requires c κs = search needs
 
--- src/operand.rt:110:13
 same-length : tie.Need-same-length Inv-loop μ-loop
 same-length c = search needs
 
--- src/operand.rt:110:13
 returns : tie.Need-returns Inv-loop μ-loop
 returns c =
     let st = c .before .before .before .before .before .before in
@@ -60,23 +53,18 @@ returns c =
       lp .inv .1 .1 .0,
     )
 
--- src/operand.rt:115:9
 mul-value : tie.Need-mul-value Inv-loop μ-loop
 mul-value c = search needs
 
--- src/operand.rt:115:9
 slice-set-from-value : tie.Need-slice-set-from-value Inv-loop μ-loop
 slice-set-from-value c = search needs
 
--- src/operand.rt:117:9
 add-i : tie.Need-add-i Inv-loop μ-loop
 add-i c = search needs
 
--- src/operand.rt:105:5
 loop-less : tie.Need-loop-less Inv-loop μ-loop
 loop-less c = search needs
 
--- src/operand.rt:105:5
 loop-again : tie.Need-loop-again Inv-loop μ-loop
 loop-again c =
     let st = c .before .before .before .before .before .before in
@@ -98,11 +86,9 @@ loop-again c =
       ),
     )
 
--- src/operand.rt:98:1
 same-length-2 : tie.Need-same-length-2 Inv-loop μ-loop
 same-length-2 c = search needs
 
--- src/operand.rt:98:1
 returns-2 : tie.Need-returns-2 Inv-loop μ-loop
 returns-2 c =
     let st = c .before .before .before in

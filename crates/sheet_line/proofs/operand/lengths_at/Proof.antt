@@ -1,10 +1,10 @@
-use Prim.Native.Nat.{ℕ, suc, _+_, _-_, _≤_}
+use Prim.Native.Nat.{suc, _+_, _-_, _≤_}
 use native.Mathlib.Omega.{arith}
 use native.Mathlib.Nat.{sub-zero}
 use native.Mathlib.Numerals.{add-one}
 use mathlib.Core.Path.{_≡_, _∙_}
 use mathlib.Core.List.{[], _∷_, _++_}
-use mathlib.Core.Bool.{true, false}
+use mathlib.Core.Bool.{true}
 use lib.ListN.{length, take, set, length-set}
 use lib.Seq.{take-suc-set}
 use borrow.Author.Needs.{needs}
@@ -18,9 +18,6 @@ use Rattle.sheet_line.proofs.Readers.{after, many-start, many-stop, man
 use Rattle.sheet_line.proofs.Operands.{small-none, small-zeros}
 use Rattle.sheet_line.proofs.operand.lengths_at.Statement.{statement}
 use Rattle.sheet_line.proofs.operand.lengths_at.Tie as tie
-use Rattle.sheet_line.proofs.operand.lengths_at.Reads as reads
-use Rattle.sheet_line.proofs.operand.lengths_at.Lts as lts
-use Rattle.sheet_line.proofs.operand.natural_at.Reads as natural-at-reads
 
 abbrev Inv-loop : tie.InvT-loop
 Inv-loop line at rank lens₀ place₀ i₀ lens place i =
@@ -32,17 +29,14 @@ Inv-loop line at rank lens₀ place₀ i₀ lens place i =
 abbrev μ-loop : tie.MeasureT-loop
 μ-loop line at rank lens₀ place₀ i₀ lens place i = rank - i
 
--- src/operand.rt:76:5
 loop-holds : tie.Need-loop-holds Inv-loop μ-loop
 loop-holds c =
     let st = c .before in
     (omega arith, (search needs, (small-none, rw sub-zero (many-start (natural maxHeld) (st .args .rank) (left (st .args .line .now) (st .args .at))))))
 
--- src/operand.rt:77:13
 natural-at-requires : tie.Need-natural-at-requires Inv-loop μ-loop
 natural-at-requires c κs = search needs
 
--- src/operand.rt:80:13
 returns : tie.Need-returns Inv-loop μ-loop
 returns c =
     let st = c .before .before .before .before .before in
@@ -53,23 +47,18 @@ returns c =
       small-zeros (st .args .rank) maxRank,
     )
 
--- src/operand.rt:86:9
 mul-lens : tie.Need-mul-lens Inv-loop μ-loop
 mul-lens c = search needs
 
--- src/operand.rt:86:9
 array-write-lens : tie.Need-array-write-lens Inv-loop μ-loop
 array-write-lens c = search needs
 
--- src/operand.rt:88:9
 add-i : tie.Need-add-i Inv-loop μ-loop
 add-i c = search needs
 
--- src/operand.rt:76:5
 loop-less : tie.Need-loop-less Inv-loop μ-loop
 loop-less c = search needs
 
--- src/operand.rt:76:5
 loop-again : tie.Need-loop-again Inv-loop μ-loop
 loop-again c =
     let st = c .before .before .before .before .before in
@@ -87,7 +76,6 @@ loop-again c =
       ),
     )
 
--- src/operand.rt:68:1
 returns-2 : tie.Need-returns-2 Inv-loop μ-loop
 returns-2 c =
     let st = c .before .before .before in

@@ -1,11 +1,10 @@
-use Prim.Native.Nat.{ℕ, _≤_, _<_}
+use Prim.Native.Nat.{_≤_, _<_}
 use native.Mathlib.Omega.{arith}
 use mathlib.Core.Path.{_≡_, sym, _∙_}
 use mathlib.Core.Bool.{true, false}
-use mathlib.Core.Option.{none, some}
 use lib.IntN.{natAbs}
 use mir.Syntax.{w32}
-use mir.Val.{SFits, toZ, ofZ}
+use mir.Val.{toZ, ofZ}
 use mir.Facts.{toZ-ofZ}
 use borrow.Author.Tests.{not-true, not-false}
 use Rattle.meaning.specs.Terms.{negative}
@@ -14,12 +13,6 @@ use Rattle.sheet_line.proofs.Readers.{no-natural, natural-negative, nat
 use borrow.Author.Needs.{needs}
 use Rattle.sheet_line.proofs.operand.natural_at.Statement.{statement}
 use Rattle.sheet_line.proofs.operand.natural_at.Tie as tie
-use Rattle.sheet_line.proofs.operand.natural_at.Reads as reads
-use Rattle.sheet_line.proofs.operand.natural_at.Lts as lts
-use Rattle.sheet_line.proofs.operand.no_natural.Reads as no-natural-reads
-use Rattle.sheet_line.proofs.numbers.number_at.Reads as number-at-reads
-use Rattle.signed.proofs.negative.Reads as negative-reads
-use Rattle.signed.proofs.size.Reads as size-reads
 
 value-is : (c : tie.After-struct-told) → toZ w32 (ofZ w32 (c .before .number-at .result .value)) ≡ c .before .number-at .result .value
 value-is c = toZ-ofZ (search needs)
@@ -33,15 +26,12 @@ natural-is c = sym (sign-is (c .before)) ∙ c .if2 .left
 size-is : (c : tie.After-size) → c .size .result ≡ natAbs (c .before .before .before .before .before .number-at .result .value)
 size-is c = rw (value-is (c .before .before .before .before)) at (c .size .ensures)
 
--- src/operand.rt:48:9
 number-at-requires : tie.Need-number-at-requires
 number-at-requires c κs = search needs
 
--- src/operand.rt:52:9
 no-natural-requires : tie.Need-no-natural-requires
 no-natural-requires c κs = search needs
 
--- src/operand.rt:52:9
 returns : tie.Need-returns
 returns c =
     let st = c .before .before .before .before .before in
@@ -49,15 +39,12 @@ returns c =
     let m = c .no-natural .ensures in
     (rw (m .0) (no-natural (st .args .most) (left (st .args .line .now) (st .args .at)) (left (st .args .line .now) (e .result .next)) (e .result .good) (e .result .value) (e .ensures) (not-true _ (c .before .if1 .taken))), rw (m .1) (omega arith))
 
--- src/operand.rt:54:8
 negative-requires : tie.Need-negative-requires
 negative-requires c κs = search needs
 
--- src/operand.rt:55:9
 no-natural-requires-2 : tie.Need-no-natural-requires-2
 no-natural-requires-2 c κs = search needs
 
--- src/operand.rt:55:9
 returns-2 : tie.Need-returns-2
 returns-2 c =
     let st = c .before .before .before .before .before .before .before in
@@ -66,15 +53,12 @@ returns-2 c =
     let n : negative (e .result .value) ≡ true = sym (sign-is (c .before .before)) ∙ c .before .if2 .taken in
     (rw (m .0) (natural-negative (st .args .most) (left (st .args .line .now) (st .args .at)) (left (st .args .line .now) (e .result .next)) (e .result .good) (e .result .value) (e .ensures) (not-false _ (c .before .before .before .if1 .left)) n), rw (m .1) (omega arith))
 
--- src/operand.rt:57:9
 size-requires : tie.Need-size-requires
 size-requires c κs = search needs
 
--- src/operand.rt:59:9
 no-natural-requires-3 : tie.Need-no-natural-requires-3
 no-natural-requires-3 c κs = search needs
 
--- src/operand.rt:59:9
 returns-3 : tie.Need-returns-3
 returns-3 c =
     let st = c .before .before .before .before .before .before .before .before .before in
@@ -83,7 +67,6 @@ returns-3 c =
     let over : st .args .most < natAbs (e .result .value) = rw (size-is (c .before .before)) at (c .before .if3 .taken) in
     (rw (m .0) (natural-over (st .args .most) (left (st .args .line .now) (st .args .at)) (left (st .args .line .now) (e .result .next)) (e .result .good) (e .result .value) (e .ensures) (not-false _ (c .before .before .before .before .before .if1 .left)) (natural-is (c .before .before .before)) over), rw (m .1) (omega arith))
 
--- src/operand.rt:44:1
 returns-4 : tie.Need-returns-4
 returns-4 c =
     let st = c .before .before .before .before .before .before .before .before in

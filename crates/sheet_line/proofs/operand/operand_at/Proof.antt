@@ -1,7 +1,5 @@
-use Prim.Native.Nat.{ℕ, _≤_, _<_, min}
 use native.Mathlib.Omega.{arith}
-use mathlib.Core.Path.{_≡_, sym, _∙_}
-use mathlib.Core.Bool.{true, false}
+use mathlib.Core.Path.{_≡_}
 use lib.ListN.{length, take}
 use borrow.Author.Tests.{not-true, not-false}
 use Rattle.shape.specs.Shape.{maxRank, count}
@@ -11,14 +9,6 @@ use Rattle.sheet_line.proofs.Operands.{Made, made, no-rank, no-lengths,
 use borrow.Author.Needs.{needs}
 use Rattle.sheet_line.proofs.operand.operand_at.Statement.{statement}
 use Rattle.sheet_line.proofs.operand.operand_at.Tie as tie
-use Rattle.sheet_line.proofs.operand.operand_at.Reads as reads
-use Rattle.sheet_line.proofs.operand.operand_at.Lts as lts
-use Rattle.shape.proofs.Shape.count.Reads as count-reads
-use Rattle.shape.proofs.Shape.of_lengths.Reads as of-lengths-reads
-use Rattle.sheet_line.proofs.operand.elements_at.Reads as elements-at-reads
-use Rattle.sheet_line.proofs.operand.lengths_at.Reads as lengths-at-reads
-use Rattle.sheet_line.proofs.operand.natural_at.Reads as natural-at-reads
-use Rattle.sheet_line.proofs.operand.no_operand.Reads as no-operand-reads
 
 made-is : (c : tie.After-count) → Made (take (c .before .before .before .before .before .before .natural-at .result .value) (c .before .before .before .before .lengths-at .result .lens)) (c .before .of-lengths .result) (c .count .result)
 made-is c =
@@ -27,15 +17,12 @@ made-is c =
     let long : length (ls .result .lens) ≡ maxRank = search needs in
     made (rank .result .value) (ls .result .lens) (c .before .of-lengths .result) (c .count .result) (rank .ensures .1) long (ls .ensures .1) (c .before .of-lengths .ensures) (c .count .ensures)
 
--- src/operand.rt:146:9
 natural-at-requires : tie.Need-natural-at-requires
 natural-at-requires c κs = search needs
 
--- src/operand.rt:150:9
 no-operand-requires : tie.Need-no-operand-requires
 no-operand-requires c κs = search needs
 
--- src/operand.rt:150:9
 returns : tie.Need-returns
 returns c =
     let st = c .before .before .before .before in
@@ -43,15 +30,12 @@ returns c =
     let rank = c .before .before .natural-at in
     untaken line (st .args .at) (st .args .out .now) (st .args .out .now) (c .no-operand .result) (c .no-operand .ensures) (no-rank (room (st .args .out .now)) (left line (st .args .at)) (rank .result .good) (rank .result .value) (left line (rank .result .next)) (rank .ensures .0) (not-true (rank .result .good) (c .before .if1 .taken)))
 
--- src/operand.rt:152:9
 lengths-at-requires : tie.Need-lengths-at-requires
 lengths-at-requires c κs = search needs
 
--- src/operand.rt:156:9
 no-operand-requires-2 : tie.Need-no-operand-requires-2
 no-operand-requires-2 c κs = search needs
 
--- src/operand.rt:156:9
 returns-2 : tie.Need-returns-2
 returns-2 c =
     let st = c .before .before .before .before .before .before .before in
@@ -61,19 +45,15 @@ returns-2 c =
     untaken line (st .args .at) (st .args .out .now) (st .args .out .now) (c .no-operand2 .result) (c .no-operand2 .ensures)
     (no-lengths (room (st .args .out .now)) (left line (st .args .at)) (rank .result .good) (rank .result .value) (left line (rank .result .next)) (rank .ensures .0) (not-false (rank .result .good) (c .before .before .before .before .if1 .left)) (ls .result .good) (take (rank .result .value) (ls .result .lens)) (left line (ls .result .next)) (ls .ensures .0) (not-true (ls .result .good) (c .before .if2 .taken)))
 
--- src/operand.rt:158:9
 of-lengths-requires : tie.Need-of-lengths-requires
 of-lengths-requires c κs = search needs
 
--- src/operand.rt:159:9
 count-requires : tie.Need-count-requires
 count-requires c κs = search needs
 
--- src/operand.rt:161:9
 no-operand-requires-3 : tie.Need-no-operand-requires-3
 no-operand-requires-3 c κs = search needs
 
--- src/operand.rt:161:9
 returns-3 : tie.Need-returns-3
 returns-3 c =
     let st = c .before .before .before .before .before .before .before .before .before .before in
@@ -84,11 +64,9 @@ returns-3 c =
     untaken line (st .args .at) (st .args .out .now) (st .args .out .now) (c .no-operand3 .result) (c .no-operand3 .ensures)
     (too-many (room (st .args .out .now)) (left line (st .args .at)) (rank .result .good) (rank .result .value) (left line (rank .result .next)) (rank .ensures .0) (not-false (rank .result .good) (c .before .before .before .before .before .before .before .if1 .left)) (ls .result .good) (take (rank .result .value) (ls .result .lens)) (left line (ls .result .next)) (ls .ensures .0) (not-false (ls .result .good) (c .before .before .before .before .if2 .left)) (omega (arith, m .held)))
 
--- src/operand.rt:164:9
 no-operand-requires-4 : tie.Need-no-operand-requires-4
 no-operand-requires-4 c κs = search needs
 
--- src/operand.rt:164:9
 returns-4 : tie.Need-returns-4
 returns-4 c =
     let st = c .before .before .before .before .before .before .before .before .before .before .before in
@@ -99,19 +77,15 @@ returns-4 c =
     untaken line (st .args .at) (st .args .out .now) (st .args .out .now) (c .no-operand4 .result) (c .no-operand4 .ensures)
     (too-many (room (st .args .out .now)) (left line (st .args .at)) (rank .result .good) (rank .result .value) (left line (rank .result .next)) (rank .ensures .0) (not-false (rank .result .good) (c .before .before .before .before .before .before .before .before .if1 .left)) (ls .result .good) (take (rank .result .value) (ls .result .lens)) (left line (ls .result .next)) (ls .ensures .0) (not-false (ls .result .good) (c .before .before .before .before .before .if2 .left)) (omega (arith, m .held)))
 
--- src/operand.rt:166:9
 elements-at-requires : tie.Need-elements-at-requires
 elements-at-requires c κs = search needs
 
--- src/operand.rt:169:9
 no-operand-requires-5 : tie.Need-no-operand-requires-5
 no-operand-requires-5 c κs = search needs
 
--- src/operand.rt:169:9
 same-length : tie.Need-same-length
 same-length c = search needs
 
--- src/operand.rt:169:9
 returns-5 : tie.Need-returns-5
 returns-5 c =
     let st = c .before .before .before .before .before .before .before .before .before .before .before .before .before .before .before in
@@ -126,11 +100,9 @@ returns-5 c =
     untaken line (st .args .at) (st .args .out .now) out (c .no-operand5 .result) (c .no-operand5 .ensures)
     (no-elements (room (st .args .out .now)) (left line (st .args .at)) (rank .result .good) (rank .result .value) (left line (rank .result .next)) (rank .ensures .0) (not-false (rank .result .good) (c .before .before .before .before .before .before .before .before .before .before .before .before .if1 .left)) (ls .result .good) ns (left line (ls .result .next)) (ls .ensures .0) (not-false (ls .result .good) (c .before .before .before .before .before .before .before .before .before .if2 .left)) (omega (arith, n)) (es .result .good) (take (count ns) out) (left line (es .result .next)) (rw n at (es .ensures .0)) (not-true (es .result .good) (c .before .if5 .taken)))
 
--- src/operand.rt:143:1
 same-length-2 : tie.Need-same-length-2
 same-length-2 c = search needs
 
--- src/operand.rt:143:1
 returns-6 : tie.Need-returns-6
 returns-6 c =
     let st = c .before .before .before .before .before .before .before .before .before .before .before .before .before .before in
