@@ -1,3 +1,4 @@
+use native.Mathlib.Omega.{arith}
 use mathlib.Core.Path.{_≡_, refl, _∙_}
 use mathlib.Core.Bool.{true}
 use lib.ListN.{take}
@@ -105,7 +106,7 @@ returns-5 c =
     let R = c .before .before .before .before .operand-at2 in
     let r′ = R .last .1 .1 .0 in
     bad-line line l l′ r r′ (c .bad5 .result) (L .kept .1 .1 .0, R .kept .1 .1 .0) (c .bad5 .ensures)
-    (left-over (room l) (room r) line (c .before .before .before .before .before .before .before .before .before .before .before .before .if1 .left) _ (R .result .next) (whole-call (room l) (room r) (left line 0) (h .result .good) (record { primitive = h .result .number; origin = h .result .origin; axis = h .result .axis }) (left line (h .result .next)) (h .ensures) (not-false (h .result .good) (c .before .before .before .before .before .before .before .before .before .before .if2 .left)) (L .result .good) (record { lengths = counted (L .result .shape); elements = take (count (counted (L .result .shape))) l′ }) (left line (L .result .next)) (L .ensures .read) (not-false (L .result .good) (c .before .before .before .before .before .before .if3 .left)) (R .result .good) (record { lengths = counted (R .result .shape); elements = take (count (counted (R .result .shape))) r′ }) (left line (R .result .next)) (R .ensures .read) (not-false (R .result .good) (c .before .before .if4 .left))) (c .before .if5 .taken))
+    (left-over (room l) (room r) line (c .before .before .before .before .before .before .before .before .before .before .before .before .if1 .left) _ (R .result .next) (whole-call (room l) (room r) (left line 0) (h .result .good) (record { primitive = h .result .number; origin = h .result .origin; axis = h .result .axis }) (left line (h .result .next)) (h .ensures) (not-false (h .result .good) (c .before .before .before .before .before .before .before .before .before .before .if2 .left)) (L .result .good) (record { lengths = counted (L .result .shape); elements = take (count (counted (L .result .shape))) l′ }) (left line (L .result .next)) (L .ensures .read) (not-false (L .result .good) (c .before .before .before .before .before .before .if3 .left)) (R .result .good) (record { lengths = counted (R .result .shape); elements = take (count (counted (R .result .shape))) r′ }) (left line (R .result .next)) (R .ensures .read) (not-false (R .result .good) (c .before .before .if4 .left))) (omega (arith, c .before .if5 .taken)))
 
 answered-requires : tie.Need-answered-requires
 answered-requires c κs = search needs
@@ -132,7 +133,7 @@ returns-6 c =
     let is-right : R .result .good ≡ true = not-false (R .result .good) (c .before .before .before .before .if4 .left) in
     good-line line l l′ r r′ (c .answered .result) (L .kept .1 .1 .0, R .kept .1 .1 .0) called
     (c .answered .ensures ∙ same-answer (h .result .number) (h .result .origin) (h .result .axis) (L .result .shape) (shapeOf (counted (L .result .shape))) (R .result .shape) (shapeOf (counted (R .result .shape))) (L .ensures .shape) (R .ensures .shape))
-    (line-call (room l) (room r) line (c .before .before .before .before .before .before .before .before .before .before .before .before .before .before .if1 .left) called (R .result .next) (whole-call (room l) (room r) (left line 0) (h .result .good) (record { primitive = h .result .number; origin = h .result .origin; axis = h .result .axis }) (left line (h .result .next)) (h .ensures) (not-false (h .result .good) (c .before .before .before .before .before .before .before .before .before .before .before .before .if2 .left)) (L .result .good) (record { lengths = counted (L .result .shape); elements = take (count (counted (L .result .shape))) l′ }) (left line (L .result .next)) (L .ensures .read) (not-false (L .result .good) (c .before .before .before .before .before .before .before .before .if3 .left)) (R .result .good) (record { lengths = counted (R .result .shape); elements = take (count (counted (R .result .shape))) r′ }) (left line (R .result .next)) (R .ensures .read) is-right) (c .before .before .before .if5 .left))
+    (line-call (room l) (room r) line (c .before .before .before .before .before .before .before .before .before .before .before .before .before .before .if1 .left) called (R .result .next) (whole-call (room l) (room r) (left line 0) (h .result .good) (record { primitive = h .result .number; origin = h .result .origin; axis = h .result .axis }) (left line (h .result .next)) (h .ensures) (not-false (h .result .good) (c .before .before .before .before .before .before .before .before .before .before .before .before .if2 .left)) (L .result .good) (record { lengths = counted (L .result .shape); elements = take (count (counted (L .result .shape))) l′ }) (left line (L .result .next)) (L .ensures .read) (not-false (L .result .good) (c .before .before .before .before .before .before .before .before .if3 .left)) (R .result .good) (record { lengths = counted (R .result .shape); elements = take (count (counted (R .result .shape))) r′ }) (left line (R .result .next)) (R .ensures .read) is-right) (omega (arith, c .before .before .before .if5 .left)))
     (L .ensures .stored is-left)
     (R .ensures .stored is-right)
 
