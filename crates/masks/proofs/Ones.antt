@@ -1,0 +1,82 @@
+-- The ones of a mask, and how many there are before a position.
+use mathlib.Core.Path.{_≡_, refl, sym, ap, ap₂, _∙_}
+use mathlib.Core.List.{List, [], _∷_, _++_}
+use mathlib.Core.Bool.{Bool, true, false, cond}
+use Prim.Native.Nat.{ℕ, zero, suc, _+_, _≤_, _<_}
+use native.Mathlib.Nat.{add-zero, add-suc}
+use native.Mathlib.Numerals.{add-one}
+use native.Mathlib.Omega.{arith}
+use lib.ListN.{length, getD, take, drop, replicate, length-append, length-replicate, getD-replicate}
+use lib.Seq.{take-suc, split-at, take-all, getD-at, getD-append-add, length-take-le}
+use lib.IntN.{ℤ, pos}
+use Rattle.shape.proofs.Bools.{no-way}
+use Rattle.meaning.specs.Terms.{eqZ, onesFrom, ones}
+
+pub ones-append : (i : ℕ) (xs ys : List ℤ) → onesFrom i (xs ++ ys) ≡ onesFrom i xs ++ onesFrom (i + length xs) ys
+unfolding onesFrom
+ones-append i [] ys = ap (λ k. onesFrom k ys) (sym (add-zero i))
+ones-append i (x ∷ xs) ys =
+    by (eqZ x (pos 1)) (ones-append (suc i) xs ys ∙ ap (λ k. onesFrom (suc i) xs ++ onesFrom k ys) (let e : suc i + length xs ≡ i + suc (length xs) = omega arith in e))
+  where
+    by : (b : Bool) → onesFrom (suc i) (xs ++ ys) ≡ onesFrom (suc i) xs ++ onesFrom (i + suc (length xs)) ys
+        → cond b (i ∷ onesFrom (suc i) (xs ++ ys)) (onesFrom (suc i) (xs ++ ys))
+        ≡ cond b (i ∷ onesFrom (suc i) xs) (onesFrom (suc i) xs) ++ onesFrom (i + suc (length xs)) ys
+    by true e = ap {B = List ℕ} (λ r. i ∷ r) e
+    by false e = e
+
+-- How many ones stand before position i.
+abbrev pub before : ℕ → List ℤ → ℕ
+before i l = length (ones (take i l))
+
+pub before-all : (l : List ℤ) (i : ℕ) → length l ≤ i → before i l ≡ length (ones l)
+before-all l i h = ap (λ x. length (ones x)) (take-all i l h)
+
+module _ (l : List ℤ) (i : ℕ) (h : i < length l) where
+  -- Up to and with position i.
+  ones-more : ones (take (i + 1) l) ≡ ones (take i l) ++ onesFrom (0 + length (take i l)) (getD l i (pos 0) ∷ [])
+  ones-more = ap (λ k. ones (take k l)) (add-one i) ∙ ap ones (take-suc l i (pos 0) h) ∙ ones-append 0 (take i l) (getD l i (pos 0) ∷ [])
+
+  pub before-one : eqZ (getD l i (pos 0)) (pos 1) ≡ true → before (i + 1) l ≡ before i l + 1
+  unfolding onesFrom
+  before-one e = ap length ones-more ∙ length-append (ones (take i l)) _ ∙ rw e
+
+  pub before-other : eqZ (getD l i (pos 0)) (pos 1) ≡ false → before (i + 1) l ≡ before i l
+  unfolding onesFrom
+  before-other e = ap length ones-more ∙ length-append (ones (take i l)) _ ∙ rw e (add-zero _)
+
+  -- A one at position i is the one that has as many before it.
+  ones-split : eqZ (getD l i (pos 0)) (pos 1) ≡ true → ones l ≡ ones (take i l) ++ (i ∷ onesFrom (suc i) (drop (suc i) l))
+  unfolding onesFrom
+  ones-split e =
+      ap ones (split-at l i (pos 0) h)
+      ∙ ones-append 0 (take i l) (getD l i (pos 0) ∷ drop (suc i) l)
+      ∙ ap (λ k. ones (take i l) ++ onesFrom k (getD l i (pos 0) ∷ drop (suc i) l)) (let q : 0 + length (take i l) ≡ i = omega (arith, length-take-le i l (omega arith)) in q)
+      ∙ rw e
+
+  pub one-at : eqZ (getD l i (pos 0)) (pos 1) ≡ true → getD (ones l) (before i l) 0 ≡ i
+  one-at e = ap (λ x. getD x (before i l) 0) (ones-split e) ∙ getD-at (ones (take i l)) i (onesFrom (suc i) (drop (suc i) l)) 0 (before i l) refl
+
+  pub one-below : eqZ (getD l i (pos 0)) (pos 1) ≡ true → before i l < length (ones l)
+  one-below e = omega (arith, ap length (ones-split e), length-append (ones (take i l)) (i ∷ onesFrom (suc i) (drop (suc i) l)))
+
+-- Each of the ones is a position.
+pub ones-lt : (k : ℕ) (l : List ℤ) (j : ℕ) → j < length (onesFrom k l) → getD (onesFrom k l) j 0 < k + length l
+unfolding onesFrom
+ones-lt k [] j h = absurd (omega arith)
+ones-lt k (x ∷ l) j h = by (eqZ x (pos 1)) j (λ i q. ones-lt (suc k) l i q) h
+  where
+    by : (b : Bool) (j : ℕ) → ((i : ℕ) → i < length (onesFrom (suc k) l) → getD (onesFrom (suc k) l) i 0 < suc k + length l)
+        → j < length (cond b (k ∷ onesFrom (suc k) l) (onesFrom (suc k) l))
+        → getD (cond b (k ∷ onesFrom (suc k) l) (onesFrom (suc k) l)) j 0 < k + suc (length l)
+    by true zero rest q = omega arith
+    by true (suc j) rest q = omega (arith, rest j (omega arith))
+    by false j rest q = omega (arith, rest j q)
+
+pub ones-le : (k : ℕ) (l : List ℤ) → length (onesFrom k l) ≤ length l
+unfolding onesFrom
+ones-le k [] = omega arith
+ones-le k (x ∷ l) = by (eqZ x (pos 1)) (ones-le (suc k) l)
+  where
+    by : (b : Bool) → length (onesFrom (suc k) l) ≤ length l → length (cond b (k ∷ onesFrom (suc k) l) (onesFrom (suc k) l)) ≤ suc (length l)
+    by true h = omega arith
+    by false h = omega arith

@@ -1,0 +1,120 @@
+use borrow.Author.Needs.{needs, sfits-of}
+use native.Mathlib.Omega.{arith}
+use Prim.Native.Nat.{_+_, _-_, _*_, _≤_, _<_}
+use mathlib.Core.Path.{_≡_, refl, sym, ap, _∙_}
+use mathlib.Core.Bool.{true, false}
+use mathlib.Core.Logic.{⊎-elim}
+use lib.Dec.{lit<}
+use lib.IntN.{pos}
+use lib.ListN.{length, getD}
+use borrow.Author.Tests.{eq-eqb, ne-eqb}
+use Rattle.meaning.specs.Terms.{eqZ}
+use Rattle.signed.proofs.Reading.{read32}
+use Rattle.signed.proofs.Equal.{eqZ-key}
+use Rattle.masks.proofs.Ones.{before, one-below}
+use Rattle.masks.proofs.Kept.{Kept, kept-none, kept-all, kept-one, kept-other, kept-room}
+use Rattle.masks.proofs.rows.compress_line.Statement.{statement}
+use Rattle.masks.proofs.rows.compress_line.Tie as tie
+use Rattle.masks.proofs.rows.compress_line.Reads as reads
+use Rattle.masks.proofs.rows.compress_line.Lts as lts
+
+abbrev Inv-loop : tie.InvT-loop
+Inv-loop l r out₀ to₀ i₀ out to i = Kept l r 1 out₀ out to i
+
+abbrev μ-loop : tie.MeasureT-loop
+μ-loop l r out₀ to₀ i₀ out to i = length l - i
+
+-- What the test tells of the mask's element.
+one : (c : tie.Then1 Inv-loop μ-loop) → eqZ (getD (c .before .before .before .before .args .l .now) (c .before .before .before .loop .i) (pos 0)) (pos 1) ≡ true
+one c = sym (eqZ-key _ 1 (sfits-of (c .before .if12 .given)) (lit< tt)) ∙ eq-eqb _ 1 (c .if1 .taken)
+
+other : (c : tie.Else1 Inv-loop μ-loop) → eqZ (getD (c .before .before .before .before .args .l .now) (c .before .before .before .loop .i) (pos 0)) (pos 1) ≡ false
+other c = sym (eqZ-key _ 1 (sfits-of (c .before .if12 .given)) (lit< tt)) ∙ ne-eqb _ 1 (c .if1 .left)
+
+room : (c : tie.Then1 Inv-loop μ-loop) → c .before .before .before .loop .to < length (c .before .before .before .before .args .out .now)
+room c =
+    let lp = c .before .before .before .loop in
+    omega (arith, kept-room _ _ 1 _ (omega arith) (lp .out) (lp .to) (lp .i) (lp .inv) (omega arith) (one c))
+
+-- src/rows.rt:22:5
+loop-holds : tie.Need-loop-holds Inv-loop μ-loop
+loop-holds c = kept-none _ _ 1 _
+
+-- src/rows.rt:23:12
+mul-if1 : tie.Need-mul-if1 Inv-loop μ-loop
+mul-if1 c = search needs
+
+-- src/rows.rt:23:12
+shared-slice-copy-out-if1 : tie.Need-shared-slice-copy-out-if1 Inv-loop μ-loop
+shared-slice-copy-out-if1 c = search needs
+
+-- src/rows.rt:24:23
+mul-out : tie.Need-mul-out Inv-loop μ-loop
+mul-out c = search needs
+
+-- src/rows.rt:24:23
+shared-slice-copy-out-out : tie.Need-shared-slice-copy-out-out Inv-loop μ-loop
+shared-slice-copy-out-out c = search needs
+
+-- src/rows.rt:24:13
+mul-t13 : tie.Need-mul-t13 Inv-loop μ-loop
+mul-t13 c = omega (arith, room (c .before))
+
+-- src/rows.rt:24:13
+slice-set-from-out : tie.Need-slice-set-from-out Inv-loop μ-loop
+slice-set-from-out c = omega (arith, room (c .before))
+
+-- src/rows.rt:25:13
+add-to : tie.Need-add-to Inv-loop μ-loop
+add-to c = omega (arith, room (c .before))
+
+-- src/rows.rt:27:9
+add-i : tie.Need-add-i Inv-loop μ-loop
+add-i c = search needs
+
+-- src/rows.rt:22:5
+loop-less : tie.Need-loop-less Inv-loop μ-loop
+loop-less c = search needs
+
+-- src/rows.rt:22:5
+loop-again : tie.Need-loop-again Inv-loop μ-loop
+loop-again c =
+    let st = c .before .before .before .before in
+    let lp = c .before .before .before .loop in
+    ⊎-elim
+    (λ w.
+      rw (w .2, w .3)
+      (kept-one _ _ (st .args .out .now) (lp .out) (lp .to) (lp .i) (omega arith) (lp .inv) (omega arith) (one (record { before = c .before; if1 = w .0 })) _
+      (read32 (getD (st .args .r .now) (lp .i) (pos 0)) (sfits-of (w .1 .given)))))
+    (λ w. rw (w .1, w .2) (kept-other _ _ 1 _ (omega arith) (lp .out) (lp .to) (lp .i) (lp .inv) (omega arith) (other (record { before = c .before; if1 = w .0 }))))
+    (c .if1 .came)
+
+-- src/rows.rt:12:1
+same-length : tie.Need-same-length Inv-loop μ-loop
+same-length c = search needs
+
+-- src/rows.rt:12:1
+returns : tie.Need-returns Inv-loop μ-loop
+returns c =
+    let st = c .before .before in
+    kept-all _ _ 1 _ (omega arith) _ _ _ (c .before .loop .inv) (omega arith)
+
+pub compress-line-spec : {M : Type 1} → statement M
+compress-line-spec =
+    tie.close
+    (tie.spec
+    Inv-loop
+    μ-loop
+    loop-holds
+    mul-if1
+    shared-slice-copy-out-if1
+    mul-out
+    shared-slice-copy-out-out
+    mul-t13
+    slice-set-from-out
+    add-to
+    add-i
+    loop-less
+    loop-again
+    same-length
+    returns)

@@ -1,0 +1,161 @@
+use borrow.Author.Needs.{needs, sfits-of}
+use native.Mathlib.Omega.{arith}
+use native.Mathlib.Nat.{mul-le-mul-right}
+use Prim.Native.Nat.{_+_, _-_, _*_, _≤_, _<_}
+use mathlib.Core.Path.{_≡_, refl, sym, ap, _∙_}
+use mathlib.Core.Bool.{true, false}
+use mathlib.Core.Logic.{⊎-elim}
+use lib.IntN.{pos}
+use lib.ListN.{length, getD}
+use Rattle.meaning.specs.Terms.{eqZ}
+use Rattle.signed.proofs.Reading.{read32}
+use Rattle.masks.proofs.Kept.{Kept, kept-none, kept-all, kept-row, kept-other, kept-room}
+use Rattle.masks.proofs.rows.compress_rows.Statement.{statement}
+use Rattle.masks.proofs.rows.compress_rows.Tie as tie
+use Rattle.masks.proofs.rows.compress_rows.Reads as reads
+use Rattle.masks.proofs.rows.compress_rows.Lts as lts
+use Rattle.copying.proofs.copy_run.Reads as copy-run-reads
+use Rattle.signed.proofs.is_one.Reads as is-one-reads
+
+abbrev Inv-loop : tie.InvT-loop
+Inv-loop l r inner out₀ from₀ to₀ i₀ out from to i = (from ≡ i * inner) × Kept l r inner out₀ out to i
+
+abbrev μ-loop : tie.MeasureT-loop
+μ-loop l r inner out₀ from₀ to₀ i₀ out from to i = length l - i
+
+-- The mask's element.
+test : (c : tie.After-is-one Inv-loop μ-loop) → c .is-one .result ≡ eqZ (getD (c .before .before .before .before .args .l .now) (c .before .before .before .loop .i) (pos 0)) (pos 1)
+test c = c .is-one .ensures ∙ ap (λ z. eqZ z (pos 1)) (read32 (getD (c .before .before .before .before .args .l .now) (c .before .before .before .loop .i) (pos 0)) (sfits-of (c .before .is-one-arg .given)))
+
+-- The row that is read, and the one that is written.
+inside : (c : tie.In-loop Inv-loop μ-loop) → c .before .loop .from + c .before .before .args .inner ≤ length (c .before .before .args .r .now)
+inside c =
+    let a = c .before .before .args in
+    let lp = c .before .loop in
+    omega (arith, mul-le-mul-right {m = lp .i + 1} {n = length (a .l .now)} (a .inner) (omega arith))
+
+room : (c : tie.Then1 Inv-loop μ-loop) → c .before .before .before .before .loop .to + c .before .before .before .before .before .args .inner ≤ length (c .before .before .before .before .before .args .out .now)
+room c =
+    let lp = c .before .before .before .before .loop in
+    let a = c .before .before .before .before .before .args in
+    kept-room _ _ (a .inner) _ (omega arith) (lp .out) (lp .to) (lp .i) (lp .inv .1) (omega arith) (sym (test (c .before)) ∙ c .if1 .taken)
+
+-- src/rows.rt:43:5
+loop-holds : tie.Need-loop-holds Inv-loop μ-loop
+loop-holds c = (omega arith, kept-none _ _ _ _)
+
+-- src/rows.rt:44:20
+add-stop : tie.Need-add-stop Inv-loop μ-loop
+add-stop c = omega (arith, inside c)
+
+-- src/rows.rt:45:27
+mul-is-one : tie.Need-mul-is-one Inv-loop μ-loop
+mul-is-one c = search needs
+
+-- src/rows.rt:45:27
+shared-slice-copy-out-is-one : tie.Need-shared-slice-copy-out-is-one Inv-loop μ-loop
+shared-slice-copy-out-is-one c = search needs
+
+-- src/rows.rt:45:12
+is-one-requires : tie.Need-is-one-requires Inv-loop μ-loop
+is-one-requires c κs = search needs
+
+-- src/rows.rt:46:23
+add-end : tie.Need-add-end Inv-loop μ-loop
+add-end c = omega (arith, room c)
+
+-- src/rows.rt:47:31
+mul-copy-run : tie.Need-mul-copy-run Inv-loop μ-loop
+mul-copy-run c = omega (arith, inside (c .before .before .before))
+
+-- src/rows.rt:47:31
+sub-copy-run : tie.Need-sub-copy-run Inv-loop μ-loop
+sub-copy-run c = search needs
+
+-- src/rows.rt:47:31
+part-copy-run-start : tie.Need-part-copy-run-start Inv-loop μ-loop
+part-copy-run-start c = search needs
+
+-- src/rows.rt:47:31
+part-copy-run-end : tie.Need-part-copy-run-end Inv-loop μ-loop
+part-copy-run-end c = omega (arith, inside (c .before .before .before))
+
+-- src/rows.rt:47:47
+mul-copy-run-2 : tie.Need-mul-copy-run-2 Inv-loop μ-loop
+mul-copy-run-2 c = omega (arith, room (c .before))
+
+-- src/rows.rt:47:47
+sub-copy-run-2 : tie.Need-sub-copy-run-2 Inv-loop μ-loop
+sub-copy-run-2 c = search needs
+
+-- src/rows.rt:47:47
+part-copy-run-start-2 : tie.Need-part-copy-run-start-2 Inv-loop μ-loop
+part-copy-run-start-2 c = search needs
+
+-- src/rows.rt:47:47
+part-copy-run-end-2 : tie.Need-part-copy-run-end-2 Inv-loop μ-loop
+part-copy-run-end-2 c = let lp = c .before .before .before .before .before .loop in omega (arith, room (c .before), lp .inv .1 .long)
+
+-- src/rows.rt:47:13
+copy-run-requires : tie.Need-copy-run-requires Inv-loop μ-loop
+copy-run-requires c κs = search needs
+
+-- src/rows.rt:51:9
+add-i : tie.Need-add-i Inv-loop μ-loop
+add-i c = search needs
+
+-- src/rows.rt:43:5
+loop-less : tie.Need-loop-less Inv-loop μ-loop
+loop-less c = search needs
+
+-- src/rows.rt:43:5
+loop-again : tie.Need-loop-again Inv-loop μ-loop
+loop-again c =
+    let st = c .before .before .before .before .before in
+    let lp = c .before .before .before .before .loop in
+    let next = c .before .before .before in
+    let a = st .args in (
+      omega arith,
+      ⊎-elim
+      (λ w.
+        rw (w .5, w .6)
+        (kept-row _ _ (a .inner) _ (omega arith) (lp .out) (lp .to) (lp .i) (lp .inv .1) (omega arith) (sym (test (c .before)) ∙ w .0 .taken) (lp .from) (lp .inv .0) (inside next) _
+        (w .3 .ensures)))
+      (λ w. rw (w .1, w .2) (kept-other _ _ (a .inner) _ (omega arith) (lp .out) (lp .to) (lp .i) (lp .inv .1) (omega arith) (sym (test (c .before)) ∙ w .0 .left)))
+      (c .if1 .came),
+    )
+
+-- src/rows.rt:32:1
+same-length : tie.Need-same-length Inv-loop μ-loop
+same-length c = c .before .loop .inv .1 .long
+
+-- src/rows.rt:32:1
+returns : tie.Need-returns Inv-loop μ-loop
+returns c = kept-all _ _ _ _ (omega arith) _ _ _ (c .before .loop .inv .1) (omega arith)
+
+pub compress-rows-spec : {M : Type 1} → statement M
+compress-rows-spec =
+    tie.close
+    (tie.spec
+    Inv-loop
+    μ-loop
+    loop-holds
+    add-stop
+    mul-is-one
+    shared-slice-copy-out-is-one
+    is-one-requires
+    add-end
+    mul-copy-run
+    sub-copy-run
+    part-copy-run-start
+    part-copy-run-end
+    mul-copy-run-2
+    sub-copy-run-2
+    part-copy-run-start-2
+    part-copy-run-end-2
+    copy-run-requires
+    add-i
+    loop-less
+    loop-again
+    same-length
+    returns)

@@ -1,0 +1,129 @@
+use borrow.Author.Needs.{needs, sfits-of}
+use native.Mathlib.Omega.{arith}
+use Prim.Native.Nat.{_+_, _-_, _*_, _≤_, _<_}
+use mathlib.Core.Path.{_≡_, refl, sym, ap, _∙_}
+use mathlib.Core.Bool.{true, false}
+use mathlib.Core.Logic.{⊎-elim}
+use lib.Dec.{lit<}
+use lib.IntN.{pos}
+use lib.ListN.{length, getD}
+use borrow.Author.Tests.{eq-eqb, ne-eqb}
+use Rattle.meaning.specs.Terms.{eqZ}
+use Rattle.signed.proofs.Reading.{read32}
+use Rattle.signed.proofs.Equal.{eqZ-key}
+use Rattle.masks.proofs.Opened.{Opened, opened-none, opened-all, opened-one, opened-zero, opened-inside}
+use Rattle.masks.proofs.rows.expand_line.Statement.{statement}
+use Rattle.masks.proofs.rows.expand_line.Tie as tie
+use Rattle.masks.proofs.rows.expand_line.Reads as reads
+use Rattle.masks.proofs.rows.expand_line.Lts as lts
+
+abbrev Inv-loop : tie.InvT-loop
+Inv-loop l r out₀ from₀ i₀ out from i = Opened l r 1 out₀ out from i i
+
+abbrev μ-loop : tie.MeasureT-loop
+μ-loop l r out₀ from₀ i₀ out from i = length l - i
+
+-- What the test tells of the mask's element.
+one : (c : tie.Then1 Inv-loop μ-loop) → eqZ (getD (c .before .before .before .before .args .l .now) (c .before .before .before .loop .i) (pos 0)) (pos 1) ≡ true
+one c = sym (eqZ-key _ 1 (sfits-of (c .before .if12 .given)) (lit< tt)) ∙ eq-eqb _ 1 (c .if1 .taken)
+
+other : (c : tie.Else1 Inv-loop μ-loop) → eqZ (getD (c .before .before .before .before .args .l .now) (c .before .before .before .loop .i) (pos 0)) (pos 1) ≡ false
+other c = sym (eqZ-key _ 1 (sfits-of (c .before .if12 .given)) (lit< tt)) ∙ ne-eqb _ 1 (c .if1 .left)
+
+inside : (c : tie.Then1 Inv-loop μ-loop) → c .before .before .before .loop .from < length (c .before .before .before .before .args .r .now)
+inside c =
+    let lp = c .before .before .before .loop in
+    omega (arith, opened-inside _ _ 1 _ (omega arith) (lp .out) (lp .from) (lp .i) (lp .i) (lp .inv) (omega arith) (one c) (omega arith))
+
+-- src/rows.rt:86:5
+loop-holds : tie.Need-loop-holds Inv-loop μ-loop
+loop-holds c = opened-none _ _ 1 _
+
+-- src/rows.rt:87:12
+mul-if1 : tie.Need-mul-if1 Inv-loop μ-loop
+mul-if1 c = search needs
+
+-- src/rows.rt:87:12
+shared-slice-copy-out-if1 : tie.Need-shared-slice-copy-out-if1 Inv-loop μ-loop
+shared-slice-copy-out-if1 c = search needs
+
+-- src/rows.rt:88:22
+mul-out : tie.Need-mul-out Inv-loop μ-loop
+mul-out c = omega (arith, inside c)
+
+-- src/rows.rt:88:22
+shared-slice-copy-out-out : tie.Need-shared-slice-copy-out-out Inv-loop μ-loop
+shared-slice-copy-out-out c = inside c
+
+-- src/rows.rt:88:13
+mul-t13 : tie.Need-mul-t13 Inv-loop μ-loop
+mul-t13 c = search needs
+
+-- src/rows.rt:88:13
+slice-set-from-out : tie.Need-slice-set-from-out Inv-loop μ-loop
+slice-set-from-out c = search needs
+
+-- src/rows.rt:89:13
+add-from : tie.Need-add-from Inv-loop μ-loop
+add-from c = omega (arith, inside (c .before))
+
+-- src/rows.rt:91:13
+mul-out-2 : tie.Need-mul-out-2 Inv-loop μ-loop
+mul-out-2 c = search needs
+
+-- src/rows.rt:91:13
+slice-set-of-out : tie.Need-slice-set-of-out Inv-loop μ-loop
+slice-set-of-out c = search needs
+
+-- src/rows.rt:93:9
+add-i : tie.Need-add-i Inv-loop μ-loop
+add-i c = search needs
+
+-- src/rows.rt:86:5
+loop-less : tie.Need-loop-less Inv-loop μ-loop
+loop-less c = search needs
+
+-- src/rows.rt:86:5
+loop-again : tie.Need-loop-again Inv-loop μ-loop
+loop-again c =
+    let st = c .before .before .before .before in
+    let lp = c .before .before .before .loop in
+    ⊎-elim
+    (λ w.
+      rw (w .2, w .3)
+      (opened-one _ _ (st .args .out .now) (lp .out) (lp .from) (lp .i) (omega arith) (lp .inv) (omega arith) _ (one (record { before = c .before; if1 = w .0 }))
+      (read32 (getD (st .args .r .now) (lp .from) (pos 0)) (sfits-of (w .1 .given)))))
+    (λ w.
+      rw (w .1, w .2)
+      (opened-zero _ _ (st .args .out .now) (lp .out) (lp .from) (lp .i) (omega arith) (lp .inv) (omega arith) _ (other (record { before = c .before; if1 = w .0 })) refl))
+    (c .if1 .came)
+
+-- src/rows.rt:75:1
+same-length : tie.Need-same-length Inv-loop μ-loop
+same-length c = c .before .loop .inv .long
+
+-- src/rows.rt:75:1
+returns : tie.Need-returns Inv-loop μ-loop
+returns c = opened-all _ _ 1 _ (omega arith) _ _ _ _ (c .before .loop .inv) (omega arith)
+
+pub expand-line-spec : {M : Type 1} → statement M
+expand-line-spec =
+    tie.close
+    (tie.spec
+    Inv-loop
+    μ-loop
+    loop-holds
+    mul-if1
+    shared-slice-copy-out-if1
+    mul-out
+    shared-slice-copy-out-out
+    mul-t13
+    slice-set-from-out
+    add-from
+    mul-out-2
+    slice-set-of-out
+    add-i
+    loop-less
+    loop-again
+    same-length
+    returns)

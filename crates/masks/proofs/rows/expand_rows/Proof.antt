@@ -1,0 +1,186 @@
+use borrow.Author.Needs.{needs, sfits-of}
+use native.Mathlib.Omega.{arith}
+use Prim.Native.Nat.{_+_, _-_, _*_, _≤_, _<_}
+use mathlib.Core.Path.{_≡_, refl, sym, ap, _∙_}
+use mathlib.Core.Bool.{true, false}
+use mathlib.Core.Logic.{⊎-elim}
+use lib.Dec.{lit<}
+use lib.IntN.{pos}
+use lib.ListN.{length, getD}
+use borrow.Author.Tests.{eq-eqb, ne-eqb}
+use Rattle.meaning.specs.Terms.{eqZ}
+use Rattle.signed.proofs.Reading.{read32}
+use Rattle.signed.proofs.Equal.{eqZ-key}
+use Rattle.masks.proofs.Opened.{Opened, opened-none, opened-all, opened-row, opened-zeros, opened-room, opened-inside}
+use Rattle.masks.proofs.rows.expand_rows.Statement.{statement}
+use Rattle.masks.proofs.rows.expand_rows.Tie as tie
+use Rattle.masks.proofs.rows.expand_rows.Reads as reads
+use Rattle.masks.proofs.rows.expand_rows.Lts as lts
+use Rattle.copying.proofs.copy_run.Reads as copy-run-reads
+use Rattle.copying.proofs.fill_run.Reads as fill-run-reads
+use Rattle.signed.proofs.is_one.Reads as is-one-reads
+
+abbrev Inv-loop : tie.InvT-loop
+Inv-loop l r inner out₀ from₀ to₀ i₀ out from to i = Opened l r inner out₀ out from to i
+
+abbrev μ-loop : tie.MeasureT-loop
+μ-loop l r inner out₀ from₀ to₀ i₀ out from to i = length l - i
+
+-- The mask's element.
+test : (c : tie.After-is-one Inv-loop μ-loop) → c .is-one .result ≡ eqZ (getD (c .before .before .before .before .args .l .now) (c .before .before .before .loop .i) (pos 0)) (pos 1)
+test c = c .is-one .ensures ∙ ap (λ z. eqZ z (pos 1)) (read32 (getD (c .before .before .before .before .args .l .now) (c .before .before .before .loop .i) (pos 0)) (sfits-of (c .before .is-one-arg .given)))
+
+-- The row that is written, and the one that is read.
+room : (c : tie.In-loop Inv-loop μ-loop) → c .before .loop .to + c .before .before .args .inner ≤ length (c .before .before .args .out .now)
+room c =
+    let lp = c .before .loop in
+    opened-room _ _ (c .before .before .args .inner) _ (omega arith) (lp .out) (lp .from) (lp .to) (lp .i) (lp .inv) (omega arith)
+
+inside : (c : tie.Then1 Inv-loop μ-loop) → c .before .before .before .before .loop .from + c .before .before .before .before .before .args .inner ≤ length (c .before .before .before .before .before .args .r .now)
+inside c =
+    let lp = c .before .before .before .before .loop in
+    let a = c .before .before .before .before .before .args in
+    opened-inside _ _ (a .inner) _ (omega arith) (lp .out) (lp .from) (lp .to) (lp .i) (lp .inv) (omega arith) (sym (test (c .before)) ∙ c .if1 .taken) (omega arith)
+
+-- src/rows.rt:110:5
+loop-holds : tie.Need-loop-holds Inv-loop μ-loop
+loop-holds c = opened-none _ _ _ _
+
+-- src/rows.rt:111:19
+add-end : tie.Need-add-end Inv-loop μ-loop
+add-end c = omega (arith, room c)
+
+-- src/rows.rt:112:27
+mul-is-one : tie.Need-mul-is-one Inv-loop μ-loop
+mul-is-one c = search needs
+
+-- src/rows.rt:112:27
+shared-slice-copy-out-is-one : tie.Need-shared-slice-copy-out-is-one Inv-loop μ-loop
+shared-slice-copy-out-is-one c = search needs
+
+-- src/rows.rt:112:12
+is-one-requires : tie.Need-is-one-requires Inv-loop μ-loop
+is-one-requires c κs = search needs
+
+-- src/rows.rt:113:24
+add-stop : tie.Need-add-stop Inv-loop μ-loop
+add-stop c = omega (arith, inside c)
+
+-- src/rows.rt:114:31
+mul-copy-run : tie.Need-mul-copy-run Inv-loop μ-loop
+mul-copy-run c = omega (arith, inside c)
+
+-- src/rows.rt:114:31
+sub-copy-run : tie.Need-sub-copy-run Inv-loop μ-loop
+sub-copy-run c = search needs
+
+-- src/rows.rt:114:31
+part-copy-run-start : tie.Need-part-copy-run-start Inv-loop μ-loop
+part-copy-run-start c = search needs
+
+-- src/rows.rt:114:31
+part-copy-run-end : tie.Need-part-copy-run-end Inv-loop μ-loop
+part-copy-run-end c = omega (arith, inside c)
+
+-- src/rows.rt:114:47
+mul-copy-run-2 : tie.Need-mul-copy-run-2 Inv-loop μ-loop
+mul-copy-run-2 c = omega (arith, room (c .before .before .before .before))
+
+-- src/rows.rt:114:47
+sub-copy-run-2 : tie.Need-sub-copy-run-2 Inv-loop μ-loop
+sub-copy-run-2 c = search needs
+
+-- src/rows.rt:114:47
+part-copy-run-start-2 : tie.Need-part-copy-run-start-2 Inv-loop μ-loop
+part-copy-run-start-2 c = search needs
+
+-- src/rows.rt:114:47
+part-copy-run-end-2 : tie.Need-part-copy-run-end-2 Inv-loop μ-loop
+part-copy-run-end-2 c = let lp = c .before .before .before .before .before .loop in omega (arith, room (c .before .before .before .before), lp .inv .long)
+
+-- src/rows.rt:114:13
+copy-run-requires : tie.Need-copy-run-requires Inv-loop μ-loop
+copy-run-requires c κs = search needs
+
+-- src/rows.rt:117:34
+mul-fill-run : tie.Need-mul-fill-run Inv-loop μ-loop
+mul-fill-run c = omega (arith, room (c .before .before .before))
+
+-- src/rows.rt:117:34
+sub-fill-run : tie.Need-sub-fill-run Inv-loop μ-loop
+sub-fill-run c = search needs
+
+-- src/rows.rt:117:34
+part-fill-run-start : tie.Need-part-fill-run-start Inv-loop μ-loop
+part-fill-run-start c = search needs
+
+-- src/rows.rt:117:34
+part-fill-run-end : tie.Need-part-fill-run-end Inv-loop μ-loop
+part-fill-run-end c = let lp = c .before .before .before .before .loop in omega (arith, room (c .before .before .before), lp .inv .long)
+
+-- src/rows.rt:117:13
+fill-run-requires : tie.Need-fill-run-requires Inv-loop μ-loop
+fill-run-requires c κs = search needs
+
+-- src/rows.rt:120:9
+add-i : tie.Need-add-i Inv-loop μ-loop
+add-i c = search needs
+
+-- src/rows.rt:110:5
+loop-less : tie.Need-loop-less Inv-loop μ-loop
+loop-less c = search needs
+
+-- src/rows.rt:110:5
+loop-again : tie.Need-loop-again Inv-loop μ-loop
+loop-again c =
+    let st = c .before .before .before .before .before in
+    let lp = c .before .before .before .before .loop in
+    let a = st .args in
+    ⊎-elim
+    (λ w.
+      rw (w .5, w .6)
+      (opened-row _ _ (a .inner) _ (omega arith) (lp .out) (lp .from) (lp .to) (lp .i) (lp .inv) (omega arith) (sym (test (c .before)) ∙ w .0 .taken) (omega arith) _ (w .3 .ensures)))
+    (λ w.
+      rw (w .4, w .5)
+      (opened-zeros _ _ (a .inner) _ (omega arith) (lp .out) (lp .from) (lp .to) (lp .i) (lp .inv) (omega arith) (sym (test (c .before)) ∙ w .0 .left) _ (w .2 .ensures)))
+    (c .if1 .came)
+
+-- src/rows.rt:98:1
+same-length : tie.Need-same-length Inv-loop μ-loop
+same-length c = c .before .loop .inv .long
+
+-- src/rows.rt:98:1
+returns : tie.Need-returns Inv-loop μ-loop
+returns c = opened-all _ _ _ _ (omega arith) _ _ _ _ (c .before .loop .inv) (omega arith)
+
+pub expand-rows-spec : {M : Type 1} → statement M
+expand-rows-spec =
+    tie.close
+    (tie.spec
+    Inv-loop
+    μ-loop
+    loop-holds
+    add-end
+    mul-is-one
+    shared-slice-copy-out-is-one
+    is-one-requires
+    add-stop
+    mul-copy-run
+    sub-copy-run
+    part-copy-run-start
+    part-copy-run-end
+    mul-copy-run-2
+    sub-copy-run-2
+    part-copy-run-start-2
+    part-copy-run-end-2
+    copy-run-requires
+    mul-fill-run
+    sub-fill-run
+    part-fill-run-start
+    part-fill-run-end
+    fill-run-requires
+    add-i
+    loop-less
+    loop-again
+    same-length
+    returns)

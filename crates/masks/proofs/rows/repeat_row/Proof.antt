@@ -1,0 +1,121 @@
+use borrow.Author.Needs.{needs, sfits-of}
+use native.Mathlib.Omega.{arith}
+use Prim.Native.Nat.{_+_, _-_, _*_, _≤_, _<_}
+use mathlib.Core.Path.{_≡_, refl, sym, ap, _∙_}
+use lib.IntN.{pos}
+use lib.ListN.{length, getD}
+use Rattle.signed.proofs.Reading.{read32}
+use Rattle.masks.proofs.Repeated.{Repeated, repeated-none, repeated-all, repeated-one, repeated-row, repeated-room}
+use Rattle.masks.proofs.rows.repeat_row.Statement.{statement}
+use Rattle.masks.proofs.rows.repeat_row.Tie as tie
+use Rattle.masks.proofs.rows.repeat_row.Reads as reads
+use Rattle.masks.proofs.rows.repeat_row.Lts as lts
+use Rattle.copying.proofs.copy_run.Reads as copy-run-reads
+use Rattle.copying.proofs.fill_run.Reads as fill-run-reads
+
+abbrev Inv-loop : tie.InvT-loop
+Inv-loop r m inner out₀ to₀ i₀ out to i = Repeated r m inner out₀ out to i
+
+abbrev μ-loop : tie.MeasureT-loop
+μ-loop r m inner out₀ to₀ i₀ out to i = m - i
+
+room : (c : tie.In-loop Inv-loop μ-loop) → c .before .loop .to + c .before .before .before .args .inner ≤ length (c .before .before .before .args .out .now)
+room c =
+    let lp = c .before .loop in
+    let a = c .before .before .before .args in
+    repeated-room _ (a .m) (a .inner) _ (omega arith) (lp .out) (lp .to) (lp .i) (lp .inv) (omega arith)
+
+-- src/rows.rt:61:27
+shared-slice-copy-out-fill-run : tie.Need-shared-slice-copy-out-fill-run Inv-loop μ-loop
+shared-slice-copy-out-fill-run c = search needs
+
+-- src/rows.rt:61:9
+fill-run-requires : tie.Need-fill-run-requires Inv-loop μ-loop
+fill-run-requires c κs = search needs
+
+-- src/rows.rt:62:9
+same-length : tie.Need-same-length Inv-loop μ-loop
+same-length c = search needs
+
+-- src/rows.rt:62:9
+returns : tie.Need-returns Inv-loop μ-loop
+returns c =
+    let st = c .before .before .before .before .before in
+    c .before .fill-run .ensures
+    ∙ repeated-one (st .args .r .now) (st .args .m) (st .args .inner) (st .args .out .now) _ (c .before .before .before .before .if1 .taken) (omega arith)
+    (read32 (getD (st .args .r .now) 0 (pos 0)) (sfits-of (c .before .before .before .fill-run-arg .given)))
+
+-- src/rows.rt:66:5
+loop-holds : tie.Need-loop-holds Inv-loop μ-loop
+loop-holds c = repeated-none _ _ _ _
+
+-- src/rows.rt:67:19
+add-end : tie.Need-add-end Inv-loop μ-loop
+add-end c = omega (arith, room c)
+
+-- src/rows.rt:68:30
+mul-copy-run : tie.Need-mul-copy-run Inv-loop μ-loop
+mul-copy-run c = omega (arith, room c)
+
+-- src/rows.rt:68:30
+sub-copy-run : tie.Need-sub-copy-run Inv-loop μ-loop
+sub-copy-run c = search needs
+
+-- src/rows.rt:68:30
+part-copy-run-start : tie.Need-part-copy-run-start Inv-loop μ-loop
+part-copy-run-start c = search needs
+
+-- src/rows.rt:68:30
+part-copy-run-end : tie.Need-part-copy-run-end Inv-loop μ-loop
+part-copy-run-end c = let lp = c .before .loop in omega (arith, room c, lp .inv .long)
+
+-- src/rows.rt:68:9
+copy-run-requires : tie.Need-copy-run-requires Inv-loop μ-loop
+copy-run-requires c κs = search needs
+
+-- src/rows.rt:70:9
+add-i : tie.Need-add-i Inv-loop μ-loop
+add-i c = search needs
+
+-- src/rows.rt:66:5
+loop-less : tie.Need-loop-less Inv-loop μ-loop
+loop-less c = search needs
+
+-- src/rows.rt:66:5
+loop-again : tie.Need-loop-again Inv-loop μ-loop
+loop-again c =
+    let st = c .before .before .before .before .before .before in
+    let lp = c .before .before .before .before .loop in
+    let a = st .args in
+    repeated-row _ (a .m) (a .inner) _ (omega arith) (lp .out) (lp .to) (lp .i) (lp .inv) (omega arith) (omega arith) _ (c .before .copy-run .ensures)
+
+-- src/rows.rt:56:1
+same-length-2 : tie.Need-same-length-2 Inv-loop μ-loop
+same-length-2 c = c .before .loop .inv .long
+
+-- src/rows.rt:56:1
+returns-2 : tie.Need-returns-2 Inv-loop μ-loop
+returns-2 c = repeated-all _ _ _ _ (omega arith) _ _ _ (c .before .loop .inv) (omega arith)
+
+pub repeat-row-spec : {M : Type 1} → statement M
+repeat-row-spec =
+    tie.close
+    (tie.spec
+    Inv-loop
+    μ-loop
+    shared-slice-copy-out-fill-run
+    fill-run-requires
+    same-length
+    returns
+    loop-holds
+    add-end
+    mul-copy-run
+    sub-copy-run
+    part-copy-run-start
+    part-copy-run-end
+    copy-run-requires
+    add-i
+    loop-less
+    loop-again
+    same-length-2
+    returns-2)

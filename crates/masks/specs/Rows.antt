@@ -1,0 +1,38 @@
+-- What a mask takes, position by position and row by row; a row is the elements after one position of the axis.
+use mathlib.Core.Path.{_≡_}
+use Prim.Native.Nat.{ℕ, _+_, _*_, _/_, _%_}
+use mathlib.Core.List.{List}
+use mathlib.Core.Bool.{Bool, true, cond, _||_}
+use lib.ListN.{length, take, getD, replicate}
+use lib.Dec.{eqb}
+use lib.IntN.{ℤ, pos}
+use Rattle.meaning.specs.Terms.{eqZ, ones}
+
+-- 27: one element serves the whole axis, of length n.
+unfoldable pub maskOf : List ℤ → ℕ → List ℤ
+maskOf l n = cond (eqb (length l) 1) (replicate n (getD l 0 (pos 0))) l
+
+-- Both uses of a mask l over an axis of length n, 28 where it expands and 27 where not: how many positions the result has, whether they fit,
+-- whether position i of the result takes a position of R, and which.
+unfoldable pub width : Bool → List ℤ → ℕ
+width expands l = cond expands (length l) (length (ones l))
+
+unfoldable pub fits : Bool → List ℤ → ℕ → Bool
+fits expands l n = cond expands (eqb (length (ones l)) n) (eqb n 1 || eqb (length l) n)
+
+unfoldable pub takes : Bool → List ℤ → ℕ → Bool
+takes expands l i = cond expands (eqZ (getD l i (pos 0)) (pos 1)) true
+
+unfoldable pub taken : Bool → List ℤ → ℕ → ℕ → ℕ
+taken expands l n i = cond expands (length (ones (take i l))) (cond (eqb n 1) 0 (getD (ones l) i 0))
+
+-- Element j of rows of c elements: row i is row φ i of r where t i, else zeros.
+abbrev pub rowed : (ℕ → Bool) → (ℕ → ℕ) → ℕ → List ℤ → ℕ → ℤ
+rowed t φ c r j = cond (t (j / c)) (getD r (φ (j / c) * c + j % c) (pos 0)) (pos 0)
+
+-- A block of R with n rows goes to m rows.
+pub record Block (expands : Bool) (l : List ℤ) (n m c from to : ℕ) : Type 0 where
+  pub fitting : fits expands l n ≡ true
+  pub wide : m ≡ width expands l
+  pub source : from ≡ n * c
+  pub room : to ≡ m * c
