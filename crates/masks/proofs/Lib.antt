@@ -3,3 +3,7 @@ pub mod Filling
 pub mod Kept
 pub mod Opened
 pub mod Repeated
+pub mod Uses
+pub mod Placing
+pub mod Every
+pub mod Results

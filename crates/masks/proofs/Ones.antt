@@ -6,11 +6,12 @@ use Prim.Native.Nat.{ℕ, zero, suc, _+_, _≤_, _<_}
 use native.Mathlib.Nat.{add-zero, add-suc}
 use native.Mathlib.Numerals.{add-one}
 use native.Mathlib.Omega.{arith}
-use lib.ListN.{length, getD, take, drop, replicate, length-append, length-replicate, getD-replicate}
+use lib.ListN.{length, getD, take, drop, replicate, length-append, length-take, length-replicate, getD-replicate}
 use lib.Seq.{take-suc, split-at, take-all, getD-at, getD-append-add, length-take-le}
 use lib.IntN.{ℤ, pos}
-use Rattle.shape.proofs.Bools.{no-way}
+use borrow.Author.Tests.{eq-eqb, ne-eqb}
 use Rattle.meaning.specs.Terms.{eqZ, onesFrom, ones}
+use Rattle.masks.specs.Rows.{maskOf}
 
 pub ones-append : (i : ℕ) (xs ys : List ℤ) → onesFrom i (xs ++ ys) ≡ onesFrom i xs ++ onesFrom (i + length xs) ys
 unfolding onesFrom
@@ -24,9 +25,25 @@ ones-append i (x ∷ xs) ys =
     by true e = ap {B = List ℕ} (λ r. i ∷ r) e
     by false e = e
 
+pub ones-le : (k : ℕ) (l : List ℤ) → length (onesFrom k l) ≤ length l
+unfolding onesFrom
+ones-le k [] = omega arith
+ones-le k (x ∷ l) = by (eqZ x (pos 1)) (ones-le (suc k) l)
+  where
+    by : (b : Bool) → length (onesFrom (suc k) l) ≤ length l → length (cond b (k ∷ onesFrom (suc k) l) (onesFrom (suc k) l)) ≤ suc (length l)
+    by true h = omega arith
+    by false h = omega arith
+
 -- How many ones stand before position i.
 abbrev pub before : ℕ → List ℤ → ℕ
 before i l = length (ones (take i l))
+
+pub before-none : (l : List ℤ) → 0 ≡ before 0 l
+unfolding onesFrom
+before-none l = refl
+
+pub before-le : (l : List ℤ) (i : ℕ) → before i l ≤ length l
+before-le l i = omega (arith, ones-le 0 (take i l), length-take i l)
 
 pub before-all : (l : List ℤ) (i : ℕ) → length l ≤ i → before i l ≡ length (ones l)
 before-all l i h = ap (λ x. length (ones x)) (take-all i l h)
@@ -72,11 +89,38 @@ ones-lt k (x ∷ l) j h = by (eqZ x (pos 1)) j (λ i q. ones-lt (suc k) l i q) h
     by true (suc j) rest q = omega (arith, rest j (omega arith))
     by false j rest q = omega (arith, rest j q)
 
-pub ones-le : (k : ℕ) (l : List ℤ) → length (onesFrom k l) ≤ length l
+-- A mask of one element over an axis of length n.
+pub ones-all : (k n : ℕ) (x : ℤ) → eqZ x (pos 1) ≡ true → length (onesFrom k (replicate n x)) ≡ n
 unfolding onesFrom
-ones-le k [] = omega arith
-ones-le k (x ∷ l) = by (eqZ x (pos 1)) (ones-le (suc k) l)
-  where
-    by : (b : Bool) → length (onesFrom (suc k) l) ≤ length l → length (cond b (k ∷ onesFrom (suc k) l) (onesFrom (suc k) l)) ≤ suc (length l)
-    by true h = omega arith
-    by false h = omega arith
+ones-all k zero x e = refl
+ones-all k (suc n) x e = rw e (ap suc (ones-all (suc k) n x e))
+
+pub ones-no : (k n : ℕ) (x : ℤ) → eqZ x (pos 1) ≡ false → length (onesFrom k (replicate n x)) ≡ 0
+unfolding onesFrom
+ones-no k zero x e = refl
+ones-no k (suc n) x e = rw e (ones-no (suc k) n x e)
+
+-- Each position of a mask of ones alone is taken.
+pub ones-same : (k n i : ℕ) (x : ℤ) → eqZ x (pos 1) ≡ true → i < n → getD (onesFrom k (replicate n x)) i 0 ≡ k + i
+unfolding onesFrom
+ones-same k zero i x e h = absurd (omega arith)
+ones-same k (suc n) zero x e h = rw e (omega arith)
+ones-same k (suc n) (suc i) x e h = rw e (ones-same (suc k) n i x e (omega arith) ∙ omega arith)
+
+module _ (l : List ℤ) (n : ℕ) where
+  pub mask-single : length l ≡ 1 → maskOf l n ≡ replicate n (getD l 0 (pos 0))
+  unfolding maskOf
+  mask-single h = rw (eq-eqb (length l) 1 h)
+
+  pub mask-list : (length l ≡ 1 → ⊥) → maskOf l n ≡ l
+  unfolding maskOf
+  mask-list h = rw (ne-eqb (length l) 1 h)
+
+  pub kept-list : (length l ≡ 1 → ⊥) → length (ones l) ≡ length (ones (maskOf l n))
+  kept-list h = ap (λ x. length (ones x)) (sym (mask-list h))
+
+  pub kept-all : length l ≡ 1 → eqZ (getD l 0 (pos 0)) (pos 1) ≡ true → n ≡ length (ones (maskOf l n))
+  kept-all h e = sym (ap (λ x. length (ones x)) (mask-single h) ∙ ones-all 0 n (getD l 0 (pos 0)) e)
+
+  pub kept-no : length l ≡ 1 → eqZ (getD l 0 (pos 0)) (pos 1) ≡ false → 0 ≡ length (ones (maskOf l n))
+  kept-no h e = sym (ap (λ x. length (ones x)) (mask-single h) ∙ ones-no 0 n (getD l 0 (pos 0)) e)

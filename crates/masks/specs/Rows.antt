@@ -1,12 +1,17 @@
 -- What a mask takes, position by position and row by row; a row is the elements after one position of the axis.
 use mathlib.Core.Path.{_≡_}
-use Prim.Native.Nat.{ℕ, _+_, _*_, _/_, _%_}
+use Prim.Native.Nat.{ℕ, _+_, _*_, _/_, _%_, _≤_, _<_}
 use mathlib.Core.List.{List}
 use mathlib.Core.Bool.{Bool, true, cond, _||_}
-use lib.ListN.{length, take, getD, replicate}
+use lib.ListN.{length, take, getD, set, replicate}
 use lib.Dec.{eqb}
 use lib.IntN.{ℤ, pos}
+use Rattle.shape.specs.declared.Shape.{Shape}
+use Rattle.shape.specs.Shape.{maxCount, counted, count}
+use Rattle.meaning.specs.Array.{goodForm}
 use Rattle.meaning.specs.Terms.{eqZ, ones}
+use Rattle.copying.proofs.Blocks.{source}
+use Rattle.answer.specs.Answer.{lent}
 
 -- 27: one element serves the whole axis, of length n.
 unfoldable pub maskOf : List ℤ → ℕ → List ℤ
@@ -36,3 +41,27 @@ pub record Block (expands : Bool) (l : List ℤ) (n m c from to : ℕ) : Type 0 
   pub wide : m ≡ width expands l
   pub source : from ≡ n * c
   pub room : to ≡ m * c
+
+-- Element j of blocks of m rows, that come from blocks of n rows.
+abbrev pub placed : (ℕ → Bool) → (ℕ → ℕ) → ℕ → ℕ → ℕ → List ℤ → ℕ → ℤ
+placed t φ n m c r j = cond (t (j / c % m)) (getD r (source m n c φ j) (pos 0)) (pos 0)
+
+-- As many blocks as `outer` says.
+pub record Blocks (expands : Bool) (l : List ℤ) (outer n m c from to : ℕ) : Type 0 where
+  pub fitting : fits expands l n ≡ true
+  pub wide : m ≡ width expands l
+  pub some : 0 < outer
+  pub rows : 0 < m
+  pub row : 0 < c
+  pub source : outer * (n * c) ≤ from
+  pub room : outer * (m * c) ≤ to
+
+-- A good operand whose axis k goes to m positions, `total` elements in all.
+pub record Along (expands : Bool) (l : List ℤ) (s : Shape) (k m total : ℕ) (r : List ℤ) (room : ℕ) : Type 0 where
+  pub form : goodForm (lent s r) ≡ true
+  pub has : k < s .rank
+  pub fitting : fits expands l (getD (counted s) k 0) ≡ true
+  pub wide : m ≡ width expands l
+  pub whole : count (set (counted s) k m) ≡ total
+  pub small : total ≤ maxCount
+  pub space : total ≤ room

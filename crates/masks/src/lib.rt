@@ -1,2 +1,152 @@
 // Lines along an axis by a mask of 0 and 1: compress and expand.
 mod rows;
+
+ghost use mathlib.Core.Path.{_≡_};
+ghost use mathlib.Core.List.{List, [], _∷_, _++_};
+ghost use mathlib.Core.Bool.{Bool, true, false, cond, _||_};
+ghost use Prim.Native.Nat.{ℕ, _*_, _≤_, _<_};
+ghost use lib.ListN.{length, drop, getD, set};
+ghost use lib.Dec.{eqb};
+ghost use lib.IntN.{ℤ, pos};
+ghost use Rattle.shape.specs.Shape.{maxRank, maxCount, counted, count, goodShape, shapeOf};
+ghost use Rattle.meaning.specs.Array.{arrayOf, goodForm, tab, build};
+ghost use Rattle.meaning.specs.Terms.{axis, along, every, isBit, ones};
+ghost use Rattle.meaning.specs.Primitives.{compress, expand};
+ghost use Rattle.meaning.specs.Reply.{reply};
+ghost use Rattle.copying.proofs.Runs.{filled};
+ghost use Rattle.answer.specs.Answer.{lent, own, Replied};
+ghost use Rattle.masks.specs.Rows.{maskOf, width, fits, takes, taken, rowed, placed, Block, Blocks, Along};
+ghost use Rattle.masks.specs.Vector.{vectorShape};
+
+use answer::Answer;
+use shape::Shape;
+
+// A scalar's shape is read as that of a vector of one.
+fn as_vector(s: Shape) -> Shape
+    ensures { λ v. ⌜ v ≡ vectorShape s ⌝ }
+{
+    if s.rank == 0 {
+        return Shape::vector(1);
+    }
+    s
+}
+
+// The shape with m positions on axis k.
+fn with_length(s: Shape, k: usize, m: usize) -> Shape
+    requires { ⌜ (s .rank ≤ maxRank) × (k < s .rank) ⌝ }
+    ensures { λ t. ⌜ t ≡ shapeOf (set (counted s) k m) ⌝ }
+{
+    let mut lens = s.lens;
+    lens[k] = m;
+    Shape::of_lengths(s.rank, lens)
+}
+
+fn all_bits(l: &[i32]) -> bool
+    ensures { λ b. ⌜ b ≡ every isBit (now (l .entry)) ⌝ }
+{
+    let mut i = 0;
+    while i < l.len() {
+        if signed::is_bit(l[i]) {
+            i += 1;
+        } else {
+            return false;
+        }
+    }
+    true
+}
+
+fn count_ones(l: &[i32]) -> usize
+    ensures { λ n. ⌜ n ≡ length (ones (now (l .entry))) ⌝ }
+{
+    let mut n: usize = 0;
+    let mut i = 0;
+    while i < l.len() {
+        if l[i] == 1 {
+            n += 1;
+        }
+        i += 1;
+    }
+    n
+}
+
+// The ones of the mask that l is over an axis of length n.
+fn kept_count(l: &[i32], n: usize) -> usize
+    ensures { λ m. ⌜ m ≡ length (ones (maskOf (now (l .entry)) n)) ⌝ }
+{
+    if l.len() != 1 {
+        return count_ones(l);
+    }
+    if signed::is_one(l[0]) { n } else { 0 }
+}
+
+// One block of n rows to m rows.
+fn block(expands: bool, l: &[i32], r: &[i32], n: usize, m: usize, inner: usize, out: &mut [i32])
+    requires { ⌜ (0 < inner) × Block expands (now l) n m inner (length (now r)) (length (now out)) ⌝ }
+    ensures {
+        λ _.
+        ⌜ now (out .exit)
+        ≡ tab (m * inner) (rowed (takes expands (now (l .entry))) (taken expands (now (l .entry)) n) inner (now (r .entry))) ⌝
+    }
+{
+    if expands {
+        if inner == 1 {
+            rows::expand_line(l, r, out);
+        } else {
+            rows::expand_rows(l, r, inner, out);
+        }
+        return;
+    }
+    if n == 1 {
+        rows::repeat_row(r, m, inner, out);
+        return;
+    }
+    if inner == 1 {
+        rows::compress_line(l, r, out);
+    } else {
+        rows::compress_rows(l, r, inner, out);
+    }
+}
+
+// Each of the blocks that stand one after another.
+fn blocks(expands: bool, l: &[i32], r: &[i32], outer: usize, n: usize, m: usize, inner: usize, out: &mut [i32])
+    requires { ⌜ Blocks expands (now l) outer n m inner (length (now r)) (length (now out)) ⌝ }
+    ensures {
+        λ _.
+        ⌜ now (out .exit)
+        ≡ filled (placed (takes expands (now (l .entry))) (taken expands (now (l .entry)) n) n m inner (now (r .entry))) (outer * (m * inner)) (now (out .entry)) ⌝
+    }
+{
+    let size = n * inner;
+    let part = m * inner;
+    let mut from = 0;
+    let mut to = 0;
+    let mut o = 0;
+    while o < outer {
+        let stop = from + size;
+        let end = to + part;
+        block(expands, l, &r[from..stop], n, m, inner, &mut out[to..end]);
+        from = stop;
+        to = end;
+        o += 1;
+    }
+}
+
+// All lines along axis k.
+fn lines(expands: bool, l: &[i32], s: Shape, k: usize, m: usize, total: usize, r: &[i32], out: &mut [i32])
+    requires { ⌜ Along expands (now l) s k m total (now r) (length (now out)) ⌝ }
+    ensures {
+        λ _.
+        ⌜ now (out .exit)
+        ≡ build (set (counted s) k m)
+        (λ p.
+          cond (takes expands (now (l .entry)) (getD p k 0))
+          (along (arrayOf (lent s (now (r .entry)))) k (taken expands (now (l .entry)) (getD (counted s) k 0)) p) (pos 0)) .elements
+        ++ drop total (now (out .entry)) ⌝
+    }
+{
+    if total == 0 {
+        return;
+    }
+    let a = s.around(k);
+    blocks(expands, l, r, a.outer, a.length, m, a.inner, out);
+}

@@ -10,7 +10,7 @@ ghost use Rattle.masks.specs.Rows.{rowed};
 
 // The elements at ones.
 pub fn compress_line(l: &[i32], r: &[i32], out: &mut [i32])
-    requires { ⌜ (length (now r) ≡ length (now l)) × (length (now out) ≡ length (ones (now l))) ⌝ }
+    requires { ⌜ (length (now r) ≡ length (now l) * 1) × (length (now out) ≡ length (ones (now l)) * 1) ⌝ }
     ensures {
         λ _.
         ⌜ now (out .exit)
@@ -73,7 +73,7 @@ pub fn repeat_row(r: &[i32], m: usize, inner: usize, out: &mut [i32])
 
 // The elements in order at ones, zeros elsewhere.
 pub fn expand_line(l: &[i32], r: &[i32], out: &mut [i32])
-    requires { ⌜ (length (now r) ≡ length (ones (now l))) × (length (now out) ≡ length (now l)) ⌝ }
+    requires { ⌜ (length (now r) ≡ length (ones (now l)) * 1) × (length (now out) ≡ length (now l) * 1) ⌝ }
     ensures {
         λ _.
         ⌜ now (out .exit)

@@ -1,0 +1,83 @@
+use native.Mathlib.Omega.{arith}
+use Prim.Native.Nat.{_+_, _-_, _*_, _≤_, _<_}
+use mathlib.Core.Path.{_≡_, refl, sym, ap, _∙_}
+use mathlib.Core.Bool.{true, false}
+use lib.IntN.{pos}
+use lib.ListN.{length, getD, take}
+use borrow.Author.Needs.{needs, sfits-of}
+use Rattle.meaning.specs.Terms.{every, isBit}
+use Rattle.signed.proofs.Reading.{read32}
+use Rattle.masks.proofs.Every.{every-none, every-more, every-all, every-not}
+use Rattle.masks.proofs.all_bits.Statement.{statement}
+use Rattle.masks.proofs.all_bits.Tie as tie
+use Rattle.masks.proofs.all_bits.Reads as reads
+use Rattle.masks.proofs.all_bits.Lts as lts
+use Rattle.signed.proofs.is_bit.Reads as is-bit-reads
+
+abbrev Inv-loop : tie.InvT-loop
+Inv-loop l i₀ i = (i ≤ length l) × (every isBit (take i l) ≡ true)
+
+abbrev μ-loop : tie.MeasureT-loop
+μ-loop l i₀ i = length l - i
+
+test : (c : tie.After-is-bit Inv-loop μ-loop) → c .is-bit .result ≡ isBit (getD (c .before .before .before .before .args .l .now) (c .before .before .before .loop .i) (pos 0))
+test c = c .is-bit .ensures ∙ ap isBit (read32 (getD (c .before .before .before .before .args .l .now) (c .before .before .before .loop .i) (pos 0)) (sfits-of (c .before .is-bit-arg .given)))
+
+-- src/lib.rt:48:5
+loop-holds : tie.Need-loop-holds Inv-loop μ-loop
+loop-holds c = (omega arith, every-none isBit (pos 0) (c .args .l .now))
+
+-- src/lib.rt:49:27
+mul-is-bit : tie.Need-mul-is-bit Inv-loop μ-loop
+mul-is-bit c = search needs
+
+-- src/lib.rt:49:27
+shared-slice-copy-out-is-bit : tie.Need-shared-slice-copy-out-is-bit Inv-loop μ-loop
+shared-slice-copy-out-is-bit c = search needs
+
+-- src/lib.rt:49:12
+is-bit-requires : tie.Need-is-bit-requires Inv-loop μ-loop
+is-bit-requires c κs = search needs
+
+-- src/lib.rt:50:13
+add-i : tie.Need-add-i Inv-loop μ-loop
+add-i c = search needs
+
+-- src/lib.rt:48:5
+loop-less : tie.Need-loop-less Inv-loop μ-loop
+loop-less c = search needs
+
+-- src/lib.rt:48:5
+loop-again : tie.Need-loop-again Inv-loop μ-loop
+loop-again c =
+    let lp = c .before .before .before .before .loop in
+    let l = c .before .before .before .before .before .args .l .now in
+    (omega arith, every-more isBit (pos 0) l (lp .i) (omega arith) (lp .inv .1) (sym (test (c .before)) ∙ c .if1 .taken))
+
+-- src/lib.rt:52:13
+returns : tie.Need-returns Inv-loop μ-loop
+returns c =
+    let lp = c .before .before .before .before .loop in
+    let l = c .before .before .before .before .before .args .l .now in
+    sym (every-not isBit (pos 0) l (lp .i) (omega arith) (sym (test (c .before)) ∙ c .if1 .left))
+
+-- src/lib.rt:44:1
+returns-2 : tie.Need-returns-2 Inv-loop μ-loop
+returns-2 c =
+    sym (every-all isBit (pos 0) (c .before .before .args .l .now) (c .before .loop .i) (omega arith) (c .before .loop .inv .1))
+
+pub all-bits-spec : {M : Type 1} → statement M
+all-bits-spec =
+    tie.close
+    (tie.spec
+    Inv-loop
+    μ-loop
+    loop-holds
+    mul-is-bit
+    shared-slice-copy-out-is-bit
+    is-bit-requires
+    add-i
+    loop-less
+    loop-again
+    returns
+    returns-2)

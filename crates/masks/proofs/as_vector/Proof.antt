@@ -1,0 +1,24 @@
+use mathlib.Core.Path.{_≡_, sym, ap, _∙_}
+use native.Mathlib.Omega.{arith}
+use Rattle.masks.proofs.Results.{scalar-vector, array-vector}
+use borrow.Author.Needs.{needs}
+use Rattle.masks.proofs.as_vector.Statement.{statement}
+use Rattle.masks.proofs.as_vector.Tie as tie
+use Rattle.masks.proofs.as_vector.Reads as reads
+use Rattle.masks.proofs.as_vector.Lts as lts
+use Rattle.shape.proofs.Shape.vector.Reads as vector-reads
+
+-- src/lib.rt:29:9
+vector-requires : tie.Need-vector-requires
+vector-requires c κs = search needs
+
+-- src/lib.rt:29:9
+returns : tie.Need-returns
+returns c = c .vector .ensures ∙ scalar-vector _ (c .before .if1 .taken)
+
+-- src/lib.rt:25:1
+returns-2 : tie.Need-returns-2
+returns-2 c = array-vector _ (c .if1 .left)
+
+pub as-vector-spec : {M : Type 1} → statement M
+as-vector-spec = tie.close (tie.spec vector-requires returns returns-2)

@@ -1,0 +1,126 @@
+use native.Mathlib.Omega.{arith}
+use Prim.Native.Nat.{_+_, _-_, _*_, _≤_, _<_}
+use mathlib.Core.Path.{_≡_, refl, sym, ap, _∙_}
+use mathlib.Core.Bool.{true, false}
+use lib.IntN.{pos}
+use lib.ListN.{length, getD}
+use Rattle.masks.proofs.Uses.{expand-source, expand-room, expand-block, repeat-source, repeat-block, compress-source, compress-room, compress-block}
+use borrow.Author.Needs.{needs}
+use Rattle.masks.proofs.block.Statement.{statement}
+use Rattle.masks.proofs.block.Tie as tie
+use Rattle.masks.proofs.block.Reads as reads
+use Rattle.masks.proofs.block.Lts as lts
+use Rattle.masks.proofs.rows.compress_line.Reads as compress-line-reads
+use Rattle.masks.proofs.rows.compress_rows.Reads as compress-rows-reads
+use Rattle.masks.proofs.rows.expand_line.Reads as expand-line-reads
+use Rattle.masks.proofs.rows.expand_rows.Reads as expand-rows-reads
+use Rattle.masks.proofs.rows.repeat_row.Reads as repeat-row-reads
+
+-- src/lib.rt:93:13
+expand-line-requires : tie.Need-expand-line-requires
+expand-line-requires c κs =
+    let e = c .before in
+    let b = e .before .before .pre .1 in
+    let h = e .before .if1 .taken in
+    (expand-source _ _ _ _ _ _ _ b h 1 (e .if2 .taken), expand-room _ _ _ _ _ _ _ b h 1 (e .if2 .taken))
+
+-- src/lib.rt:95:13
+expand-rows-requires : tie.Need-expand-rows-requires
+expand-rows-requires c κs =
+    let e = c .before in
+    let b = e .before .before .pre .1 in
+    let h = e .before .if1 .taken in
+    (expand-source _ _ _ _ _ _ _ b h _ refl, expand-room _ _ _ _ _ _ _ b h _ refl)
+
+-- src/lib.rt:97:9
+same-length : tie.Need-same-length
+same-length c = search needs
+
+-- src/lib.rt:97:9
+returns : tie.Need-returns
+returns c =
+    let e = c .before .before .before in
+    c .before .expand-line .ensures ∙ expand-block _ _ _ _ _ _ _ (e .before .before .pre .1) (e .before .if1 .taken) (e .before .before .args .r .now) 1 (e .if2 .taken)
+
+-- src/lib.rt:97:9
+same-length-2 : tie.Need-same-length-2
+same-length-2 c = search needs
+
+-- src/lib.rt:97:9
+returns-2 : tie.Need-returns-2
+returns-2 c =
+    let e = c .before .before .before in
+    c .before .expand-rows .ensures ∙ expand-block _ _ _ _ _ _ _ (e .before .before .pre .1) (e .before .if1 .taken) (e .before .before .args .r .now) _ refl
+
+-- src/lib.rt:100:9
+repeat-row-requires : tie.Need-repeat-row-requires
+repeat-row-requires c κs =
+    let e = c .before in
+    let st = e .before .before in
+    (st .pre .0, (repeat-source _ _ _ _ _ _ _ (st .pre .1) (e .before .if1 .left) (e .if3 .taken), st .pre .1 .room))
+
+-- src/lib.rt:101:9
+same-length-3 : tie.Need-same-length-3
+same-length-3 c = search needs
+
+-- src/lib.rt:101:9
+returns-3 : tie.Need-returns-3
+returns-3 c =
+    let e = c .before .before .before in
+    c .before .repeat-row .ensures ∙ repeat-block _ _ _ _ _ _ _ (e .before .before .pre .1) (e .before .if1 .left) (e .if3 .taken) (e .before .before .args .r .now)
+
+-- src/lib.rt:104:9
+compress-line-requires : tie.Need-compress-line-requires
+compress-line-requires c κs =
+    let e = c .before .before in
+    let b = e .before .before .pre .1 in
+    let h = e .before .if1 .left in
+    (compress-source _ _ _ _ _ _ _ b h (e .if3 .left) 1 (c .before .if4 .taken), compress-room _ _ _ _ _ _ _ b h (e .if3 .left) 1 (c .before .if4 .taken))
+
+-- src/lib.rt:106:9
+compress-rows-requires : tie.Need-compress-rows-requires
+compress-rows-requires c κs =
+    let e = c .before .before in
+    let b = e .before .before .pre .1 in
+    let h = e .before .if1 .left in
+    (compress-source _ _ _ _ _ _ _ b h (e .if3 .left) _ refl, compress-room _ _ _ _ _ _ _ b h (e .if3 .left) _ refl)
+
+-- src/lib.rt:83:1
+same-length-4 : tie.Need-same-length-4
+same-length-4 c = search needs
+
+-- src/lib.rt:83:1
+returns-4 : tie.Need-returns-4
+returns-4 c =
+    let e = c .before .before .before .before in
+    c .before .compress-line .ensures ∙ compress-block _ _ _ _ _ _ _ (e .before .before .pre .1) (e .before .if1 .left) (e .if3 .left) (e .before .before .args .r .now) 1 (c .before .before .before .if4 .taken)
+
+-- src/lib.rt:83:1
+same-length-5 : tie.Need-same-length-5
+same-length-5 c = search needs
+
+-- src/lib.rt:83:1
+returns-5 : tie.Need-returns-5
+returns-5 c =
+    let e = c .before .before .before .before in
+    c .before .compress-rows .ensures ∙ compress-block _ _ _ _ _ _ _ (e .before .before .pre .1) (e .before .if1 .left) (e .if3 .left) (e .before .before .args .r .now) _ refl
+
+pub block-spec : {M : Type 1} → statement M
+block-spec =
+    tie.close
+    (tie.spec
+    expand-line-requires
+    expand-rows-requires
+    same-length
+    returns
+    same-length-2
+    returns-2
+    repeat-row-requires
+    same-length-3
+    returns-3
+    compress-line-requires
+    compress-rows-requires
+    same-length-4
+    returns-4
+    same-length-5
+    returns-5)

@@ -1,0 +1,140 @@
+use native.Mathlib.Omega.{arith}
+use Prim.Native.Nat.{_+_, _-_, _*_, _≤_, _<_}
+use mathlib.Core.Path.{_≡_, refl, sym, ap, _∙_}
+use mathlib.Core.Bool.{true, false}
+use lib.ListN.{length, getD, take}
+use borrow.Author.Needs.{needs}
+use native.Mathlib.Nat.{mul-le-mul-right}
+use Rattle.masks.proofs.Placing.{Passed, passed-none, passed-all, passed-inside, passed-room, passed-block, passed-more}
+use Rattle.masks.proofs.blocks.Statement.{statement}
+use Rattle.masks.proofs.blocks.Tie as tie
+use Rattle.masks.proofs.blocks.Reads as reads
+use Rattle.masks.proofs.blocks.Lts as lts
+use Rattle.masks.proofs.block.Reads as block-reads
+
+abbrev Inv-loop : tie.InvT-loop
+Inv-loop expands l r outer n m inner out₀ size part from₀ to₀ o₀ out from to o = Passed expands l r outer n m inner out₀ out from to o
+
+abbrev μ-loop : tie.MeasureT-loop
+μ-loop expands l r outer n m inner out₀ size part from₀ to₀ o₀ out from to o = outer - o
+
+-- The block that is read, and the one that is written.
+inside : (c : tie.In-loop Inv-loop μ-loop) → c .before .loop .from + c .before .before .args .n * c .before .before .args .inner ≤ length (c .before .before .args .r .now)
+inside c =
+    let lp = c .before .loop in
+    let st = c .before .before in
+    passed-inside _ _ _ _ _ _ _ _ (st .pre) (lp .out) (lp .from) (lp .to) (lp .o) (lp .inv) (omega arith)
+
+room : (c : tie.In-loop Inv-loop μ-loop) → c .before .loop .to + c .before .before .args .m * c .before .before .args .inner ≤ length (c .before .before .args .out .now)
+room c =
+    let lp = c .before .loop in
+    let st = c .before .before in
+    passed-room _ _ _ _ _ _ _ _ (st .pre) (lp .out) (lp .from) (lp .to) (lp .o) (lp .inv) (omega arith)
+
+-- src/lib.rt:119:16
+mul-size : tie.Need-mul-size Inv-loop μ-loop
+mul-size c = let a = c .args in omega (arith, c .pre .source, mul-le-mul-right {m = 1} {n = a .outer} (a .n * a .inner) (c .pre .some))
+
+-- src/lib.rt:120:16
+mul-part : tie.Need-mul-part Inv-loop μ-loop
+mul-part c = let a = c .args in omega (arith, c .pre .room, mul-le-mul-right {m = 1} {n = a .outer} (a .m * a .inner) (c .pre .some))
+
+-- src/lib.rt:124:5
+loop-holds : tie.Need-loop-holds Inv-loop μ-loop
+loop-holds c = passed-none _ _ _ _ _ _ _ _
+
+-- src/lib.rt:125:20
+add-stop : tie.Need-add-stop Inv-loop μ-loop
+add-stop c = omega (arith, inside c)
+
+-- src/lib.rt:126:19
+add-end : tie.Need-add-end Inv-loop μ-loop
+add-end c = omega (arith, room c)
+
+-- src/lib.rt:127:27
+mul-block : tie.Need-mul-block Inv-loop μ-loop
+mul-block c = omega (arith, inside c)
+
+-- src/lib.rt:127:27
+sub-block : tie.Need-sub-block Inv-loop μ-loop
+sub-block c = search needs
+
+-- src/lib.rt:127:27
+part-block-start : tie.Need-part-block-start Inv-loop μ-loop
+part-block-start c = search needs
+
+-- src/lib.rt:127:27
+part-block-end : tie.Need-part-block-end Inv-loop μ-loop
+part-block-end c = omega (arith, inside c)
+
+-- src/lib.rt:127:56
+mul-block-2 : tie.Need-mul-block-2 Inv-loop μ-loop
+mul-block-2 c = omega (arith, room (c .before))
+
+-- src/lib.rt:127:56
+sub-block-2 : tie.Need-sub-block-2 Inv-loop μ-loop
+sub-block-2 c = search needs
+
+-- src/lib.rt:127:56
+part-block-start-2 : tie.Need-part-block-start-2 Inv-loop μ-loop
+part-block-start-2 c = search needs
+
+-- src/lib.rt:127:56
+part-block-end-2 : tie.Need-part-block-end-2 Inv-loop μ-loop
+part-block-end-2 c = let lp = c .before .before .loop in omega (arith, room (c .before), lp .inv .long)
+
+-- src/lib.rt:127:9
+block-requires : tie.Need-block-requires Inv-loop μ-loop
+block-requires c κs =
+    let lp = c .before .before .before .loop in
+    let st = c .before .before .before .before in
+    (st .pre .row, passed-block _ _ _ _ _ _ _ _ (st .pre) (lp .out) (lp .from) (lp .to) (lp .o) (lp .inv) (omega arith))
+
+-- src/lib.rt:130:9
+add-o : tie.Need-add-o Inv-loop μ-loop
+add-o c = search needs
+
+-- src/lib.rt:124:5
+loop-less : tie.Need-loop-less Inv-loop μ-loop
+loop-less c = search needs
+
+-- src/lib.rt:124:5
+loop-again : tie.Need-loop-again Inv-loop μ-loop
+loop-again c =
+    let lp = c .before .before .before .before .before .loop in
+    let st = c .before .before .before .before .before .before in
+    passed-more _ _ _ _ _ _ _ _ (st .pre) (lp .out) (lp .from) (lp .to) (lp .o) (lp .inv) (omega arith) _ (c .before .block .ensures)
+
+-- src/lib.rt:111:1
+same-length : tie.Need-same-length Inv-loop μ-loop
+same-length c = c .before .loop .inv .long
+
+-- src/lib.rt:111:1
+returns : tie.Need-returns Inv-loop μ-loop
+returns c = passed-all _ _ _ _ _ _ _ _ _ _ _ _ (c .before .loop .inv) (omega arith)
+
+pub blocks-spec : {M : Type 1} → statement M
+blocks-spec =
+    tie.close
+    (tie.spec
+    Inv-loop
+    μ-loop
+    mul-size
+    mul-part
+    loop-holds
+    add-stop
+    add-end
+    mul-block
+    sub-block
+    part-block-start
+    part-block-end
+    mul-block-2
+    sub-block-2
+    part-block-start-2
+    part-block-end-2
+    block-requires
+    add-o
+    loop-less
+    loop-again
+    same-length
+    returns)

@@ -1,0 +1,85 @@
+use native.Mathlib.Omega.{arith}
+use Prim.Native.Nat.{_+_, _-_, _*_, _≤_, _<_}
+use mathlib.Core.Path.{_≡_, refl, sym, ap, _∙_}
+use mathlib.Core.Bool.{true, false}
+use lib.IntN.{pos}
+use lib.ListN.{length, getD, take}
+use borrow.Author.Needs.{needs, sfits-of}
+use mathlib.Core.Logic.{⊎-elim}
+use lib.Dec.{lit<}
+use borrow.Author.Tests.{eq-eqb, ne-eqb}
+use Rattle.meaning.specs.Terms.{eqZ}
+use Rattle.signed.proofs.Equal.{eqZ-key}
+use Rattle.masks.proofs.Ones.{before, before-none, before-one, before-other, before-all, before-le}
+use Rattle.masks.proofs.count_ones.Statement.{statement}
+use Rattle.masks.proofs.count_ones.Tie as tie
+use Rattle.masks.proofs.count_ones.Reads as reads
+use Rattle.masks.proofs.count_ones.Lts as lts
+
+abbrev Inv-loop : tie.InvT-loop
+Inv-loop l n₀ i₀ n i = (i ≤ length l) × (n ≡ before i l)
+
+abbrev μ-loop : tie.MeasureT-loop
+μ-loop l n₀ i₀ n i = length l - i
+
+-- What the test tells of the mask's element.
+one : (c : tie.Then1 Inv-loop μ-loop) → eqZ (getD (c .before .before .before .before .args .l .now) (c .before .before .before .loop .i) (pos 0)) (pos 1) ≡ true
+one c = sym (eqZ-key _ 1 (sfits-of (c .before .if12 .given)) (lit< tt)) ∙ eq-eqb _ 1 (c .if1 .taken)
+
+other : (c : tie.Else1 Inv-loop μ-loop) → eqZ (getD (c .before .before .before .before .args .l .now) (c .before .before .before .loop .i) (pos 0)) (pos 1) ≡ false
+other c = sym (eqZ-key _ 1 (sfits-of (c .before .if12 .given)) (lit< tt)) ∙ ne-eqb _ 1 (c .if1 .left)
+
+-- src/lib.rt:63:5
+loop-holds : tie.Need-loop-holds Inv-loop μ-loop
+loop-holds c = (omega arith, before-none (c .args .l .now))
+
+-- src/lib.rt:64:12
+mul-if1 : tie.Need-mul-if1 Inv-loop μ-loop
+mul-if1 c = search needs
+
+-- src/lib.rt:64:12
+shared-slice-copy-out-if1 : tie.Need-shared-slice-copy-out-if1 Inv-loop μ-loop
+shared-slice-copy-out-if1 c = search needs
+
+-- src/lib.rt:65:13
+add-n : tie.Need-add-n Inv-loop μ-loop
+add-n c = let lp = c .before .before .before .loop in omega (arith, before-le (c .before .before .before .before .args .l .now) (lp .i))
+
+-- src/lib.rt:67:9
+add-i : tie.Need-add-i Inv-loop μ-loop
+add-i c = search needs
+
+-- src/lib.rt:63:5
+loop-less : tie.Need-loop-less Inv-loop μ-loop
+loop-less c = search needs
+
+-- src/lib.rt:63:5
+loop-again : tie.Need-loop-again Inv-loop μ-loop
+loop-again c =
+    let l = c .before .before .before .before .args .l .now in
+    let lp = c .before .before .before .loop in (
+      omega arith,
+      ⊎-elim
+      (λ w. omega (arith, w .1, before-one l (lp .i) (omega arith) (one (record { before = c .before; if1 = w .0 }))))
+      (λ w. omega (arith, w .1, before-other l (lp .i) (omega arith) (other (record { before = c .before; if1 = w .0 }))))
+      (c .if1 .came),
+    )
+
+-- src/lib.rt:58:1
+returns : tie.Need-returns Inv-loop μ-loop
+returns c = c .before .loop .inv .1 ∙ before-all (c .before .before .args .l .now) (c .before .loop .i) (omega arith)
+
+pub count-ones-spec : {M : Type 1} → statement M
+count-ones-spec =
+    tie.close
+    (tie.spec
+    Inv-loop
+    μ-loop
+    loop-holds
+    mul-if1
+    shared-slice-copy-out-if1
+    add-n
+    add-i
+    loop-less
+    loop-again
+    returns)
