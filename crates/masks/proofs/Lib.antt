@@ -7,3 +7,4 @@ pub mod Uses
 pub mod Placing
 pub mod Every
 pub mod Results
+pub mod Lined

@@ -58,6 +58,14 @@ module _ (t : ℕ → Bool) (φ : ℕ → ℕ) (n m c : ℕ) (r : List ℤ) (o :
         ∙ placed-in i from (from + n * c - from) h b (omega arith)
         ∙ sym (ap (λ y. getD y i (pos 0)) w ∙ getD-tab (m * c) _ i (pos 0) h))
 
+-- What the operand holds, by the counts around axis k.
+pub held : (s : Shape) (k m total : ℕ) → k < length (counted s) → Parts s k m total
+    → count (counted s) ≡ aroundOf s k .outer * aroundOf s k .length * aroundOf s k .inner
+held s k m total kl p =
+    count-axis (counted s) k kl
+    ∙ ap₂ (λ x y. x * getD (counted s) k 0 * y) (sym (p .outer-is)) (sym (p .inner-is))
+    ∙ ap (λ x. aroundOf s k .outer * x * aroundOf s k .inner) (sym (p .length-is))
+
 -- The bridge: position i of the m positions that the result has on axis k takes φ i where t i, else 0.
 module _ (s : Shape) (b : List ℤ) (k m total : ℕ) (t : ℕ → Bool) (φ : ℕ → ℕ) (g : Lent s b) (l : k < s .rank) (p : Parts s k m total)
     (low : (i : ℕ) → i < m → t i ≡ true → φ i < aroundOf s k .length) where
@@ -66,12 +74,6 @@ module _ (s : Shape) (b : List ℤ) (k m total : ℕ) (t : ℕ → Bool) (φ : �
 
   size : count (set (counted s) k m) ≡ total
   size = count-set (counted s) k m kl ∙ ap₂ (λ x y. x * m * y) (sym (p .outer-is)) (sym (p .inner-is)) ∙ p .whole
-
-  held : count (counted s) ≡ aroundOf s k .outer * aroundOf s k .length * aroundOf s k .inner
-  held =
-      count-axis (counted s) k kl
-      ∙ ap₂ (λ x y. x * getD (counted s) k 0 * y) (sym (p .outer-is)) (sym (p .inner-is))
-      ∙ ap (λ x. aroundOf s k .outer * x * aroundOf s k .inner) (sym (p .length-is))
 
   module _ (j : ℕ) (j< : j < total) where
     abbrev c : ℕ
@@ -89,7 +91,7 @@ module _ (s : Shape) (b : List ℤ) (k m total : ℕ) (t : ℕ → Bool) (φ : �
     inside : t i ≡ true → source m (aroundOf s k .length) c φ j < count (counted s)
     inside w =
         let q : j / c < aroundOf s k .outer * m = div-lt-iff-lt-mul (p .inner-some) .1 (rw (p .whole) j<) in
-        rw held (digits-lt (digits-lt (div-lt-iff-lt-mul (p .some) .1 q) (low i (mod-lt (j / c) (p .some)) w)) (mod-lt j (p .inner-some)))
+        rw (held s k m total kl p) (digits-lt (digits-lt (div-lt-iff-lt-mul (p .some) .1 q) (low i (mod-lt (j / c) (p .some)) w)) (mod-lt j (p .inner-some)))
 
     taken-at : t i ≡ true → getD (take (count (counted s)) b) (index (counted s) (set (place (set (counted s) k m) j) k (φ i))) (pos 0)
         ≡ getD b (source m (aroundOf s k .length) c φ j) (pos 0)

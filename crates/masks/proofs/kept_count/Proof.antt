@@ -1,4 +1,11 @@
-use borrow.Author.Needs.{needs}
+use native.Mathlib.Omega.{arith}
+use mathlib.Core.Path.{_≡_, sym, ap, _∙_}
+use lib.IntN.{pos}
+use lib.ListN.{length, getD}
+use Rattle.meaning.specs.Terms.{eqZ}
+use Rattle.signed.proofs.Reading.{read32}
+use Rattle.masks.proofs.Ones.{kept-list, kept-all, kept-no}
+use borrow.Author.Needs.{needs, sfits-of}
 use Rattle.masks.proofs.kept_count.Statement.{statement}
 use Rattle.masks.proofs.kept_count.Tie as tie
 use Rattle.masks.proofs.kept_count.Reads as reads
@@ -6,13 +13,16 @@ use Rattle.masks.proofs.kept_count.Lts as lts
 use Rattle.masks.proofs.count_ones.Reads as count-ones-reads
 use Rattle.signed.proofs.is_one.Reads as is-one-reads
 
+test : (c : tie.After-is-one) → c .is-one .result ≡ eqZ (getD (c .before .before .before .args .l .now) 0 (pos 0)) (pos 1)
+test c = c .is-one .ensures ∙ ap (λ z. eqZ z (pos 1)) (read32 (getD (c .before .before .before .args .l .now) 0 (pos 0)) (sfits-of (c .before .is-one-arg .given)))
+
 -- src/lib.rt:77:9
 count-ones-requires : tie.Need-count-ones-requires
 count-ones-requires c κs = search needs
 
 -- src/lib.rt:77:9
 returns : tie.Need-returns
-returns c = ?
+returns c = let a = c .before .before .args in c .count-ones .ensures ∙ kept-list (a .l .now) (a .n) (c .before .if1 .taken)
 
 -- src/lib.rt:79:23
 shared-slice-copy-out-is-one : tie.Need-shared-slice-copy-out-is-one
@@ -24,11 +34,17 @@ is-one-requires c κs = search needs
 
 -- src/lib.rt:73:1
 returns-2 : tie.Need-returns-2
-returns-2 c = ?
+returns-2 c =
+    let e = c .before .before .before in
+    let a = e .before .args in
+    kept-all (a .l .now) (a .n) (omega arith) (sym (test (c .before)) ∙ c .if2 .taken)
 
 -- src/lib.rt:73:1
 returns-3 : tie.Need-returns-3
-returns-3 c = ?
+returns-3 c =
+    let e = c .before .before .before in
+    let a = e .before .args in
+    kept-no (a .l .now) (a .n) (omega arith) (sym (test (c .before)) ∙ c .if2 .left)
 
 pub kept-count-spec : {M : Type 1} → statement M
 kept-count-spec =

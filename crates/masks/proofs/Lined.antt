@@ -1,0 +1,66 @@
+-- The lines along an axis, from the whole operand.
+use mathlib.Core.Path.{_≡_, refl, sym, ap, ap₂, _∙_}
+use mathlib.Core.List.{List, [], _∷_, _++_}
+use mathlib.Core.Bool.{Bool, true, false, cond}
+use Prim.Native.Nat.{ℕ, suc, _+_, _*_, _≤_, _<_}
+use native.Mathlib.Nat.{mul-assoc}
+use native.Mathlib.Omega.{arith}
+use lib.ListN.{length, getD, take, drop, set}
+use lib.IntN.{ℤ, pos}
+use Rattle.shape.specs.declared.Shape.{Shape}
+use Rattle.shape.specs.declared.Around.{Around}
+use Rattle.shape.specs.Shape.{maxRank, maxCount, counted, count, aroundOf}
+use Rattle.shape.proofs.Surround.{Parts, parts, count-set}
+use Rattle.shape.specs.Place.{place}
+use Rattle.meaning.specs.Array.{arrayOf, tab, build}
+use Rattle.meaning.specs.Terms.{along}
+use Rattle.meaning.proofs.Tab.{tab-none}
+use Rattle.copying.proofs.Runs.{filled}
+use Rattle.answer.specs.Answer.{lent}
+use Rattle.answer.proofs.Lent.{Lent, lent-good}
+use Rattle.masks.specs.Rows.{width, fits, takes, taken, placed, Blocks, Along}
+use Rattle.masks.proofs.Uses.{taken-lt}
+use Rattle.masks.proofs.Placing.{held, along-placed}
+
+build-none : (ns : List ℕ) (f : List ℕ → ℤ) → count ns ≡ 0 → build ns f .elements ≡ []
+unfolding build
+build-none ns f z = ap (λ x. tab x (λ j. f (place ns j))) z ∙ tab-none _
+
+module _ (e : Bool) (l : List ℤ) (s : Shape) (k m total : ℕ) (r : List ℤ) (room : ℕ) (a : Along e l s k m total r room) where
+  -- The elements that the result has.
+  abbrev pub lined : List ℤ
+  lined =
+      build (set (counted s) k m) (λ p. cond (takes e l (getD p k 0)) (along (arrayOf (lent s r)) k (taken e l (getD (counted s) k 0)) p) (pos 0)) .elements
+
+  pub lined-none : total ≡ 0 → (out : List ℤ) → out ≡ lined ++ drop total out
+  lined-none z out = sym (ap₂ (λ x y. x ++ drop y out) (build-none (set (counted s) k m) _ (a .whole ∙ z)) z)
+
+  module _ (long : length (s .lens) ≡ maxRank) (some : 0 < total) where
+    good : Lent s r
+    good = lent-good s r long (a .form)
+
+    around : Parts s k m total
+    around = parts s k m total (good .high) long (a .has) (a .whole) some (a .small)
+
+    low : (i : ℕ) → i < m → takes e l i ≡ true → taken e l (getD (counted s) k 0) i < aroundOf s k .length
+    low i h t = rw (around .length-is) (taken-lt e l (getD (counted s) k 0) i (a .fitting) (omega (arith, a .wide)) t)
+
+    module _ (v : Around) (w : v ≡ aroundOf s k) where
+      pub lined-blocks : Blocks e l (v .outer) (v .length) m (v .inner) (length r) room
+      lined-blocks = rw w (record {
+        fitting = ap (fits e l) (around .length-is) ∙ a .fitting;
+        wide = a .wide;
+        some = around .outer-some;
+        rows = around .some;
+        row = around .inner-some;
+        source = omega (arith, good .room, held s k m total (omega (arith, good .rank-is, a .has)) around);
+        room = omega (arith, a .space, around .whole);
+      })
+
+      pub lined-all : (out : List ℤ) → filled (placed (takes e l) (taken e l (v .length)) (v .length) m (v .inner) r) (v .outer * (m * v .inner)) out ≡ lined ++ drop total out
+      lined-all out =
+          let size : aroundOf s k .outer * (m * aroundOf s k .inner) ≡ total = omega (arith, around .whole) in
+          ap (λ (x : Around). filled (placed (takes e l) (taken e l (x .length)) (x .length) m (x .inner) r) (x .outer * (m * x .inner)) out) w
+          ∙ ap (λ x. filled (placed (takes e l) (taken e l x) (aroundOf s k .length) m (aroundOf s k .inner) r) (aroundOf s k .outer * (m * aroundOf s k .inner)) out) (around .length-is)
+          ∙ ap (λ x. filled (placed (takes e l) (taken e l (getD (counted s) k 0)) (aroundOf s k .length) m (aroundOf s k .inner) r) x out) size
+          ∙ ap (λ x. x ++ drop total out) (sym (along-placed s r k m total (takes e l) (taken e l (getD (counted s) k 0)) good (a .has) around low))
