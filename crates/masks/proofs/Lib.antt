@@ -8,3 +8,4 @@ pub mod Placing
 pub mod Every
 pub mod Results
 pub mod Lined
+pub mod Compressing

@@ -22,7 +22,7 @@ use Rattle.masks.specs.Rows.{width, fits, takes, taken, placed, Blocks, 
 use Rattle.masks.proofs.Uses.{taken-lt}
 use Rattle.masks.proofs.Placing.{held, along-placed}
 
-build-none : (ns : List ℕ) (f : List ℕ → ℤ) → count ns ≡ 0 → build ns f .elements ≡ []
+pub build-none : (ns : List ℕ) (f : List ℕ → ℤ) → count ns ≡ 0 → build ns f .elements ≡ []
 unfolding build
 build-none ns f z = ap (λ x. tab x (λ j. f (place ns j))) z ∙ tab-none _
 

@@ -3,14 +3,24 @@ use mathlib.Core.Path.{_≡_, refl, sym, ap, ap₂, _∙_}
 use mathlib.Core.List.{List, [], _∷_, _++_}
 use mathlib.Core.Bool.{Bool, true, false, cond}
 use Prim.Native.Nat.{ℕ, suc, _+_, _*_, _-_, _≤_, _<_}
+use native.Mathlib.Nat.{sub-zero}
 use native.Mathlib.Omega.{arith}
 use borrow.Author.Tests.{le-leb, eq-eqb, ne-eqb, eqb-true, eqb-false}
 use lib.ListN.{length, getD, take, drop, set, replicate, length-set}
-use lib.Seq.{take-at, take-set-lt, length-take-le}
+use lib.Seq.{take-at, take-set-lt, length-take-le, getD-take}
 use lib.Dec.{eqb}
-use lib.IntN.{ℤ, pos}
+use lib.IntN.{ℤ, pos, natAbs, _-ℤ_}
 use Rattle.shape.specs.declared.Shape.{Shape}
-use Rattle.shape.specs.Shape.{maxRank, maxCount, counted, count, shapeRule, goodShape, countOf, shapeOf, madeOf}
+use Rattle.shape.specs.Shape.{maxRank, maxCount, counted, count, small, shapeRule, goodShape, countOf, shapeOf, madeOf}
+use Rattle.shape.proofs.Counts.{good-count, bad-count}
+use Rattle.shape.proofs.Bools.{and-true}
+use Rattle.shape.proofs.Rule.{vector-rule}
+use Rattle.meaning.specs.Array.{arrayOf, goodForm}
+use Rattle.meaning.specs.Terms.{asVector, within}
+use Rattle.meaning.proofs.Positions.{positionOf, position-lt, position-none, within-lt}
+use Rattle.meaning.proofs.Scalars.{scalar-as, array-as}
+use Rattle.answer.specs.Answer.{lent}
+use Rattle.answer.proofs.Lent.{Lent, lent-good, count-of, form-by}
 use Rattle.masks.specs.Vector.{vectorShape}
 
 pub set-made : (rank : ℕ) (lens : List ℕ) (k m : ℕ) → rank ≤ maxRank → k < rank → madeOf rank (set lens k m) ≡ shapeOf (set (take rank lens) k m)
@@ -23,3 +33,100 @@ scalar-vector s h = rw (eq-eqb (s .rank) 0 h)
 pub array-vector : (s : Shape) → (s .rank ≡ 0 → ⊥) → s ≡ vectorShape s
 unfolding vectorShape
 array-vector s h = ap (λ b. cond b (shapeOf (1 ∷ [])) s) (sym (ne-eqb (s .rank) 0 h))
+
+-- A result's shape, by its lengths.
+module _ (ns : List ℕ) where
+  pub counted-of : counted (shapeOf ns) ≡ ns
+  counted-of = take-at ns _ (length ns) refl
+
+  pub good-of : goodShape (shapeOf ns) ≡ shapeRule (length ns) ns
+  good-of = ap (shapeRule (length ns)) counted-of
+
+  module _ (total : ℕ) (e : total ≡ countOf (shapeOf ns)) where
+    pub result-rule : total ≤ maxCount → shapeRule (length ns) ns ≡ true
+    result-rule h = sym good-of ∙ good-count (shapeOf ns) (omega arith)
+
+    pub result-no-rule : maxCount < total → shapeRule (length ns) ns ≡ false
+    result-no-rule h = sym good-of ∙ bad-count (shapeOf ns) (omega arith)
+
+    pub result-count : total ≤ maxCount → count ns ≡ total
+    result-count h = sym (e ∙ count-of (shapeOf ns) (good-count (shapeOf ns) (omega arith)) ∙ ap count counted-of)
+
+-- A scalar read as a vector of one.
+module _ (s : Shape) where
+  vector-by : (P : Shape → Type 0) → (s .rank ≡ 0 → P (shapeOf (1 ∷ []))) → ((s .rank ≡ 0 → ⊥) → P s) → P (vectorShape s)
+  unfolding vectorShape
+  vector-by P yes-scalar no-scalar = by (eqb (s .rank) 0) refl
+    where
+      by : (t : Bool) → eqb (s .rank) 0 ≡ t → P (cond t (shapeOf (1 ∷ [])) s)
+      by true e = yes-scalar (eqb-true (s .rank) 0 e)
+      by false e = no-scalar (eqb-false (s .rank) 0 e)
+
+  scalar-count : s .rank ≡ 0 → count (counted s) ≡ 1
+  unfolding count
+  scalar-count z = ap (λ x. count (take x (s .lens))) z
+
+  one-count : count (counted (shapeOf (1 ∷ []))) ≡ 1
+  unfolding count
+  one-count = refl
+
+  one-of : countOf (shapeOf (1 ∷ [])) ≡ 1
+  unfolding countOf shapeRule small count
+  one-of = refl
+
+  pub vector-some : 0 < vectorShape s .rank
+  vector-some = vector-by (λ v. 0 < v .rank) (λ z. omega arith) (λ n. omega arith)
+
+  pub vector-long : length (s .lens) ≡ maxRank → length (vectorShape s .lens) ≡ maxRank
+  vector-long h = vector-by (λ v. length (v .lens) ≡ maxRank) (λ z. refl) (λ n. h)
+
+  pub vector-high : s .rank ≤ maxRank → vectorShape s .rank ≤ maxRank
+  vector-high h = vector-by (λ v. v .rank ≤ maxRank) (λ z. omega arith) (λ n. h)
+
+  pub vector-lent : (b : List ℤ) → Lent s b → Lent (vectorShape s) b
+  vector-lent b g =
+      vector-by (λ v. Lent v b)
+      (λ z.
+        lent-good (shapeOf (1 ∷ [])) b refl
+        (form-by (shapeOf (1 ∷ [])) b (omega (arith, one-of)) ∙ le-leb (countOf (shapeOf (1 ∷ []))) (length b) (omega (arith, one-of, g .room, scalar-count z))))
+      (λ n. g)
+
+  pub vector-array : (b : List ℤ) → length (counted s) ≡ s .rank → asVector (arrayOf (lent s b)) ≡ arrayOf (lent (vectorShape s) b)
+  vector-array b h =
+      vector-by (λ v. asVector (arrayOf (lent s b)) ≡ arrayOf (lent v b))
+      (λ z.
+        scalar-as 1 (arrayOf (lent s b)) (h ∙ z)
+        ∙ ap (λ x. record { lengths = 1 ∷ []; elements = take x b }) (scalar-count z ∙ sym one-count))
+      (λ n. array-as 1 (arrayOf (lent s b)) (omega (arith, h, n)))
+
+-- The axis that K names, by what `position` answers.
+module _ (G K : ℤ) (s : Shape) (long : length (s .lens) ≡ maxRank) (high : s .rank ≤ maxRank) (p : ℕ) (q : p ≡ positionOf (K -ℤ G) (s .rank)) where
+  pub rank-counted : length (counted s) ≡ s .rank
+  rank-counted = length-take-le (s .rank) (s .lens) (omega arith)
+
+  pub axis-named : p < s .rank → within (K -ℤ G) (length (counted s)) ≡ true
+  axis-named h = ap (within (K -ℤ G)) rank-counted ∙ position-lt (K -ℤ G) (s .rank) (omega arith) .0
+
+  pub axis-number : p < s .rank → natAbs (K -ℤ G) ≡ p
+  axis-number h = sym (q ∙ position-lt (K -ℤ G) (s .rank) (omega arith) .1)
+
+  pub axis-unnamed : s .rank ≤ p → within (K -ℤ G) (length (counted s)) ≡ false
+  axis-unnamed h = ap (within (K -ℤ G)) rank-counted ∙ position-none (K -ℤ G) (s .rank) (omega arith)
+
+  -- From the definitions back.
+  pub axis-found : within (K -ℤ G) (length (counted s)) ≡ true → p < s .rank
+  axis-found h =
+      let w : within (K -ℤ G) (s .rank) ≡ true = ap (within (K -ℤ G)) (sym rank-counted) ∙ h in
+      rw (q, w) (within-lt (K -ℤ G) (s .rank) w)
+
+  pub axis-length : p < s .rank → getD (counted s) (natAbs (K -ℤ G)) 0 ≡ getD (s .lens) p 0
+  axis-length h = ap (λ x. getD (counted s) x 0) (axis-number h) ∙ getD-take (s .rank) (s .lens) p 0 h
+
+-- Good form, back from what is known of an operand.
+pub form-of : (s : Shape) (b : List ℤ) → Lent s b → goodForm (lent s b) ≡ true
+unfolding goodForm
+form-of s b g = and-true _ _ (g .good) (le-leb (count (counted s)) (length b) (g .room))
+
+-- The part that a call takes of a lent buffer.
+pub part-is : (s : Shape) (b : List ℤ) (c : ℕ) → Lent s b → c ≡ countOf s → take (c - 0) b ≡ arrayOf (lent s b) .elements
+part-is s b c g e = ap (λ x. take x b) (sub-zero c ∙ e ∙ g .count-is)

@@ -65,3 +65,16 @@ pub record Along (expands : Bool) (l : List ℤ) (s : Shape) (k m total : ℕ) (
   pub whole : count (set (counted s) k m) ≡ total
   pub small : total ≤ maxCount
   pub space : total ≤ room
+
+-- 27: the position that position i of the result takes on an axis of length n.
+unfoldable pub keptAt : List ℤ → ℕ → ℕ → ℕ
+keptAt l n i = cond (eqb n 1) 0 (getD (ones (maskOf l n)) i 0)
+
+pub record Compressed (l : List ℤ) (s : Shape) (k m total : ℕ) (r : List ℤ) (room : ℕ) : Type 0 where
+  pub form : goodForm (lent s r) ≡ true
+  pub has : k < s .rank
+  pub fitting : (eqb (length l) 1 || eqb (getD (counted s) k 0) 1 || eqb (length l) (getD (counted s) k 0)) ≡ true
+  pub wide : m ≡ length (ones (maskOf l (getD (counted s) k 0)))
+  pub whole : count (set (counted s) k m) ≡ total
+  pub small : total ≤ maxCount
+  pub space : total ≤ room

@@ -15,7 +15,7 @@ ghost use Rattle.meaning.specs.Primitives.{compress, expand};
 ghost use Rattle.meaning.specs.Reply.{reply};
 ghost use Rattle.copying.proofs.Runs.{filled};
 ghost use Rattle.answer.specs.Answer.{lent, own, Replied};
-ghost use Rattle.masks.specs.Rows.{maskOf, width, fits, takes, taken, rowed, placed, Block, Blocks, Along};
+ghost use Rattle.masks.specs.Rows.{maskOf, width, fits, takes, taken, rowed, placed, Block, Blocks, Along, keptAt, Compressed};
 ghost use Rattle.masks.specs.Vector.{vectorShape};
 
 use answer::Answer;
@@ -77,6 +77,37 @@ fn kept_count(l: &[i32], n: usize) -> usize
         return count_ones(l);
     }
     if signed::is_one(l[0]) { n } else { 0 }
+}
+
+fn compress_fits(c: usize, n: usize) -> bool
+    ensures { λ b. ⌜ b ≡ (eqb c 1 || eqb n 1 || eqb c n) ⌝ }
+{
+    c == 1 || n == 1 || c == n
+}
+
+// RANK, AXIS, LENGTH and DOMAIN, whatever R's elements are.
+fn compress_refusal(g: i32, k: i32, ls: Shape, l: &[i32], rs: Shape) -> usize
+    requires { ⌜ (goodForm (lent ls (now l)) ≡ true) × (goodShape rs ≡ true) ⌝ }
+    ensures {
+        λ n. ⌜ ((b : List ℤ) → n ≡ own 27 (compress g k (arrayOf (lent ls (now (l .entry)))) (arrayOf (lent rs b)) .refusals)) ⌝
+    }
+{
+    if 1 < ls.rank {
+        return 4;
+    }
+    let s = as_vector(rs);
+    let rank = s.rank;
+    let at = signed::position(k, g, rank);
+    if rank <= at {
+        return 5;
+    }
+    let c = ls.count();
+    let n = s.lens[at];
+    if compress_fits(c, n) {
+        if all_bits(&l[0..c]) { 0 } else { 7 }
+    } else {
+        6
+    }
 }
 
 // One block of n rows to m rows.
@@ -149,4 +180,51 @@ fn lines(expands: bool, l: &[i32], s: Shape, k: usize, m: usize, total: usize, r
     }
     let a = s.around(k);
     blocks(expands, l, r, a.outer, a.length, m, a.inner, out);
+}
+
+// The lines along axis k that a mask keeps. Where one element serves the whole axis that is all or nothing, in R's order.
+fn compress_into(l: &[i32], s: Shape, k: usize, m: usize, total: usize, r: &[i32], out: &mut [i32])
+    requires { ⌜ Compressed (now l) s k m total (now r) (length (now out)) ⌝ }
+    ensures {
+        λ _.
+        ⌜ now (out .exit)
+        ≡ build (set (counted s) k m) (along (arrayOf (lent s (now (r .entry)))) k (keptAt (now (l .entry)) (getD (counted s) k 0))) .elements
+        ++ drop total (now (out .entry)) ⌝
+    }
+{
+    if l.len() == 1 {
+        copying::copy_run(&r[0..total], out);
+    } else {
+        lines(false, l, s, k, m, total, r, out);
+    }
+}
+
+// 27.
+pub fn compress(g: i32, k: i32, ls: Shape, l: &[i32], rs: Shape, r: &[i32], out: &mut [i32]) -> Answer
+    ensures {
+        λ a. ⌜ Replied a (now (out .exit)) (reply (pos 27) g k (lent ls (now (l .entry))) (lent rs (now (r .entry))) (now (out .entry))) ⌝
+    }
+{
+    let early = answer::early_two(g, ls, l, rs, r);
+    if early != 0 {
+        return Answer::refused(early);
+    }
+    let own = compress_refusal(g, k, ls, l, rs);
+    if own != 0 {
+        return Answer::refused(own);
+    }
+    let s = as_vector(rs);
+    let at = signed::position(k, g, s.rank);
+    let c = ls.count();
+    let m = kept_count(&l[0..c], s.lens[at]);
+    let shape = with_length(s, at, m);
+    let total = shape.count();
+    if Shape::MAX_COUNT < total {
+        return Answer::refused(9);
+    }
+    if out.len() < total {
+        return Answer::refused(10);
+    }
+    compress_into(&l[0..c], s, at, m, total, r, out);
+    Answer { number: 0, shape }
 }

@@ -1,0 +1,299 @@
+-- What 27 gives, as its code finds it.
+use mathlib.Core.Path.{_≡_, refl, sym, ap, ap₂, _∙_}
+use mathlib.Core.List.{List, [], _∷_, _++_}
+use mathlib.Core.Bool.{Bool, true, false, not, cond, _&&_, _||_}
+use Prim.Native.Nat.{ℕ, suc, _+_, _*_, _-_, _≤_, _<_}
+use native.Mathlib.Decide.{decLe}
+use native.Mathlib.Nat.{mul-zero, zero-mul, zero-add, sub-zero}
+use native.Mathlib.Omega.{arith}
+use borrow.Author.Tests.{le-leb, lt-leb, eq-eqb, ne-eqb, eqb-true, eqb-false}
+use lib.ListN.{length, getD, take, drop, set, replicate}
+use lib.Seq.{set-getD, length-take-le, getD-take}
+use lib.Dec.{eqb}
+use lib.IntN.{ℤ, pos, natAbs, _-ℤ_}
+use Rattle.shape.specs.declared.Shape.{Shape}
+use Rattle.shape.specs.Shape.{maxRank, maxCount, counted, count, countOf, shapeOf, shapeRule}
+use Rattle.shape.proofs.Places.{In}
+use Rattle.shape.proofs.Axis.{in-at}
+use Rattle.shape.proofs.Surround.{count-set}
+use Rattle.shape.proofs.Bools.{no-way}
+use Rattle.meaning.specs.Array.{Operand, Array, arrayOf, at, build}
+use Rattle.meaning.specs.Refusal.{Rule, _unless_, number, meets, winner}
+use Rattle.meaning.specs.Refusal.Refusal.{RANK, AXIS, LENGTH, DOMAIN}
+use Rattle.meaning.specs.Terms.{rank, axis, asVector, isList, within, every, isBit, along, eqZ, ones}
+use Rattle.meaning.specs.Primitives.{Meaning, compress}
+use Rattle.meaning.specs.Reply.{Primitive, primitives, named}
+use Rattle.meaning.proofs.Arrays.{build-ext, build-at}
+use Rattle.copying.specs.Runs.{copied}
+use Rattle.copying.proofs.Runs.{copied-fits}
+use Rattle.answer.specs.Answer.{lent, ownOrder, own}
+use Rattle.answer.proofs.Lent.{Lent, lent-good}
+use Rattle.answer.proofs.Order.{Names}
+use Rattle.masks.specs.Vector.{vectorShape}
+use Rattle.masks.proofs.Results.{vector-array, vector-lent, axis-found, axis-number, result-rule, result-no-rule, result-count, form-of, part-is}
+use Rattle.meaning.proofs.Positions.{positionOf}
+use Rattle.masks.specs.Rows.{maskOf, width, fits, takes, taken, keptAt, Along, Compressed}
+use Rattle.masks.proofs.Ones.{mask-single, mask-list, ones-all, ones-no, ones-same}
+use Rattle.masks.proofs.Lined.{build-none}
+
+-- By W, which is R where R is read as a vector.
+abbrev pub keptBy : ℤ → ℤ → Array → Array → ℕ → ℕ
+keptBy G K L W = keptAt (L .elements) (axis W (natAbs (K -ℤ G)))
+
+abbrev pub rulesOf : ℤ → ℤ → Array → Array → List Rule
+rulesOf G K L W =
+    RANK unless isList L
+    ∷ AXIS unless within (K -ℤ G) (rank W)
+    ∷ LENGTH unless (eqb (length (L .elements)) 1 || eqb (axis W (natAbs (K -ℤ G))) 1 || eqb (length (L .elements)) (axis W (natAbs (K -ℤ G))))
+    ∷ DOMAIN unless every isBit (L .elements)
+    ∷ []
+
+abbrev pub compressOf : ℤ → ℤ → Array → Array → Meaning
+compressOf G K L W = record {
+  refusals = rulesOf G K L W;
+  lengths = set (W .lengths) (natAbs (K -ℤ G)) (length (ones (maskOf (L .elements) (axis W (natAbs (K -ℤ G))))));
+  element = along W (natAbs (K -ℤ G)) (keptBy G K L W);
+}
+
+pub compress-is : (G K : ℤ) (L R : Array) → compress G K L R ≡ compressOf G K L (asVector R)
+unfolding compress maskOf keptAt
+compress-is G K L R = refl
+
+abbrev pub compressing : Primitive
+compressing = record { number = 27; operands = 2; meaning = λ G K L R. compress G K L R }
+
+pub compress-names : (G K : ℤ) (L R : Operand) (W : Array) → asVector (arrayOf R) ≡ W → Names (pos 27) G K L R compressing (compressOf G K (arrayOf L) W)
+unfolding primitives named eqZ number meets
+compress-names G K L R W e = record {
+  primitive = refl;
+  meaning = compress-is G K (arrayOf L) (arrayOf R) ∙ ap (compressOf G K (arrayOf L)) e;
+  own = record { no-number = refl; no-form = refl; no-origin = refl; no-limit = refl; no-space = refl };
+}
+
+-- No refusal is met.
+pub record Free (G K : ℤ) (L W : Array) : Type 0 where
+  pub list : rank L ≤ 1
+  pub has : within (K -ℤ G) (rank W) ≡ true
+  pub fitting : (eqb (length (L .elements)) 1 || eqb (axis W (natAbs (K -ℤ G))) 1 || eqb (length (L .elements)) (axis W (natAbs (K -ℤ G)))) ≡ true
+  pub bits : every isBit (L .elements) ≡ true
+
+module _ (G K : ℤ) (L W : Array) where
+  pub compress-rank : 1 < rank L → own 27 (rulesOf G K L W) ≡ 4
+  unfolding ownOrder winner meets number
+  compress-rank h = rw (lt-leb (rank L) 1 h)
+
+  pub compress-axis : rank L ≤ 1 → within (K -ℤ G) (rank W) ≡ false → own 27 (rulesOf G K L W) ≡ 5
+  unfolding ownOrder winner meets number
+  compress-axis h a = rw (le-leb (rank L) 1 h, a)
+
+  pub compress-length : rank L ≤ 1 → within (K -ℤ G) (rank W) ≡ true
+      → (eqb (length (L .elements)) 1 || eqb (axis W (natAbs (K -ℤ G))) 1 || eqb (length (L .elements)) (axis W (natAbs (K -ℤ G)))) ≡ false
+      → own 27 (rulesOf G K L W) ≡ 6
+  unfolding ownOrder winner meets number
+  compress-length h a f = rw (le-leb (rank L) 1 h, a, f)
+
+  pub compress-domain : rank L ≤ 1 → within (K -ℤ G) (rank W) ≡ true
+      → (eqb (length (L .elements)) 1 || eqb (axis W (natAbs (K -ℤ G))) 1 || eqb (length (L .elements)) (axis W (natAbs (K -ℤ G)))) ≡ true
+      → every isBit (L .elements) ≡ false → own 27 (rulesOf G K L W) ≡ 7
+  unfolding ownOrder winner meets number
+  compress-domain h a f b = rw (le-leb (rank L) 1 h, a, f, b)
+
+  pub compress-none : Free G K L W → own 27 (rulesOf G K L W) ≡ 0
+  unfolding ownOrder winner meets number
+  compress-none f = rw (le-leb (rank L) 1 (f .list), f .has, f .fitting, f .bits)
+
+  pub compress-free : own 27 (rulesOf G K L W) ≡ 0 → Free G K L W
+  compress-free e =
+      let list : rank L ≤ 1 = elim (decLe (rank L) 1) [ yes h ↦ h | no h ↦ absurd (omega (arith, compress-rank (omega arith))) ] in
+      let has : within (K -ℤ G) (rank W) ≡ true = by-axis _ refl list in
+      let fitting = by-length _ refl list has in
+      record { list = list; has = has; fitting = fitting; bits = by-bits _ refl list has fitting }
+    where
+      by-axis : (b : Bool) → within (K -ℤ G) (rank W) ≡ b → rank L ≤ 1 → within (K -ℤ G) (rank W) ≡ true
+      by-axis true t list = t
+      by-axis false t list = absurd (omega (arith, compress-axis list t))
+      by-length : (b : Bool) → (eqb (length (L .elements)) 1 || eqb (axis W (natAbs (K -ℤ G))) 1 || eqb (length (L .elements)) (axis W (natAbs (K -ℤ G)))) ≡ b
+          → rank L ≤ 1 → within (K -ℤ G) (rank W) ≡ true
+          → (eqb (length (L .elements)) 1 || eqb (axis W (natAbs (K -ℤ G))) 1 || eqb (length (L .elements)) (axis W (natAbs (K -ℤ G)))) ≡ true
+      by-length true t list has = t
+      by-length false t list has = absurd (omega (arith, compress-length list has t))
+      by-bits : (b : Bool) → every isBit (L .elements) ≡ b → rank L ≤ 1 → within (K -ℤ G) (rank W) ≡ true
+          → (eqb (length (L .elements)) 1 || eqb (axis W (natAbs (K -ℤ G))) 1 || eqb (length (L .elements)) (axis W (natAbs (K -ℤ G)))) ≡ true
+          → every isBit (L .elements) ≡ true
+      by-bits true t list has fitting = t
+      by-bits false t list has fitting = absurd (omega (arith, compress-domain list has fitting t))
+
+-- The refusals, by the shape that R is read with.
+module _ (G K : ℤ) (ls : Shape) (l : List ℤ) (rs : Shape) (b : List ℤ) (s : Shape) (e : s ≡ vectorShape rs) (h : length (counted rs) ≡ rs .rank) where
+  pub refusal-is : own 27 (rulesOf G K (arrayOf (lent ls l)) (arrayOf (lent s b))) ≡ own 27 (compress G K (arrayOf (lent ls l)) (arrayOf (lent rs b)) .refusals)
+  refusal-is =
+      sym
+      (ap (λ (m : Meaning). own 27 (m .refusals)) (compress-is G K (arrayOf (lent ls l)) (arrayOf (lent rs b)))
+      ∙ ap (λ a. own 27 (rulesOf G K (arrayOf (lent ls l)) a)) (vector-array rs b h ∙ ap (λ x. arrayOf (lent x b)) (sym e)))
+
+-- What the code puts in front of the output buffer.
+module _ (l : List ℤ) (s : Shape) (k m total : ℕ) (r : List ℤ) (room : ℕ) (a : Compressed l s k m total r room) (long : length (s .lens) ≡ maxRank) where
+  abbrev n : ℕ
+  n = getD (counted s) k 0
+
+  abbrev pub keptElements : List ℤ
+  keptElements = build (set (counted s) k m) (along (arrayOf (lent s r)) k (keptAt l (getD (counted s) k 0))) .elements
+
+  good : Lent s r
+  good = lent-good s r long (a .form)
+
+  kl : k < length (counted s)
+  kl = omega (arith, good .rank-is, a .has)
+
+  -- One element serves the whole axis.
+  module _ (h : length l ≡ 1) where
+    kept-same : eqZ (getD l 0 (pos 0)) (pos 1) ≡ true → (i : ℕ) → i < n → keptAt l n i ≡ i
+    unfolding keptAt
+    kept-same e i q = by (eqb n 1) refl
+      where
+        by : (b : Bool) → eqb n 1 ≡ b → cond b 0 (getD (ones (maskOf l n)) i 0) ≡ i
+        by true t = omega (arith, eqb-true n 1 t)
+        by false t = ap (λ x. getD (ones x) i 0) (mask-single l n h) ∙ ones-same 0 n i (getD l 0 (pos 0)) e q ∙ zero-add i
+
+    all-kept : eqZ (getD l 0 (pos 0)) (pos 1) ≡ true → set (counted s) k m ≡ counted s
+    all-kept e =
+        ap (set (counted s) k) (a .wide ∙ ap (λ x. length (ones x)) (mask-single l n h) ∙ ones-all 0 n (getD l 0 (pos 0)) e) ∙ set-getD (counted s) k 0
+
+    all-total : eqZ (getD l 0 (pos 0)) (pos 1) ≡ true → total ≡ count (counted s)
+    all-total e = sym (a .whole) ∙ ap count (all-kept e)
+
+    all-elements : eqZ (getD l 0 (pos 0)) (pos 1) ≡ true → keptElements ≡ take total r
+    unfolding along
+    all-elements e =
+        ap (λ x. build x (along (arrayOf (lent s r)) k (keptAt l n)) .elements) (all-kept e)
+        ∙ ap (λ (x : Array). x .elements)
+        (build-ext (counted s) _ (at (arrayOf (lent s r)))
+        (λ p q. ap (at (arrayOf (lent s r))) (ap (set p k) (kept-same e (getD p k 0) (in-at (counted s) p k q kl)) ∙ set-getD p k 0))
+        ∙ build-at (arrayOf (lent s r)) (good .whole))
+        ∙ ap (λ x. take x r) (sym (all-total e))
+
+    no-total : eqZ (getD l 0 (pos 0)) (pos 1) ≡ false → total ≡ 0
+    no-total e =
+        sym (a .whole)
+        ∙ count-set (counted s) k m kl
+        ∙ ap (λ x. count (take k (counted s)) * x * count (drop (suc k) (counted s)))
+        (a .wide ∙ ap (λ x. length (ones x)) (mask-single l n h) ∙ ones-no 0 n (getD l 0 (pos 0)) e)
+        ∙ rw (mul-zero, zero-mul)
+
+    pub single-inside : total ≤ length r
+    single-inside = by (eqZ (getD l 0 (pos 0)) (pos 1)) refl
+      where
+        by : (b : Bool) → eqZ (getD l 0 (pos 0)) (pos 1) ≡ b → total ≤ length r
+        by true e = omega (arith, all-total e, good .room)
+        by false e = omega (arith, no-total e)
+
+    single-elements : keptElements ≡ take total r
+    single-elements = by (eqZ (getD l 0 (pos 0)) (pos 1)) refl
+      where
+        by : (b : Bool) → eqZ (getD l 0 (pos 0)) (pos 1) ≡ b → keptElements ≡ take total r
+        by true e = all-elements e
+        by false e = build-none (set (counted s) k m) _ (a .whole ∙ no-total e) ∙ ap (λ x. take x r) (sym (no-total e))
+
+    pub single-out : (out last : List ℤ) → length out ≡ room → last ≡ copied (take (total - 0) r) out → last ≡ keptElements ++ drop total out
+    single-out out last q w =
+        let run : length (take total r) ≡ total = length-take-le total r single-inside in
+        w ∙ ap (λ x. copied (take x r) out) (sub-zero total)
+        ∙ copied-fits (take total r) out (omega (arith, a .space))
+        ∙ ap₂ (λ x y. x ++ drop y out) (sym single-elements) run
+
+  -- One element for each position, or an axis of length 1.
+  module _ (h : length l ≡ 1 → ⊥) where
+    pub list-along : Along false l s k m total r room
+    unfolding fits width
+    list-along = record {
+      form = a .form;
+      has = a .has;
+      fitting = ap (λ b. b || eqb n 1 || eqb (length l) n) (sym (ne-eqb (length l) 1 h)) ∙ a .fitting;
+      wide = a .wide ∙ ap (λ x. length (ones x)) (mask-list l n h);
+      whole = a .whole;
+      small = a .small;
+      space = a .space;
+    }
+
+    pub list-elements : build (set (counted s) k m) (λ p. cond (takes false l (getD p k 0)) (along (arrayOf (lent s r)) k (taken false l n) p) (pos 0)) .elements ≡ keptElements
+    unfolding takes taken keptAt
+    list-elements =
+        ap (λ x. build (set (counted s) k m) (along (arrayOf (lent s r)) k (λ i. cond (eqb n 1) 0 (getD (ones x) i 0))) .elements) (sym (mask-list l n h))
+
+-- A call that meets none of its own refusals: s is the shape that R is read with, and p the axis.
+pub record Call (G K : ℤ) (ls rs : Shape) (l r : List ℤ) (s : Shape) (p : ℕ) : Type 0 where
+  pub left : Lent ls l
+  pub right : Lent rs r
+  pub read : s ≡ vectorShape rs
+  pub at : p ≡ positionOf (K -ℤ G) (s .rank)
+  pub none : own 27 (rulesOf G K (arrayOf (lent ls l)) (arrayOf (lent s r))) ≡ 0
+
+module _ {G K : ℤ} {ls rs : Shape} {l r : List ℤ} {s : Shape} {p : ℕ} (d : Call G K ls rs l r s p) where
+  gs : Lent s r
+  gs = rw (d .read) (vector-lent rs r (d .right))
+
+  free : Free G K (arrayOf (lent ls l)) (arrayOf (lent s r))
+  free = compress-free G K (arrayOf (lent ls l)) (arrayOf (lent s r)) (d .none)
+
+  pub call-high : s .rank ≤ maxRank
+  call-high = gs .high
+
+  pub call-has : p < s .rank
+  call-has = axis-found G K s (gs .long) (gs .high) p (d .at) (free .has)
+
+  axis-p : natAbs (K -ℤ G) ≡ p
+  axis-p = axis-number G K s (gs .long) (gs .high) p (d .at) call-has
+
+  length-p : getD (s .lens) p 0 ≡ getD (counted s) p 0
+  length-p = sym (getD-take (s .rank) (s .lens) p 0 call-has)
+
+  -- m positions are kept.
+  module _ (c : ℕ) (ec : c ≡ countOf ls) (m : ℕ) (em : m ≡ length (ones (maskOf (take (c - 0) l) (getD (s .lens) p 0)))) where
+    mask-is : take (c - 0) l ≡ arrayOf (lent ls l) .elements
+    mask-is = part-is ls l c (d .left) ec
+
+    wide : m ≡ length (ones (maskOf (take (c - 0) l) (getD (counted s) p 0)))
+    wide = em ∙ ap (λ x. length (ones (maskOf (take (c - 0) l) x))) length-p
+
+    pub call-lengths : set (counted s) p m ≡ compressOf G K (arrayOf (lent ls l)) (arrayOf (lent s r)) .lengths
+    call-lengths =
+        ap (set (counted s) p) (wide ∙ ap (λ x. length (ones (maskOf x (getD (counted s) p 0)))) mask-is)
+        ∙ ap (λ x. set (counted s) x (length (ones (maskOf (arrayOf (lent ls l) .elements) (getD (counted s) x 0))))) (sym axis-p)
+
+    elements-is : build (set (counted s) p m) (along (arrayOf (lent s r)) p (keptAt (take (c - 0) l) (getD (counted s) p 0))) .elements
+        ≡ build (compressOf G K (arrayOf (lent ls l)) (arrayOf (lent s r)) .lengths) (compressOf G K (arrayOf (lent ls l)) (arrayOf (lent s r)) .element) .elements
+    elements-is =
+        ap (λ x. build (set (counted s) p m) (along (arrayOf (lent s r)) p (keptAt x (getD (counted s) p 0))) .elements) mask-is
+        ∙ ap (λ x. build x (along (arrayOf (lent s r)) p (keptAt (arrayOf (lent ls l) .elements) (getD (counted s) p 0))) .elements) call-lengths
+        ∙ ap
+        (λ x. build (compressOf G K (arrayOf (lent ls l)) (arrayOf (lent s r)) .lengths) (along (arrayOf (lent s r)) x (keptAt (arrayOf (lent ls l) .elements) (getD (counted s) x 0))) .elements)
+        (sym axis-p)
+
+    module _ (total : ℕ) (et : total ≡ countOf (shapeOf (set (counted s) p m))) where
+      pub call-limit : maxCount < total
+          → shapeRule (length (compressOf G K (arrayOf (lent ls l)) (arrayOf (lent s r)) .lengths)) (compressOf G K (arrayOf (lent ls l)) (arrayOf (lent s r)) .lengths) ≡ false
+      call-limit h = ap (λ x. shapeRule (length x) x) (sym call-lengths) ∙ result-no-rule (set (counted s) p m) total et h
+
+      module _ (small : total ≤ maxCount) where
+        pub call-rule : shapeRule (length (compressOf G K (arrayOf (lent ls l)) (arrayOf (lent s r)) .lengths)) (compressOf G K (arrayOf (lent ls l)) (arrayOf (lent s r)) .lengths) ≡ true
+        call-rule = ap (λ x. shapeRule (length x) x) (sym call-lengths) ∙ result-rule (set (counted s) p m) total et small
+
+        pub call-count : count (compressOf G K (arrayOf (lent ls l)) (arrayOf (lent s r)) .lengths) ≡ total
+        call-count = ap count (sym call-lengths) ∙ result-count (set (counted s) p m) total et small
+
+        pub call-ready : (room : ℕ) → total ≤ room → Compressed (take (c - 0) l) s p m total r room
+        call-ready room h = record {
+          form = form-of s r gs;
+          has = call-has;
+          fitting = ap₂ (λ x y. eqb (length x) 1 || eqb y 1 || eqb (length x) y) mask-is (ap (λ x. getD (counted s) x 0) (sym axis-p)) ∙ free .fitting;
+          wide = wide;
+          whole = result-count (set (counted s) p m) total et small;
+          small = small;
+          space = h;
+        }
+
+        pub call-out : (out last : List ℤ)
+            → last ≡ build (set (counted s) p m) (along (arrayOf (lent s r)) p (keptAt (take (c - 0) l) (getD (counted s) p 0))) .elements ++ drop total out
+            → last ≡ build (compressOf G K (arrayOf (lent ls l)) (arrayOf (lent s r)) .lengths) (compressOf G K (arrayOf (lent ls l)) (arrayOf (lent s r)) .element) .elements
+            ++ drop (count (compressOf G K (arrayOf (lent ls l)) (arrayOf (lent s r)) .lengths)) out
+        call-out out last w = w ∙ ap₂ (λ x y. x ++ drop y out) elements-is (sym call-count)
