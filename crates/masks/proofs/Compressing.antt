@@ -12,7 +12,7 @@ use lib.Seq.{set-getD, length-take-le, getD-take}
 use lib.Dec.{eqb}
 use lib.IntN.{ℤ, pos, natAbs, _-ℤ_}
 use Rattle.shape.specs.declared.Shape.{Shape}
-use Rattle.shape.specs.Shape.{maxRank, maxCount, counted, count, countOf, shapeOf, shapeRule}
+use Rattle.shape.specs.Shape.{maxRank, maxCount, counted, count, countOf, shapeOf}
 use Rattle.shape.proofs.Places.{In}
 use Rattle.shape.proofs.Axis.{in-at}
 use Rattle.shape.proofs.Surround.{count-set}
@@ -30,8 +30,7 @@ use Rattle.answer.specs.Answer.{lent, ownOrder, own}
 use Rattle.answer.proofs.Lent.{Lent, lent-good}
 use Rattle.answer.proofs.Order.{Names}
 use Rattle.masks.specs.Vector.{vectorShape}
-use Rattle.masks.proofs.Results.{vector-array, vector-lent, axis-found, axis-number, result-rule, result-no-rule, result-count, form-of, part-is}
-use Rattle.meaning.proofs.Positions.{positionOf}
+use Rattle.masks.proofs.Results.{vector-array, result-count, form-of, part-is, Call, call-good, call-has, call-axis}
 use Rattle.masks.specs.Rows.{maskOf, width, fits, takes, taken, keptAt, Along, Compressed}
 use Rattle.masks.proofs.Ones.{mask-single, mask-list, ones-all, ones-no, ones-same}
 use Rattle.masks.proofs.Lined.{build-none}
@@ -112,11 +111,13 @@ module _ (G K : ℤ) (L W : Array) where
       by-axis : (b : Bool) → within (K -ℤ G) (rank W) ≡ b → rank L ≤ 1 → within (K -ℤ G) (rank W) ≡ true
       by-axis true t list = t
       by-axis false t list = absurd (omega (arith, compress-axis list t))
+
       by-length : (b : Bool) → (eqb (length (L .elements)) 1 || eqb (axis W (natAbs (K -ℤ G))) 1 || eqb (length (L .elements)) (axis W (natAbs (K -ℤ G)))) ≡ b
           → rank L ≤ 1 → within (K -ℤ G) (rank W) ≡ true
           → (eqb (length (L .elements)) 1 || eqb (axis W (natAbs (K -ℤ G))) 1 || eqb (length (L .elements)) (axis W (natAbs (K -ℤ G)))) ≡ true
       by-length true t list has = t
       by-length false t list has = absurd (omega (arith, compress-length list has t))
+
       by-bits : (b : Bool) → every isBit (L .elements) ≡ b → rank L ≤ 1 → within (K -ℤ G) (rank W) ≡ true
           → (eqb (length (L .elements)) 1 || eqb (axis W (natAbs (K -ℤ G))) 1 || eqb (length (L .elements)) (axis W (natAbs (K -ℤ G)))) ≡ true
           → every isBit (L .elements) ≡ true
@@ -220,32 +221,17 @@ module _ (l : List ℤ) (s : Shape) (k m total : ℕ) (r : List ℤ) (room : ℕ
     list-elements =
         ap (λ x. build (set (counted s) k m) (along (arrayOf (lent s r)) k (λ i. cond (eqb n 1) 0 (getD (ones x) i 0))) .elements) (sym (mask-list l n h))
 
--- A call that meets none of its own refusals: s is the shape that R is read with, and p the axis.
-pub record Call (G K : ℤ) (ls rs : Shape) (l r : List ℤ) (s : Shape) (p : ℕ) : Type 0 where
-  pub left : Lent ls l
-  pub right : Lent rs r
-  pub read : s ≡ vectorShape rs
-  pub at : p ≡ positionOf (K -ℤ G) (s .rank)
-  pub none : own 27 (rulesOf G K (arrayOf (lent ls l)) (arrayOf (lent s r))) ≡ 0
-
-module _ {G K : ℤ} {ls rs : Shape} {l r : List ℤ} {s : Shape} {p : ℕ} (d : Call G K ls rs l r s p) where
-  gs : Lent s r
-  gs = rw (d .read) (vector-lent rs r (d .right))
-
+-- A call that meets none of its own refusals.
+module _ {G K : ℤ} {ls rs : Shape} {l r : List ℤ} {s : Shape} {p : ℕ} (d : Call G K ls rs l r s p)
+    (none : own 27 (rulesOf G K (arrayOf (lent ls l)) (arrayOf (lent s r))) ≡ 0) where
   free : Free G K (arrayOf (lent ls l)) (arrayOf (lent s r))
-  free = compress-free G K (arrayOf (lent ls l)) (arrayOf (lent s r)) (d .none)
+  free = compress-free G K (arrayOf (lent ls l)) (arrayOf (lent s r)) none
 
-  pub call-high : s .rank ≤ maxRank
-  call-high = gs .high
-
-  pub call-has : p < s .rank
-  call-has = axis-found G K s (gs .long) (gs .high) p (d .at) (free .has)
+  pub compress-has : p < s .rank
+  compress-has = call-has d (free .has)
 
   axis-p : natAbs (K -ℤ G) ≡ p
-  axis-p = axis-number G K s (gs .long) (gs .high) p (d .at) call-has
-
-  length-p : getD (s .lens) p 0 ≡ getD (counted s) p 0
-  length-p = sym (getD-take (s .rank) (s .lens) p 0 call-has)
+  axis-p = call-axis d (free .has)
 
   -- m positions are kept.
   module _ (c : ℕ) (ec : c ≡ countOf ls) (m : ℕ) (em : m ≡ length (ones (maskOf (take (c - 0) l) (getD (s .lens) p 0)))) where
@@ -253,47 +239,29 @@ module _ {G K : ℤ} {ls rs : Shape} {l r : List ℤ} {s : Shape} {p : ℕ} (d :
     mask-is = part-is ls l c (d .left) ec
 
     wide : m ≡ length (ones (maskOf (take (c - 0) l) (getD (counted s) p 0)))
-    wide = em ∙ ap (λ x. length (ones (maskOf (take (c - 0) l) x))) length-p
+    wide = em ∙ ap (λ x. length (ones (maskOf (take (c - 0) l) x))) (sym (getD-take (s .rank) (s .lens) p 0 compress-has))
 
-    pub call-lengths : set (counted s) p m ≡ compressOf G K (arrayOf (lent ls l)) (arrayOf (lent s r)) .lengths
-    call-lengths =
+    pub compress-lengths : set (counted s) p m ≡ compressOf G K (arrayOf (lent ls l)) (arrayOf (lent s r)) .lengths
+    compress-lengths =
         ap (set (counted s) p) (wide ∙ ap (λ x. length (ones (maskOf x (getD (counted s) p 0)))) mask-is)
         ∙ ap (λ x. set (counted s) x (length (ones (maskOf (arrayOf (lent ls l) .elements) (getD (counted s) x 0))))) (sym axis-p)
 
-    elements-is : build (set (counted s) p m) (along (arrayOf (lent s r)) p (keptAt (take (c - 0) l) (getD (counted s) p 0))) .elements
+    pub compress-elements : build (set (counted s) p m) (along (arrayOf (lent s r)) p (keptAt (take (c - 0) l) (getD (counted s) p 0))) .elements
         ≡ build (compressOf G K (arrayOf (lent ls l)) (arrayOf (lent s r)) .lengths) (compressOf G K (arrayOf (lent ls l)) (arrayOf (lent s r)) .element) .elements
-    elements-is =
+    compress-elements =
         ap (λ x. build (set (counted s) p m) (along (arrayOf (lent s r)) p (keptAt x (getD (counted s) p 0))) .elements) mask-is
-        ∙ ap (λ x. build x (along (arrayOf (lent s r)) p (keptAt (arrayOf (lent ls l) .elements) (getD (counted s) p 0))) .elements) call-lengths
+        ∙ ap (λ x. build x (along (arrayOf (lent s r)) p (keptAt (arrayOf (lent ls l) .elements) (getD (counted s) p 0))) .elements) compress-lengths
         ∙ ap
         (λ x. build (compressOf G K (arrayOf (lent ls l)) (arrayOf (lent s r)) .lengths) (along (arrayOf (lent s r)) x (keptAt (arrayOf (lent ls l) .elements) (getD (counted s) x 0))) .elements)
         (sym axis-p)
 
-    module _ (total : ℕ) (et : total ≡ countOf (shapeOf (set (counted s) p m))) where
-      pub call-limit : maxCount < total
-          → shapeRule (length (compressOf G K (arrayOf (lent ls l)) (arrayOf (lent s r)) .lengths)) (compressOf G K (arrayOf (lent ls l)) (arrayOf (lent s r)) .lengths) ≡ false
-      call-limit h = ap (λ x. shapeRule (length x) x) (sym call-lengths) ∙ result-no-rule (set (counted s) p m) total et h
-
-      module _ (small : total ≤ maxCount) where
-        pub call-rule : shapeRule (length (compressOf G K (arrayOf (lent ls l)) (arrayOf (lent s r)) .lengths)) (compressOf G K (arrayOf (lent ls l)) (arrayOf (lent s r)) .lengths) ≡ true
-        call-rule = ap (λ x. shapeRule (length x) x) (sym call-lengths) ∙ result-rule (set (counted s) p m) total et small
-
-        pub call-count : count (compressOf G K (arrayOf (lent ls l)) (arrayOf (lent s r)) .lengths) ≡ total
-        call-count = ap count (sym call-lengths) ∙ result-count (set (counted s) p m) total et small
-
-        pub call-ready : (room : ℕ) → total ≤ room → Compressed (take (c - 0) l) s p m total r room
-        call-ready room h = record {
-          form = form-of s r gs;
-          has = call-has;
-          fitting = ap₂ (λ x y. eqb (length x) 1 || eqb y 1 || eqb (length x) y) mask-is (ap (λ x. getD (counted s) x 0) (sym axis-p)) ∙ free .fitting;
-          wide = wide;
-          whole = result-count (set (counted s) p m) total et small;
-          small = small;
-          space = h;
-        }
-
-        pub call-out : (out last : List ℤ)
-            → last ≡ build (set (counted s) p m) (along (arrayOf (lent s r)) p (keptAt (take (c - 0) l) (getD (counted s) p 0))) .elements ++ drop total out
-            → last ≡ build (compressOf G K (arrayOf (lent ls l)) (arrayOf (lent s r)) .lengths) (compressOf G K (arrayOf (lent ls l)) (arrayOf (lent s r)) .element) .elements
-            ++ drop (count (compressOf G K (arrayOf (lent ls l)) (arrayOf (lent s r)) .lengths)) out
-        call-out out last w = w ∙ ap₂ (λ x y. x ++ drop y out) elements-is (sym call-count)
+    pub compress-ready : (total room : ℕ) → total ≡ countOf (shapeOf (set (counted s) p m)) → total ≤ maxCount → total ≤ room → Compressed (take (c - 0) l) s p m total r room
+    compress-ready total room t small h = record {
+      form = form-of s r (call-good d);
+      has = compress-has;
+      fitting = ap₂ (λ x y. eqb (length x) 1 || eqb y 1 || eqb (length x) y) mask-is (ap (λ x. getD (counted s) x 0) (sym axis-p)) ∙ free .fitting;
+      wide = wide;
+      whole = result-count (set (counted s) p m) total t small;
+      small = small;
+      space = h;
+    }

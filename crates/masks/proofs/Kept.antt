@@ -47,11 +47,11 @@ module _ (l r : List ℤ) (c : ℕ) (out₀ : List ℤ) where
           let filling : putMid to (to + c - to) out last ≡ filled (kept l c r) (to + c) out₀ =
           put-row (λ j. true) (λ j. getD (ones l) j 0) c r (before i l) out out₀ last to (k .at) (k .filling) (kept-room e) i from refl (one-at l i h e) at inside w in
           record {
-        within = omega arith;
-        at = rw (before-one l i h e) (omega (arith, k .at));
-        long = ap length filling ∙ length-filled (kept l c r) (to + c) out₀ (kept-room e);
-        filling = filling;
-      }
+            within = omega arith;
+            at = rw (before-one l i h e) (omega (arith, k .at));
+            long = ap length filling ∙ length-filled (kept l c r) (to + c) out₀ (kept-room e);
+            filling = filling;
+          }
 
       pub kept-other : eqZ (getD l i (pos 0)) (pos 1) ≡ false → Kept l r c out₀ out to (i + 1)
       kept-other e = record { within = omega arith; at = rw (before-other l i h e) (k .at); long = k .long; filling = k .filling }

@@ -9,3 +9,4 @@ pub mod Every
 pub mod Results
 pub mod Lined
 pub mod Compressing
+pub mod Expanding

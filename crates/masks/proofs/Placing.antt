@@ -54,9 +54,9 @@ module _ (t : ℕ → Bool) (φ : ℕ → ℕ) (n m c : ℕ) (r : List ℤ) (o :
   put-block out out₀ last from to f a b w =
       put-list (placed t φ n m c r) (pos 0) to (m * c) (to + m * c) out out₀ last f refl (ap length w ∙ length-tab (m * c) _)
       (λ i h.
-        ap (λ y. placed t φ n m c r (y + i)) a
-        ∙ placed-in i from (from + n * c - from) h b (omega arith)
-        ∙ sym (ap (λ y. getD y i (pos 0)) w ∙ getD-tab (m * c) _ i (pos 0) h))
+      ap (λ y. placed t φ n m c r (y + i)) a
+      ∙ placed-in i from (from + n * c - from) h b (omega arith)
+      ∙ sym (ap (λ y. getD y i (pos 0)) w ∙ getD-tab (m * c) _ i (pos 0) h))
 
 -- What the operand holds, by the counts around axis k.
 pub held : (s : Shape) (k m total : ℕ) → k < length (counted s) → Parts s k m total
@@ -118,8 +118,8 @@ module _ (s : Shape) (b : List ℤ) (k m total : ℕ) (t : ℕ → Bool) (φ : �
       ap₂ (λ x f. tab x f) size refl
       ∙ tab-ext total _ _
       (λ j j<.
-        ap (λ x. cond (t x) (getD (take (count (counted s)) b) (index (counted s) (set (place (set (counted s) k m) j) k (φ x))) (pos 0)) (pos 0)) (on-axis j j<)
-        ∙ element-at j j<)
+      ap (λ x. cond (t x) (getD (take (count (counted s)) b) (index (counted s) (set (place (set (counted s) k m) j) k (φ x))) (pos 0)) (pos 0)) (on-axis j j<)
+      ∙ element-at j j<)
 
 -- The loop over the blocks: those that were passed stand in front.
 pub record Passed (e : Bool) (l r : List ℤ) (outer n m c : ℕ) (out₀ out : List ℤ) (from to o : ℕ) : Type 0 where

@@ -30,9 +30,9 @@ pub repeated-one : (r : List ℤ) (m c : ℕ) (out₀ : List ℤ) (x : ℤ) → 
 repeated-one r m c out₀ x e room w =
     tab-is (replicate (length out₀) x) x (m * c) (repeated c r) (length-replicate (length out₀) x ∙ room)
     (λ j h.
-      ap (λ k. getD r (0 * k + j % k) (pos 0)) e
-      ∙ ap (λ k. getD r (0 + k) (pos 0)) (mod-one j)
-      ∙ sym w ∙ sym (getD-replicate (length out₀) j x x (omega arith)))
+    ap (λ k. getD r (0 * k + j % k) (pos 0)) e
+    ∙ ap (λ k. getD r (0 + k) (pos 0)) (mod-one j)
+    ∙ sym w ∙ sym (getD-replicate (length out₀) j x x (omega arith)))
 
 module _ (r : List ℤ) (m c : ℕ) (out₀ : List ℤ) where
   pub repeated-none : Repeated r m c out₀ out₀ 0 0

@@ -18,6 +18,7 @@ use Rattle.shape.proofs.Rule.{vector-rule}
 use Rattle.meaning.specs.Array.{arrayOf, goodForm}
 use Rattle.meaning.specs.Terms.{asVector, within}
 use Rattle.meaning.proofs.Positions.{positionOf, position-lt, position-none, within-lt}
+use Rattle.meaning.specs.Primitives.{Meaning}
 use Rattle.meaning.proofs.Scalars.{scalar-as, array-as}
 use Rattle.answer.specs.Answer.{lent}
 use Rattle.answer.proofs.Lent.{Lent, lent-good, count-of, form-by}
@@ -29,6 +30,9 @@ set-made rank lens k m h l = rw (le-leb rank maxRank h) (ap shapeOf (take-set-lt
 pub scalar-vector : (s : Shape) → s .rank ≡ 0 → shapeOf (1 ∷ []) ≡ vectorShape s
 unfolding vectorShape
 scalar-vector s h = rw (eq-eqb (s .rank) 0 h)
+
+pub scalar-counted : (s : Shape) → s .rank ≡ 0 → counted (vectorShape s) ≡ 1 ∷ []
+scalar-counted s h = ap (λ (x : Shape). counted x) (sym (scalar-vector s h))
 
 pub array-vector : (s : Shape) → (s .rank ≡ 0 → ⊥) → s ≡ vectorShape s
 unfolding vectorShape
@@ -87,16 +91,16 @@ module _ (s : Shape) where
   vector-lent b g =
       vector-by (λ v. Lent v b)
       (λ z.
-        lent-good (shapeOf (1 ∷ [])) b refl
-        (form-by (shapeOf (1 ∷ [])) b (omega (arith, one-of)) ∙ le-leb (countOf (shapeOf (1 ∷ []))) (length b) (omega (arith, one-of, g .room, scalar-count z))))
+      lent-good (shapeOf (1 ∷ [])) b refl
+      (form-by (shapeOf (1 ∷ [])) b (omega (arith, one-of)) ∙ le-leb (countOf (shapeOf (1 ∷ []))) (length b) (omega (arith, one-of, g .room, scalar-count z))))
       (λ n. g)
 
   pub vector-array : (b : List ℤ) → length (counted s) ≡ s .rank → asVector (arrayOf (lent s b)) ≡ arrayOf (lent (vectorShape s) b)
   vector-array b h =
       vector-by (λ v. asVector (arrayOf (lent s b)) ≡ arrayOf (lent v b))
       (λ z.
-        scalar-as 1 (arrayOf (lent s b)) (h ∙ z)
-        ∙ ap (λ x. record { lengths = 1 ∷ []; elements = take x b }) (scalar-count z ∙ sym one-count))
+      scalar-as 1 (arrayOf (lent s b)) (h ∙ z)
+      ∙ ap (λ x. record { lengths = 1 ∷ []; elements = take x b }) (scalar-count z ∙ sym one-count))
       (λ n. array-as 1 (arrayOf (lent s b)) (omega (arith, h, n)))
 
 -- The axis that K names, by what `position` answers.
@@ -130,3 +134,35 @@ form-of s b g = and-true _ _ (g .good) (le-leb (count (counted s)) (length b) (g
 -- The part that a call takes of a lent buffer.
 pub part-is : (s : Shape) (b : List ℤ) (c : ℕ) → Lent s b → c ≡ countOf s → take (c - 0) b ≡ arrayOf (lent s b) .elements
 part-is s b c g e = ap (λ x. take x b) (sub-zero c ∙ e ∙ g .count-is)
+
+-- A call along an axis: s is the shape that R is read with, and p what `position` answers of K.
+pub record Call (G K : ℤ) (ls rs : Shape) (l r : List ℤ) (s : Shape) (p : ℕ) : Type 0 where
+  pub left : Lent ls l
+  pub right : Lent rs r
+  pub read : s ≡ vectorShape rs
+  pub at : p ≡ positionOf (K -ℤ G) (s .rank)
+
+module _ {G K : ℤ} {ls rs : Shape} {l r : List ℤ} {s : Shape} {p : ℕ} (d : Call G K ls rs l r s p) where
+  pub call-array : asVector (arrayOf (lent rs r)) ≡ arrayOf (lent s r)
+  call-array = vector-array rs r (d .right .rank-is) ∙ ap (λ x. arrayOf (lent x r)) (sym (d .read))
+
+  pub call-good : Lent s r
+  call-good = rw (d .read) (vector-lent rs r (d .right))
+
+  module _ (h : within (K -ℤ G) (length (counted s)) ≡ true) where
+    pub call-has : p < s .rank
+    call-has = axis-found G K s (call-good .long) (call-good .high) p (d .at) h
+
+    pub call-axis : natAbs (K -ℤ G) ≡ p
+    call-axis = axis-number G K s (call-good .long) (call-good .high) p (d .at) call-has
+
+-- LIMIT and SPACE, of a meaning whose lengths are ns.
+module _ (y : Meaning) (ns : List ℕ) (e : ns ≡ y .lengths) (total : ℕ) (t : total ≡ countOf (shapeOf ns)) where
+  pub given-limit : maxCount < total → shapeRule (length (y .lengths)) (y .lengths) ≡ false
+  given-limit h = ap (λ x. shapeRule (length x) x) (sym e) ∙ result-no-rule ns total t h
+
+  pub given-rule : total ≤ maxCount → shapeRule (length (y .lengths)) (y .lengths) ≡ true
+  given-rule h = ap (λ x. shapeRule (length x) x) (sym e) ∙ result-rule ns total t h
+
+  pub given-count : total ≤ maxCount → count (y .lengths) ≡ total
+  given-count h = ap count (sym e) ∙ result-count ns total t h

@@ -10,14 +10,13 @@ ghost use lib.Dec.{eqb};
 ghost use lib.IntN.{ℤ, pos};
 ghost use Rattle.shape.specs.Shape.{maxRank, maxCount, counted, count, goodShape, shapeOf};
 ghost use Rattle.meaning.specs.Array.{arrayOf, goodForm, tab, build};
-ghost use Rattle.meaning.specs.Terms.{axis, along, every, isBit, ones};
+ghost use Rattle.meaning.specs.Terms.{axis, along, every, isBit, eqZ, ones};
 ghost use Rattle.meaning.specs.Primitives.{compress, expand};
 ghost use Rattle.meaning.specs.Reply.{reply};
 ghost use Rattle.copying.proofs.Runs.{filled};
 ghost use Rattle.answer.specs.Answer.{lent, own, Replied};
-ghost use Rattle.masks.specs.Rows.{maskOf, width, fits, takes, taken, rowed, placed, Block, Blocks, Along, keptAt, Compressed};
+ghost use Rattle.masks.specs.Rows.{maskOf, width, fits, takes, taken, rowed, placed, Block, Blocks, Along, keptAt, Compressed, openedAt, Expanded};
 ghost use Rattle.masks.specs.Vector.{vectorShape};
-
 use answer::Answer;
 use shape::Shape;
 
@@ -88,9 +87,7 @@ fn compress_fits(c: usize, n: usize) -> bool
 // RANK, AXIS, LENGTH and DOMAIN, whatever R's elements are.
 fn compress_refusal(g: i32, k: i32, ls: Shape, l: &[i32], rs: Shape) -> usize
     requires { ⌜ (goodForm (lent ls (now l)) ≡ true) × (goodShape rs ≡ true) ⌝ }
-    ensures {
-        λ n. ⌜ ((b : List ℤ) → n ≡ own 27 (compress g k (arrayOf (lent ls (now (l .entry)))) (arrayOf (lent rs b)) .refusals)) ⌝
-    }
+    ensures { λ n. ⌜ ((b : List ℤ) → n ≡ own 27 (compress g k (arrayOf (lent ls (now (l .entry)))) (arrayOf (lent rs b)) .refusals)) ⌝ }
 {
     if 1 < ls.rank {
         return 4;
@@ -110,14 +107,50 @@ fn compress_refusal(g: i32, k: i32, ls: Shape, l: &[i32], rs: Shape) -> usize
     }
 }
 
+// The ones number the axis length n, unless R is a scalar.
+fn expand_fits(rank: usize, l: &[i32], n: usize) -> bool
+    ensures { λ b. ⌜ b ≡ (eqb rank 0 || eqb (length (ones (now (l .entry)))) n) ⌝ }
+{
+    if rank == 0 {
+        return true;
+    }
+    let m = count_ones(l);
+    m == n
+}
+
+// RANK, AXIS, then DOMAIN before LENGTH, whatever R's elements are.
+fn expand_refusal(g: i32, k: i32, ls: Shape, l: &[i32], rs: Shape) -> usize
+    requires { ⌜ (goodForm (lent ls (now l)) ≡ true) × (goodShape rs ≡ true) ⌝ }
+    ensures { λ n. ⌜ ((b : List ℤ) → n ≡ own 28 (expand g k (arrayOf (lent ls (now (l .entry)))) (arrayOf (lent rs b)) .refusals)) ⌝ }
+{
+    if 1 < ls.rank {
+        return 4;
+    }
+    let s = as_vector(rs);
+    let rank = s.rank;
+    let at = signed::position(k, g, rank);
+    if rank <= at {
+        return 5;
+    }
+    let c = ls.count();
+    if all_bits(&l[0..c]) {
+        let n = s.lens[at];
+        if expand_fits(rs.rank, &l[0..c], n) {
+            0
+        } else {
+            6
+        }
+    } else {
+        7
+    }
+}
+
 // One block of n rows to m rows.
 fn block(expands: bool, l: &[i32], r: &[i32], n: usize, m: usize, inner: usize, out: &mut [i32])
     requires { ⌜ (0 < inner) × Block expands (now l) n m inner (length (now r)) (length (now out)) ⌝ }
-    ensures {
-        λ _.
+    ensures { λ _.
         ⌜ now (out .exit)
-        ≡ tab (m * inner) (rowed (takes expands (now (l .entry))) (taken expands (now (l .entry)) n) inner (now (r .entry))) ⌝
-    }
+        ≡ tab (m * inner) (rowed (takes expands (now (l .entry))) (taken expands (now (l .entry)) n) inner (now (r .entry))) ⌝ }
 {
     if expands {
         if inner == 1 {
@@ -139,13 +172,20 @@ fn block(expands: bool, l: &[i32], r: &[i32], n: usize, m: usize, inner: usize, 
 }
 
 // Each of the blocks that stand one after another.
-fn blocks(expands: bool, l: &[i32], r: &[i32], outer: usize, n: usize, m: usize, inner: usize, out: &mut [i32])
+fn blocks(
+    expands: bool,
+    l: &[i32],
+    r: &[i32],
+    outer: usize,
+    n: usize,
+    m: usize,
+    inner: usize,
+    out: &mut [i32],
+)
     requires { ⌜ Blocks expands (now l) outer n m inner (length (now r)) (length (now out)) ⌝ }
-    ensures {
-        λ _.
+    ensures { λ _.
         ⌜ now (out .exit)
-        ≡ filled (placed (takes expands (now (l .entry))) (taken expands (now (l .entry)) n) n m inner (now (r .entry))) (outer * (m * inner)) (now (out .entry)) ⌝
-    }
+        ≡ filled (placed (takes expands (now (l .entry))) (taken expands (now (l .entry)) n) n m inner (now (r .entry))) (outer * (m * inner)) (now (out .entry)) ⌝ }
 {
     let size = n * inner;
     let part = m * inner;
@@ -163,17 +203,24 @@ fn blocks(expands: bool, l: &[i32], r: &[i32], outer: usize, n: usize, m: usize,
 }
 
 // All lines along axis k.
-fn lines(expands: bool, l: &[i32], s: Shape, k: usize, m: usize, total: usize, r: &[i32], out: &mut [i32])
+fn lines(
+    expands: bool,
+    l: &[i32],
+    s: Shape,
+    k: usize,
+    m: usize,
+    total: usize,
+    r: &[i32],
+    out: &mut [i32],
+)
     requires { ⌜ Along expands (now l) s k m total (now r) (length (now out)) ⌝ }
-    ensures {
-        λ _.
+    ensures { λ _.
         ⌜ now (out .exit)
         ≡ build (set (counted s) k m)
         (λ p.
-          cond (takes expands (now (l .entry)) (getD p k 0))
-          (along (arrayOf (lent s (now (r .entry)))) k (taken expands (now (l .entry)) (getD (counted s) k 0)) p) (pos 0)) .elements
-        ++ drop total (now (out .entry)) ⌝
-    }
+        cond (takes expands (now (l .entry)) (getD p k 0))
+        (along (arrayOf (lent s (now (r .entry)))) k (taken expands (now (l .entry)) (getD (counted s) k 0)) p) (pos 0)) .elements
+        ++ drop total (now (out .entry)) ⌝ }
 {
     if total == 0 {
         return;
@@ -185,12 +232,10 @@ fn lines(expands: bool, l: &[i32], s: Shape, k: usize, m: usize, total: usize, r
 // The lines along axis k that a mask keeps. Where one element serves the whole axis that is all or nothing, in R's order.
 fn compress_into(l: &[i32], s: Shape, k: usize, m: usize, total: usize, r: &[i32], out: &mut [i32])
     requires { ⌜ Compressed (now l) s k m total (now r) (length (now out)) ⌝ }
-    ensures {
-        λ _.
+    ensures { λ _.
         ⌜ now (out .exit)
         ≡ build (set (counted s) k m) (along (arrayOf (lent s (now (r .entry)))) k (keptAt (now (l .entry)) (getD (counted s) k 0))) .elements
-        ++ drop total (now (out .entry)) ⌝
-    }
+        ++ drop total (now (out .entry)) ⌝ }
 {
     if l.len() == 1 {
         copying::copy_run(&r[0..total], out);
@@ -200,10 +245,16 @@ fn compress_into(l: &[i32], s: Shape, k: usize, m: usize, total: usize, r: &[i32
 }
 
 // 27.
-pub fn compress(g: i32, k: i32, ls: Shape, l: &[i32], rs: Shape, r: &[i32], out: &mut [i32]) -> Answer
-    ensures {
-        λ a. ⌜ Replied a (now (out .exit)) (reply (pos 27) g k (lent ls (now (l .entry))) (lent rs (now (r .entry))) (now (out .entry))) ⌝
-    }
+pub fn compress(
+    g: i32,
+    k: i32,
+    ls: Shape,
+    l: &[i32],
+    rs: Shape,
+    r: &[i32],
+    out: &mut [i32],
+) -> Answer
+    ensures { λ a. ⌜ Replied a (now (out .exit)) (reply (pos 27) g k (lent ls (now (l .entry))) (lent rs (now (r .entry))) (now (out .entry))) ⌝ }
 {
     let early = answer::early_two(g, ls, l, rs, r);
     if early != 0 {
@@ -226,5 +277,59 @@ pub fn compress(g: i32, k: i32, ls: Shape, l: &[i32], rs: Shape, r: &[i32], out:
         return Answer::refused(10);
     }
     compress_into(&l[0..c], s, at, m, total, r, out);
+    Answer { number: 0, shape }
+}
+
+// The lines along axis k opened by a mask; a scalar is repeated.
+fn expand_into(
+    scalar: bool,
+    l: &[i32],
+    s: Shape,
+    k: usize,
+    total: usize,
+    r: &[i32],
+    out: &mut [i32],
+)
+    requires { ⌜ Expanded scalar (now l) s k total (now r) (length (now out)) ⌝ }
+    ensures { λ _.
+        ⌜ now (out .exit)
+        ≡ build (set (counted s) k (length (now (l .entry))))
+        (λ p.
+        cond (eqZ (getD (now (l .entry)) (getD p k 0) (pos 0)) (pos 1))
+        (along (arrayOf (lent s (now (r .entry)))) k (openedAt scalar (now (l .entry))) p) (pos 0)) .elements
+        ++ drop total (now (out .entry)) ⌝ }
+{
+    if scalar {
+        rows::spread(r[0], l, out);
+    } else {
+        lines(true, l, s, k, l.len(), total, r, out);
+    }
+}
+
+// 28.
+pub fn expand(g: i32, k: i32, ls: Shape, l: &[i32], rs: Shape, r: &[i32], out: &mut [i32]) -> Answer
+    ensures { λ a. ⌜ Replied a (now (out .exit)) (reply (pos 28) g k (lent ls (now (l .entry))) (lent rs (now (r .entry))) (now (out .entry))) ⌝ }
+{
+    let early = answer::early_two(g, ls, l, rs, r);
+    if early != 0 {
+        return Answer::refused(early);
+    }
+    let own = expand_refusal(g, k, ls, l, rs);
+    if own != 0 {
+        return Answer::refused(own);
+    }
+    let s = as_vector(rs);
+    let at = signed::position(k, g, s.rank);
+    let c = ls.count();
+    let shape = with_length(s, at, c);
+    let total = shape.count();
+    if Shape::MAX_COUNT < total {
+        return Answer::refused(9);
+    }
+    if out.len() < total {
+        return Answer::refused(10);
+    }
+    let scalar = rs.rank == 0;
+    expand_into(scalar, &l[0..c], s, at, total, r, out);
     Answer { number: 0, shape }
 }

@@ -1,13 +1,12 @@
 use mathlib.Core.Path.{_≡_, refl, sym, ap, ap₂, _∙_}
 use mathlib.Core.Bool.{true, _&&_}
-use mathlib.Core.List.{List}
-use Prim.Native.Nat.{_-_, _≤_, _<_}
-use native.Mathlib.Nat.{sub-zero}
+use mathlib.Core.List.{List, _++_}
+use Prim.Native.Nat.{ℕ, _≤_, _<_}
 use native.Mathlib.Omega.{arith}
 use lib.IntN.{ℤ, pos, _-ℤ_}
-use lib.ListN.{length, getD, take, set}
+use lib.ListN.{length, drop, set}
 use Rattle.shape.specs.declared.Shape.{Shape}
-use Rattle.shape.specs.Shape.{maxRank, maxCount, counted, countOf, shapeOf}
+use Rattle.shape.specs.Shape.{maxRank, maxCount, counted, count, countOf, shapeOf, shapeRule}
 use Rattle.shape.proofs.Bools.{both}
 use Rattle.meaning.specs.Array.{Array, Operand, arrayOf, goodForm}
 use Rattle.meaning.specs.Primitives.{Meaning, compress}
@@ -19,8 +18,8 @@ use Rattle.answer.proofs.Lent.{Lent, lent-good, early-fine}
 use Rattle.answer.proofs.Order.{Names, early-reply, own-reply, limit-reply, space-reply, given-reply, replied-refused, replied-given}
 use Rattle.masks.specs.Rows.{maskOf}
 use Rattle.masks.specs.Vector.{vectorShape}
-use Rattle.masks.proofs.Results.{vector-array}
-use Rattle.masks.proofs.Compressing.{rulesOf, compressOf, compress-is, compressing, compress-names, refusal-is, Call, call-high, call-has, call-lengths, call-limit, call-rule, call-count, call-ready, call-out}
+use Rattle.masks.proofs.Results.{Call, call-array, call-good, given-limit, given-rule, given-count}
+use Rattle.masks.proofs.Compressing.{rulesOf, compressOf, compress-is, compressing, compress-names, refusal-is, compress-has, compress-lengths, compress-elements, compress-ready}
 use borrow.Author.Needs.{needs}
 use Rattle.masks.proofs.compress.Statement.{statement}
 use Rattle.masks.proofs.compress.Tie as tie
@@ -81,42 +80,63 @@ call : (c : tie.After-position)
     → Call (start c .args .g) (start c .args .k) (start c .args .ls) (start c .args .rs) (start c .args .l .now) (start c .args .r .now) (c .before .as-vector .result) (c .position .result)
 call c =
     let v = c .before in
-    let o = v .before .before in
+    let e = v .before .before .before in
     let st = start c in
     record {
-      left = good-left (o .before);
-      right = good-right (o .before);
+      left = good-left e;
+      right = good-right e;
       read = v .as-vector .ensures;
       at = c .position .ensures ∙ ap₂ (λ x y. positionOf (x -ℤ y) (v .as-vector .result .rank)) (read32 _ (st .fits .k)) (read32 _ (st .fits .g));
-      none =
-          refusal-is (st .args .g) (st .args .k) (st .args .ls) (st .args .l .now) (st .args .rs) (st .args .r .now) (v .as-vector .result) (v .as-vector .ensures) (good-right (o .before) .rank-is)
-          ∙ sym (own-is o)
-          ∙ v .before .if2 .left;
     }
 
+-- What the primitive gives, by the shape that R is read with.
+abbrev meaning : tie.After-position → Meaning
+meaning c = compressOf (start c .args .g) (start c .args .k) (arrayOf (left (start c))) (arrayOf (lent (c .before .as-vector .result) (start c .args .r .now)))
+
+names : (c : tie.After-position) → Names (pos 27) (start c .args .g) (start c .args .k) (left (start c)) (right (start c)) compressing (meaning c)
+names c = compress-names (start c .args .g) (start c .args .k) (left (start c)) (right (start c)) _ (call-array (call c))
+
+none : (c : tie.After-position) → own 27 (meaning c .refusals) ≡ 0
+none c =
+    let v = c .before in
+    let o = v .before .before in
+    let st = start c in
+    refusal-is (st .args .g) (st .args .k) (st .args .ls) (st .args .l .now) (st .args .rs) (st .args .r .now) (v .as-vector .result) (v .as-vector .ensures) (good-right (o .before) .rank-is)
+    ∙ sym (own-is o)
+    ∙ v .before .if2 .left
+
 has : (c : tie.After-position) → c .position .result < c .before .as-vector .result .rank
-has c = call-has (call c)
+has c = compress-has (call c) (none c)
 
 high : (c : tie.After-position) → c .before .as-vector .result .rank ≤ maxRank
-high c = call-high (call c)
+high c = call-good (call c) .high
 
 inside : (c : tie.After-count) → c .count .result ≤ length (start (c .before) .args .l .now)
 inside c = let g = call (c .before) .left in omega (arith, g .room, g .count-is, c .count .ensures)
 
-names : (c : tie.After-position)
-    → Names (pos 27) (start c .args .g) (start c .args .k) (left (start c)) (right (start c)) compressing
-    (compressOf (start c .args .g) (start c .args .k) (arrayOf (left (start c))) (arrayOf (lent (c .before .as-vector .result) (start c .args .r .now))))
-names c =
-    let d = call c in
-    let st = start c in
-    compress-names (st .args .g) (st .args .k) (left st) (right st) _ (vector-array (st .args .rs) (st .args .r .now) (d .right .rank-is) ∙ ap (λ x. arrayOf (lent x (st .args .r .now))) (sym (d .read)))
+-- Where the axis is known, at the shape of the result.
+abbrev at-axis : tie.After-count2 → tie.After-position
+at-axis c = c .before .before .before .before .before .before
 
-total-is : (c : tie.After-count2)
-    → c .count2 .result ≡ countOf (shapeOf (set (counted (c .before .before .before .before .before .before .before .as-vector .result)) (c .before .before .before .before .before .before .position .result) (c .before .before .kept-count .result)))
+abbrev lengths : tie.After-count2 → List ℕ
+lengths c = set (counted (at-axis c .before .as-vector .result)) (at-axis c .position .result) (c .before .before .kept-count .result)
+
+lengths-is : (c : tie.After-count2) → lengths c ≡ meaning (at-axis c) .lengths
+lengths-is c =
+    let p = at-axis c in
+    compress-lengths (call p) (none p) _ (c .before .before .before .before .before .count .ensures) _ (c .before .before .kept-count .ensures)
+
+total-is : (c : tie.After-count2) → c .count2 .result ≡ countOf (shapeOf (lengths c))
 total-is c = c .count2 .ensures ∙ ap countOf (c .before .with-length .ensures)
 
 small : (c : tie.Else3) → c .before .count2 .result ≤ maxCount
 small c = omega arith
+
+rule : (c : tie.Else3) → shapeRule (length (meaning (at-axis (c .before)) .lengths)) (meaning (at-axis (c .before)) .lengths) ≡ true
+rule c = given-rule (meaning (at-axis (c .before))) (lengths (c .before)) (lengths-is (c .before)) _ (total-is (c .before)) (small c)
+
+size : (c : tie.Else3) → count (meaning (at-axis (c .before)) .lengths) ≡ c .before .count2 .result
+size c = given-count (meaning (at-axis (c .before))) (lengths (c .before)) (lengths-is (c .before)) _ (total-is (c .before)) (small c)
 
 -- src/lib.rt:208:9
 early-two-requires : tie.Need-early-two-requires
@@ -204,14 +224,10 @@ refused-requires-3 c κs = search needs
 returns-3 : tie.Need-returns-3
 returns-3 c =
     let t = c .before .before in
-    let n = t .before .before .before .before .before in
-    let p = n .before in
-    let st = start p in
-    let d = call p in
-    let out = st .args .out .now in
+    let p = at-axis t in
+    let out = start p .args .out .now in
     replied-refused (c .refused3 .result) 9 out (c .refused3 .ensures)
-    (limit-reply (names p) out (fine (p .before .before .before .before)) (d .none)
-    (call-limit d _ (n .count .ensures) _ (t .before .before .kept-count .ensures) _ (total-is t) (omega arith)))
+    (limit-reply (names p) out (fine (p .before .before .before .before)) (none p) (given-limit (meaning p) (lengths t) (lengths-is t) _ (total-is t) (omega arith)))
 
 -- src/lib.rt:226:9
 refused-requires-4 : tie.Need-refused-requires-4
@@ -220,16 +236,11 @@ refused-requires-4 c κs = search needs
 -- src/lib.rt:226:9
 returns-4 : tie.Need-returns-4
 returns-4 c =
-    let t = c .before .before .before in
-    let n = t .before .before .before .before .before in
-    let p = n .before in
-    let st = start p in
-    let d = call p in
-    let out = st .args .out .now in
-    let m = t .before .before .kept-count .ensures in
+    let e = c .before .before in
+    let p = at-axis (e .before) in
+    let out = start p .args .out .now in
     replied-refused (c .refused4 .result) 10 out (c .refused4 .ensures)
-    (space-reply (names p) out (fine (p .before .before .before .before)) (d .none) (call-rule d _ (n .count .ensures) _ m _ (total-is t) (omega arith))
-    (omega (arith, call-count d _ (n .count .ensures) _ m _ (total-is t) (omega arith))))
+    (space-reply (names p) out (fine (p .before .before .before .before)) (none p) (rule e) (omega (arith, size e)))
 
 -- src/lib.rt:228:19
 sub-compress-into : tie.Need-sub-compress-into
@@ -247,8 +258,8 @@ part-compress-into-end c = omega (arith, inside (c .before .before .before .befo
 compress-into-requires : tie.Need-compress-into-requires
 compress-into-requires c κs =
     let t = c .before .before .before .before in
-    let n = t .before .before .before .before .before in
-    call-ready (call (n .before)) _ (n .count .ensures) _ (t .before .before .kept-count .ensures) _ (total-is t) (omega arith) _ (omega arith)
+    let p = at-axis t in
+    compress-ready (call p) (none p) _ (t .before .before .before .before .before .count .ensures) _ (t .before .before .kept-count .ensures) _ _ (total-is t) (small (c .before .before .before)) (omega arith)
 
 -- src/lib.rt:203:1
 same-length : tie.Need-same-length
@@ -257,18 +268,14 @@ same-length c = search needs
 -- src/lib.rt:203:1
 returns-5 : tie.Need-returns-5
 returns-5 c =
-    let t = c .before .before .before .before .before .before in
-    let n = t .before .before .before .before .before in
-    let p = n .before in
-    let st = start p in
-    let d = call p in
-    let out = st .args .out .now in
-    let m = t .before .before .kept-count .ensures in
-    replied-given _ (compressOf (st .args .g) (st .args .k) (arrayOf (left st)) (arrayOf (lent (p .before .as-vector .result) (st .args .r .now)))) out _
-    (ap (λ z. record { number = 0; shape = z }) (t .before .with-length .ensures ∙ ap shapeOf (call-lengths d _ (n .count .ensures) _ m)))
-    (call-out d _ (n .count .ensures) _ m _ (total-is t) (small (c .before .before .before .before .before)) out _ (c .before .compress-into .ensures))
-    (given-reply (names p) out (fine (p .before .before .before .before)) (d .none) (call-rule d _ (n .count .ensures) _ m _ (total-is t) (small (c .before .before .before .before .before)))
-    (omega (arith, call-count d _ (n .count .ensures) _ m _ (total-is t) (small (c .before .before .before .before .before)))))
+    let e = c .before .before .before .before .before in
+    let t = e .before in
+    let p = at-axis t in
+    let out = start p .args .out .now in
+    replied-given _ (meaning p) out _ (ap (λ z. record { number = 0; shape = z }) (t .before .with-length .ensures ∙ ap shapeOf (lengths-is t)))
+    (c .before .compress-into .ensures
+    ∙ ap₂ (λ x y. x ++ drop y out) (compress-elements (call p) (none p) _ (t .before .before .before .before .before .count .ensures) _ (t .before .before .kept-count .ensures)) (sym (size e)))
+    (given-reply (names p) out (fine (p .before .before .before .before)) (none p) (rule e) (omega (arith, size e)))
 
 pub compress-spec : {M : Type 1} → statement M
 compress-spec =

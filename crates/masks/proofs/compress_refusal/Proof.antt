@@ -79,9 +79,9 @@ count-is c = let g = good (c .before .before .before .before .before .before) in
 -- Whether the lengths fit.
 test : (c : tie.After-compress-fits)
     → (let st = c .before .before .before .before .before .before .before .before in
-       let x = length (left st .elements) in
-       let y = getD (counted (c .before .before .before .before .before .as-vector .result)) (natAbs (st .args .k -ℤ st .args .g)) 0 in
-       c .compress-fits .result ≡ (eqb x 1 || eqb y 1 || eqb x y))
+    let x = length (left st .elements) in
+    let y = getD (counted (c .before .before .before .before .before .as-vector .result)) (natAbs (st .args .k -ℤ st .args .g)) 0 in
+    c .compress-fits .result ≡ (eqb x 1 || eqb y 1 || eqb x y))
 test c =
     let e = c .before .before .before in
     let v = e .before .before in

@@ -60,9 +60,9 @@ loop-again c =
     let lp = c .before .before .before .loop in (
       omega arith,
       ⊎-elim
-      (λ w. omega (arith, w .1, before-one l (lp .i) (omega arith) (one (record { before = c .before; if1 = w .0 }))))
-      (λ w. omega (arith, w .1, before-other l (lp .i) (omega arith) (other (record { before = c .before; if1 = w .0 }))))
-      (c .if1 .came),
+          (λ w. omega (arith, w .1, before-one l (lp .i) (omega arith) (one (record { before = c .before; if1 = w .0 }))))
+          (λ w. omega (arith, w .1, before-other l (lp .i) (omega arith) (other (record { before = c .before; if1 = w .0 }))))
+          (c .if1 .came),
     )
 
 -- src/lib.rt:58:1

@@ -83,9 +83,9 @@ loop-again c =
     let lp = c .before .before .before .loop in
     ⊎-elim
     (λ w.
-      rw (w .2, w .3)
-      (kept-one _ _ (st .args .out .now) (lp .out) (lp .to) (lp .i) (omega arith) (lp .inv) (omega arith) (one (record { before = c .before; if1 = w .0 })) _
-      (read32 (getD (st .args .r .now) (lp .i) (pos 0)) (sfits-of (w .1 .given)))))
+    rw (w .2, w .3)
+    (kept-one _ _ (st .args .out .now) (lp .out) (lp .to) (lp .i) (omega arith) (lp .inv) (omega arith) (one (record { before = c .before; if1 = w .0 })) _
+    (read32 (getD (st .args .r .now) (lp .i) (pos 0)) (sfits-of (w .1 .given)))))
     (λ w. rw (w .1, w .2) (kept-other _ _ 1 _ (omega arith) (lp .out) (lp .to) (lp .i) (lp .inv) (omega arith) (other (record { before = c .before; if1 = w .0 }))))
     (c .if1 .came)
 

@@ -117,12 +117,12 @@ loop-again c =
     let a = st .args in (
       omega arith,
       ⊎-elim
-      (λ w.
-        rw (w .5, w .6)
-        (kept-row _ _ (a .inner) _ (omega arith) (lp .out) (lp .to) (lp .i) (lp .inv .1) (omega arith) (sym (test (c .before)) ∙ w .0 .taken) (lp .from) (lp .inv .0) (inside next) _
-        (w .3 .ensures)))
-      (λ w. rw (w .1, w .2) (kept-other _ _ (a .inner) _ (omega arith) (lp .out) (lp .to) (lp .i) (lp .inv .1) (omega arith) (sym (test (c .before)) ∙ w .0 .left)))
-      (c .if1 .came),
+          (λ w.
+          rw (w .5, w .6)
+          (kept-row _ _ (a .inner) _ (omega arith) (lp .out) (lp .to) (lp .i) (lp .inv .1) (omega arith) (sym (test (c .before)) ∙ w .0 .taken) (lp .from) (lp .inv .0) (inside next) _
+          (w .3 .ensures)))
+          (λ w. rw (w .1, w .2) (kept-other _ _ (a .inner) _ (omega arith) (lp .out) (lp .to) (lp .i) (lp .inv .1) (omega arith) (sym (test (c .before)) ∙ w .0 .left)))
+          (c .if1 .came),
     )
 
 -- src/rows.rt:32:1

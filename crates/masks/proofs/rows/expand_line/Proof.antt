@@ -90,12 +90,12 @@ loop-again c =
     let lp = c .before .before .before .loop in
     ⊎-elim
     (λ w.
-      rw (w .2, w .3)
-      (opened-one _ _ (st .args .out .now) (lp .out) (lp .from) (lp .i) (omega arith) (lp .inv) (omega arith) _ (one (record { before = c .before; if1 = w .0 }))
-      (read32 (getD (st .args .r .now) (lp .from) (pos 0)) (sfits-of (w .1 .given)))))
+    rw (w .2, w .3)
+    (opened-one _ _ (st .args .out .now) (lp .out) (lp .from) (lp .i) (omega arith) (lp .inv) (omega arith) _ (one (record { before = c .before; if1 = w .0 }))
+    (read32 (getD (st .args .r .now) (lp .from) (pos 0)) (sfits-of (w .1 .given)))))
     (λ w.
-      rw (w .1, w .2)
-      (opened-zero _ _ (st .args .out .now) (lp .out) (lp .from) (lp .i) (omega arith) (lp .inv) (omega arith) _ (other (record { before = c .before; if1 = w .0 })) refl))
+    rw (w .1, w .2)
+    (opened-zero _ _ (st .args .out .now) (lp .out) (lp .from) (lp .i) (omega arith) (lp .inv) (omega arith) _ (other (record { before = c .before; if1 = w .0 })) refl))
     (c .if1 .came)
 
 -- src/rows.rt:75:1

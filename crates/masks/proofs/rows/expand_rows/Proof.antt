@@ -138,11 +138,11 @@ loop-again c =
     let a = st .args in
     ⊎-elim
     (λ w.
-      rw (w .5, w .6)
-      (opened-row _ _ (a .inner) _ (omega arith) (lp .out) (lp .from) (lp .to) (lp .i) (lp .inv) (omega arith) (sym (test (c .before)) ∙ w .0 .taken) (omega arith) _ (w .3 .ensures)))
+    rw (w .5, w .6)
+    (opened-row _ _ (a .inner) _ (omega arith) (lp .out) (lp .from) (lp .to) (lp .i) (lp .inv) (omega arith) (sym (test (c .before)) ∙ w .0 .taken) (omega arith) _ (w .3 .ensures)))
     (λ w.
-      rw (w .4, w .5)
-      (opened-zeros _ _ (a .inner) _ (omega arith) (lp .out) (lp .from) (lp .to) (lp .i) (lp .inv) (omega arith) (sym (test (c .before)) ∙ w .0 .left) _ (w .2 .ensures)))
+    rw (w .4, w .5)
+    (opened-zeros _ _ (a .inner) _ (omega arith) (lp .out) (lp .from) (lp .to) (lp .i) (lp .inv) (omega arith) (sym (test (c .before)) ∙ w .0 .left) _ (w .2 .ensures)))
     (c .if1 .came)
 
 -- src/rows.rt:98:1

@@ -1,0 +1,31 @@
+use mathlib.Core.Path.{_≡_, sym, ap, ap₂, _∙_}
+use mathlib.Core.Bool.{_||_}
+use lib.Dec.{eqb}
+use lib.ListN.{length}
+use borrow.Author.Tests.{eq-eqb, ne-eqb}
+use Rattle.shape.proofs.Bools.{or-left}
+use Rattle.meaning.specs.Terms.{ones}
+use borrow.Author.Needs.{needs}
+use Rattle.masks.proofs.expand_fits.Statement.{statement}
+use Rattle.masks.proofs.expand_fits.Tie as tie
+use Rattle.masks.proofs.expand_fits.Reads as reads
+use Rattle.masks.proofs.expand_fits.Lts as lts
+use Rattle.masks.proofs.count_ones.Reads as count-ones-reads
+
+-- src/lib.rt:118:9
+returns : tie.Need-returns
+returns c = sym (or-left _ _ (eq-eqb (c .before .args .rank) 0 (c .if1 .taken)))
+
+-- src/lib.rt:120:9
+count-ones-requires : tie.Need-count-ones-requires
+count-ones-requires c κs = search needs
+
+-- src/lib.rt:114:1
+returns-2 : tie.Need-returns-2
+returns-2 c =
+    let a = c .before .before .args in
+    ap (λ x. eqb x (a .n)) (c .count-ones .ensures)
+    ∙ ap (λ b. b || eqb (length (ones (a .l .now))) (a .n)) (sym (ne-eqb (a .rank) 0 (c .before .if1 .left)))
+
+pub expand-fits-spec : {M : Type 1} → statement M
+expand-fits-spec = tie.close (tie.spec returns count-ones-requires returns-2)

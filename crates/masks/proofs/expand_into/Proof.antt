@@ -1,0 +1,66 @@
+use borrow.Author.Needs.{needs, sfits-of}
+use mathlib.Core.Path.{_≡_, refl, sym, ap, _∙_}
+use mathlib.Core.List.{_++_}
+use native.Mathlib.Omega.{arith}
+use lib.IntN.{pos}
+use lib.ListN.{length, getD, drop}
+use Rattle.shape.specs.Shape.{maxRank}
+use Rattle.signed.proofs.Reading.{read32}
+use Rattle.masks.proofs.Expanding.{scalar-first, scalar-room, scalar-out, array-along, array-elements}
+use borrow.Author.Needs.{needs}
+use Rattle.masks.proofs.expand_into.Statement.{statement}
+use Rattle.masks.proofs.expand_into.Tie as tie
+use Rattle.masks.proofs.expand_into.Reads as reads
+use Rattle.masks.proofs.expand_into.Lts as lts
+use Rattle.masks.proofs.lines.Reads as lines-reads
+use Rattle.masks.proofs.rows.spread.Reads as spread-reads
+
+long : (st : tie.Start) → length (st .args .s .lens) ≡ maxRank
+long st = search needs
+
+-- src/lib.rt:282:22
+shared-slice-copy-out-spread : tie.Need-shared-slice-copy-out-spread
+shared-slice-copy-out-spread c = let st = c .before in scalar-first _ _ _ _ _ _ _ (st .pre) (long st) (c .if1 .taken)
+
+-- src/lib.rt:282:9
+spread-requires : tie.Need-spread-requires
+spread-requires c κs = let st = c .before .before .before in scalar-room _ _ _ _ _ _ _ (st .pre) (long st) (c .before .before .if1 .taken)
+
+-- src/lib.rt:284:9
+lines-requires : tie.Need-lines-requires
+lines-requires c κs = let st = c .before .before in array-along _ _ _ _ _ _ _ (st .pre) (long st) (c .before .if1 .left)
+
+-- src/lib.rt:269:1
+same-length : tie.Need-same-length
+same-length c = search needs
+
+-- src/lib.rt:269:1
+returns : tie.Need-returns
+returns c =
+    let e = c .before .before .before .before in
+    let st = e .before in
+    scalar-out _ _ _ _ _ _ _ (st .pre) (long st) (e .if1 .taken) (st .args .out .now) _ _
+    (read32 (getD (st .args .r .now) 0 (pos 0)) (sfits-of (c .before .before .before .spread-arg .given))) (c .before .spread .ensures)
+
+-- src/lib.rt:269:1
+same-length-2 : tie.Need-same-length-2
+same-length-2 c = search needs
+
+-- src/lib.rt:269:1
+returns-2 : tie.Need-returns-2
+returns-2 c =
+    let e = c .before .before .before in
+    let st = e .before in
+    c .before .lines .ensures ∙ ap (λ x. x ++ drop (st .args .total) (st .args .out .now)) (array-elements _ _ _ _ _ _ _ (st .pre) (long st) (e .if1 .left))
+
+pub expand-into-spec : {M : Type 1} → statement M
+expand-into-spec =
+    tie.close
+    (tie.spec
+    shared-slice-copy-out-spread
+    spread-requires
+    lines-requires
+    same-length
+    returns
+    same-length-2
+    returns-2)

@@ -1,0 +1,123 @@
+use borrow.Author.Needs.{needs, sfits-of}
+use native.Mathlib.Omega.{arith}
+use Prim.Native.Nat.{_+_, _-_, _≤_}
+use mathlib.Core.Path.{_≡_, refl, sym, ap, _∙_}
+use mathlib.Core.Bool.{true, false, cond}
+use mathlib.Core.Logic.{⊎-elim}
+use lib.Dec.{lit<}
+use lib.IntN.{pos}
+use lib.ListN.{length, getD, length-set}
+use mir.Syntax.{w32}
+use mir.Val.{toZ, ofZ}
+use borrow.Author.Tests.{eq-eqb, ne-eqb}
+use Rattle.meaning.specs.Terms.{eqZ}
+use Rattle.signed.proofs.Reading.{read32}
+use Rattle.signed.proofs.Equal.{eqZ-key}
+use Rattle.copying.proofs.Runs.{filled, filled-none, filled-one}
+use Rattle.masks.proofs.rows.spread.Statement.{statement}
+use Rattle.masks.proofs.rows.spread.Tie as tie
+use Rattle.masks.proofs.rows.spread.Reads as reads
+use Rattle.masks.proofs.rows.spread.Lts as lts
+
+abbrev Inv-loop : tie.InvT-loop
+Inv-loop x l out₀ i₀ out i = (i ≤ length l) × ((length out ≡ length out₀) × (out ≡ filled (λ j. cond (eqZ (getD l j (pos 0)) (pos 1)) (toZ w32 x) (pos 0)) i out₀))
+
+abbrev μ-loop : tie.MeasureT-loop
+μ-loop x l out₀ i₀ out i = length l - i
+
+-- What the test tells of the mask's element.
+one : (c : tie.Then1 Inv-loop μ-loop) → eqZ (getD (c .before .before .before .before .args .l .now) (c .before .before .before .loop .i) (pos 0)) (pos 1) ≡ true
+one c = sym (eqZ-key _ 1 (sfits-of (c .before .if12 .given)) (lit< tt)) ∙ eq-eqb _ 1 (c .if1 .taken)
+
+other : (c : tie.Else1 Inv-loop μ-loop) → eqZ (getD (c .before .before .before .before .args .l .now) (c .before .before .before .loop .i) (pos 0)) (pos 1) ≡ false
+other c = sym (eqZ-key _ 1 (sfits-of (c .before .if12 .given)) (lit< tt)) ∙ ne-eqb _ 1 (c .if1 .left)
+
+-- src/rows.rt:134:5
+loop-holds : tie.Need-loop-holds Inv-loop μ-loop
+loop-holds c = (omega arith, (refl, filled-none _ _))
+
+-- src/rows.rt:135:12
+mul-if1 : tie.Need-mul-if1 Inv-loop μ-loop
+mul-if1 c = search needs
+
+-- src/rows.rt:135:12
+shared-slice-copy-out-if1 : tie.Need-shared-slice-copy-out-if1 Inv-loop μ-loop
+shared-slice-copy-out-if1 c = search needs
+
+-- src/rows.rt:136:13
+mul-x : tie.Need-mul-x Inv-loop μ-loop
+mul-x c = search needs
+
+-- src/rows.rt:136:13
+slice-set-from-x : tie.Need-slice-set-from-x Inv-loop μ-loop
+slice-set-from-x c = search needs
+
+-- src/rows.rt:138:13
+mul-out : tie.Need-mul-out Inv-loop μ-loop
+mul-out c = search needs
+
+-- src/rows.rt:138:13
+slice-set-of-out : tie.Need-slice-set-of-out Inv-loop μ-loop
+slice-set-of-out c = search needs
+
+-- src/rows.rt:140:9
+add-i : tie.Need-add-i Inv-loop μ-loop
+add-i c = search needs
+
+-- src/rows.rt:134:5
+loop-less : tie.Need-loop-less Inv-loop μ-loop
+loop-less c = search needs
+
+-- src/rows.rt:134:5
+loop-again : tie.Need-loop-again Inv-loop μ-loop
+loop-again c =
+    let st = c .before .before .before .before in
+    let lp = c .before .before .before .loop in
+    let x = toZ w32 (ofZ w32 (st .args .x)) in (
+      omega arith,
+      ⊎-elim
+          (λ w.
+          rw (w .1) (
+            simp length-set (lp .inv .1 .0),
+            rw (lp .inv .1 .1) (filled-one _ (pos 0) _ (lp .i) (st .args .out .now) (omega arith) (sym (ap (λ b. cond b x (pos 0)) (one (record { before = c .before; if1 = w .0 }))))),
+          ))
+          (λ w.
+          rw (w .1) (
+            simp length-set (lp .inv .1 .0),
+            rw (lp .inv .1 .1) (filled-one _ (pos 0) _ (lp .i) (st .args .out .now) (omega arith) (sym (ap (λ b. cond b x (pos 0)) (other (record { before = c .before; if1 = w .0 }))))),
+          ))
+          (c .if1 .came),
+    )
+
+-- src/rows.rt:126:1
+same-length : tie.Need-same-length Inv-loop μ-loop
+same-length c = c .before .loop .inv .1 .0
+
+-- src/rows.rt:126:1
+returns : tie.Need-returns Inv-loop μ-loop
+returns c =
+    let st = c .before .before in
+    let a = st .args in
+    let e : c .before .loop .i ≡ length (a .l .now) = omega arith in
+    c .before .loop .inv .1 .1
+    ∙ ap (λ y. filled (λ j. cond (eqZ (getD (a .l .now) j (pos 0)) (pos 1)) y (pos 0)) (c .before .loop .i) (a .out .now)) (read32 (a .x) (st .fits .x))
+    ∙ ap (λ y. filled (λ j. cond (eqZ (getD (a .l .now) j (pos 0)) (pos 1)) (a .x) (pos 0)) y (a .out .now)) e
+
+pub spread-spec : {M : Type 1} → statement M
+spread-spec =
+    tie.close
+    (tie.spec
+    Inv-loop
+    μ-loop
+    loop-holds
+    mul-if1
+    shared-slice-copy-out-if1
+    mul-x
+    slice-set-from-x
+    mul-out
+    slice-set-of-out
+    add-i
+    loop-less
+    loop-again
+    same-length
+    returns)
