@@ -43,11 +43,6 @@ at-least (suc n) c h = omega arith
 abbrev Each : List ℕ → Type 0
 Each ns = (i : ℕ) → i < length ns → 0 < getD ns i 0
 
-pub count-pos : (ns : List ℕ) → Each ns → 0 < count ns
-unfolding count
-count-pos [] h = omega arith
-count-pos (n ∷ ns) h = omega (arith, h 0 (omega arith), count-pos ns (λ i l. h (suc i) (omega arith)), at-least n (count ns) (h 0 (omega arith)))
-
 count-drop : (ns : List ℕ) (i : ℕ) → Each ns → count (drop i ns) ≤ count ns
 unfolding count
 count-drop ns zero h = omega arith

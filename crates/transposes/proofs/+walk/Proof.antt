@@ -62,7 +62,6 @@ turn t c =
       k .from (c .before .loop .i) (omega arith),
     )
 
--- src/lib.rt:43:9
 walk-line-requires : (t : ℕ) → walk-lts.Need-line-requires (
   line-reads.Asked,
   line-reads.Learnt,
@@ -71,7 +70,6 @@ walk-line-requires : (t : ℕ) → walk-lts.Need-line-requires (
 ) (walk-at t) walk.Post walk-Inv-loop walk-μ-loop
 walk-line-requires t c κs = reach-one _ _ _ _ _ (c .before .before .before .before .pre .1) (c .before .if1 .taken)
 
--- src/lib.rt:44:9
 walk-same-length : (t : ℕ) → walk-lts.Need-same-length (
   line-reads.Asked,
   line-reads.Learnt,
@@ -80,7 +78,6 @@ walk-same-length : (t : ℕ) → walk-lts.Need-same-length (
 ) (walk-at t) walk.Post walk-Inv-loop walk-μ-loop
 walk-same-length t c = search needs
 
--- src/lib.rt:44:9
 walk-returns : (t : ℕ) → walk-lts.Need-returns (
   line-reads.Asked,
   line-reads.Learnt,
@@ -91,7 +88,6 @@ walk-returns t c =
     let s = c .before .before .before .before .before .before in
     c .before .line .ensures ∙ walked-one _ _ _ _ _ _ (s .pre .1) (c .before .before .before .if1 .taken)
 
--- src/lib.rt:46:13
 walk-shared-slice-read-n : (t : ℕ) → walk-lts.Need-shared-slice-read-n (
   line-reads.Asked,
   line-reads.Learnt,
@@ -100,7 +96,6 @@ walk-shared-slice-read-n : (t : ℕ) → walk-lts.Need-shared-slice-read-n (
 ) (walk-at t) walk.Post walk-Inv-loop walk-μ-loop
 walk-shared-slice-read-n t c = search needs
 
--- src/lib.rt:47:18
 walk-shared-slice-read-stride : (t : ℕ) → walk-lts.Need-shared-slice-read-stride (
   line-reads.Asked,
   line-reads.Learnt,
@@ -109,7 +104,6 @@ walk-shared-slice-read-stride : (t : ℕ) → walk-lts.Need-shared-slice-read-st
 ) (walk-at t) walk.Post walk-Inv-loop walk-μ-loop
 walk-shared-slice-read-stride t c = omega (arith, c .before .before .before .before .before .pre .1 .axes)
 
--- src/lib.rt:49:9
 walk-line-requires-2 : (t : ℕ) → walk-lts.Need-line-requires-2 (
   line-reads.Asked,
   line-reads.Learnt,
@@ -118,7 +112,6 @@ walk-line-requires-2 : (t : ℕ) → walk-lts.Need-line-requires-2 (
 ) (walk-at t) walk.Post walk-Inv-loop walk-μ-loop
 walk-line-requires-2 t c κs = reach-line _ _ _ _ _ (c .before .before .before .before .before .before .before .pre .1) (c .before .if2 .taken)
 
--- src/lib.rt:50:9
 walk-same-length-2 : (t : ℕ) → walk-lts.Need-same-length-2 (
   line-reads.Asked,
   line-reads.Learnt,
@@ -127,7 +120,6 @@ walk-same-length-2 : (t : ℕ) → walk-lts.Need-same-length-2 (
 ) (walk-at t) walk.Post walk-Inv-loop walk-μ-loop
 walk-same-length-2 t c = search needs
 
--- src/lib.rt:50:9
 walk-returns-2 : (t : ℕ) → walk-lts.Need-returns-2 (
   line-reads.Asked,
   line-reads.Learnt,
@@ -138,7 +130,6 @@ walk-returns-2 t c =
     let s = c .before .before .before .before .before .before .before .before .before in
     c .before .line2 .ensures ∙ walked-line _ _ _ _ _ _ (s .pre .1) (c .before .before .before .if2 .taken)
 
--- src/lib.rt:52:16
 walk-div-size : (t : ℕ) → walk-lts.Need-div-size (
   line-reads.Asked,
   line-reads.Learnt,
@@ -147,7 +138,6 @@ walk-div-size : (t : ℕ) → walk-lts.Need-div-size (
 ) (walk-at t) walk.Post walk-Inv-loop walk-μ-loop
 walk-div-size t c = known t c .first
 
--- src/lib.rt:54:5
 walk-loop-holds : (t : ℕ) → walk-lts.Need-loop-holds (
   line-reads.Asked,
   line-reads.Learnt,
@@ -156,7 +146,6 @@ walk-loop-holds : (t : ℕ) → walk-lts.Need-loop-holds (
 ) (walk-at t) walk.Post walk-Inv-loop walk-μ-loop
 walk-loop-holds t c = (omega arith, (refl, filled-zero _ _ _))
 
--- src/lib.rt:55:25
 walk-mul-from : (t : ℕ) → walk-lts.Need-mul-from (
   line-reads.Asked,
   line-reads.Learnt,
@@ -165,7 +154,6 @@ walk-mul-from : (t : ℕ) → walk-lts.Need-mul-from (
 ) (walk-at t) walk.Post walk-Inv-loop walk-μ-loop
 walk-mul-from t c = omega (arith, turn t c .1)
 
--- src/lib.rt:55:20
 walk-add-from : (t : ℕ) → walk-lts.Need-add-from (
   line-reads.Asked,
   line-reads.Learnt,
@@ -174,7 +162,6 @@ walk-add-from : (t : ℕ) → walk-lts.Need-add-from (
 ) (walk-at t) walk.Post walk-Inv-loop walk-μ-loop
 walk-add-from t c = omega (arith, turn t c .1)
 
--- src/lib.rt:56:21
 walk-mul-start : (t : ℕ) → walk-lts.Need-mul-start (
   line-reads.Asked,
   line-reads.Learnt,
@@ -183,7 +170,6 @@ walk-mul-start : (t : ℕ) → walk-lts.Need-mul-start (
 ) (walk-at t) walk.Post walk-Inv-loop walk-μ-loop
 walk-mul-start t c = omega (arith, turn t c .0)
 
--- src/lib.rt:57:19
 walk-add-end : (t : ℕ) → walk-lts.Need-add-end (
   line-reads.Asked,
   line-reads.Learnt,
@@ -192,7 +178,6 @@ walk-add-end : (t : ℕ) → walk-lts.Need-add-end (
 ) (walk-at t) walk.Post walk-Inv-loop walk-μ-loop
 walk-add-end t c = omega (arith, turn t c .0)
 
--- src/lib.rt:58:14
 walk-sub-walk : (t : ℕ) → walk-lts.Need-sub-walk (
   line-reads.Asked,
   line-reads.Learnt,
@@ -201,7 +186,6 @@ walk-sub-walk : (t : ℕ) → walk-lts.Need-sub-walk (
 ) (walk-at t) walk.Post walk-Inv-loop walk-μ-loop
 walk-sub-walk t c = search needs
 
--- src/lib.rt:58:14
 walk-part-walk-start : (t : ℕ) → walk-lts.Need-part-walk-start (
   line-reads.Asked,
   line-reads.Learnt,
@@ -210,7 +194,6 @@ walk-part-walk-start : (t : ℕ) → walk-lts.Need-part-walk-start (
 ) (walk-at t) walk.Post walk-Inv-loop walk-μ-loop
 walk-part-walk-start t c = search needs
 
--- src/lib.rt:58:14
 walk-part-walk-end : (t : ℕ) → walk-lts.Need-part-walk-end (
   line-reads.Asked,
   line-reads.Learnt,
@@ -219,7 +202,6 @@ walk-part-walk-end : (t : ℕ) → walk-lts.Need-part-walk-end (
 ) (walk-at t) walk.Post walk-Inv-loop walk-μ-loop
 walk-part-walk-end t c = search needs
 
--- src/lib.rt:58:30
 walk-sub-walk-2 : (t : ℕ) → walk-lts.Need-sub-walk-2 (
   line-reads.Asked,
   line-reads.Learnt,
@@ -228,7 +210,6 @@ walk-sub-walk-2 : (t : ℕ) → walk-lts.Need-sub-walk-2 (
 ) (walk-at t) walk.Post walk-Inv-loop walk-μ-loop
 walk-sub-walk-2 t c = search needs
 
--- src/lib.rt:58:30
 walk-part-walk-start-2 : (t : ℕ) → walk-lts.Need-part-walk-start-2 (
   line-reads.Asked,
   line-reads.Learnt,
@@ -237,7 +218,6 @@ walk-part-walk-start-2 : (t : ℕ) → walk-lts.Need-part-walk-start-2 (
 ) (walk-at t) walk.Post walk-Inv-loop walk-μ-loop
 walk-part-walk-start-2 t c = search needs
 
--- src/lib.rt:58:30
 walk-part-walk-end-2 : (t : ℕ) → walk-lts.Need-part-walk-end-2 (
   line-reads.Asked,
   line-reads.Learnt,
@@ -246,7 +226,6 @@ walk-part-walk-end-2 : (t : ℕ) → walk-lts.Need-part-walk-end-2 (
 ) (walk-at t) walk.Post walk-Inv-loop walk-μ-loop
 walk-part-walk-end-2 t c = omega (arith, c .before .before .before .before .before .before .before .before .before .pre .1 .axes)
 
--- src/lib.rt:58:58
 walk-mul-walk : (t : ℕ) → walk-lts.Need-mul-walk (
   line-reads.Asked,
   line-reads.Learnt,
@@ -255,7 +234,6 @@ walk-mul-walk : (t : ℕ) → walk-lts.Need-mul-walk (
 ) (walk-at t) walk.Post walk-Inv-loop walk-μ-loop
 walk-mul-walk t c = omega (arith, turn t (c .before .before) .0)
 
--- src/lib.rt:58:58
 walk-sub-walk-3 : (t : ℕ) → walk-lts.Need-sub-walk-3 (
   line-reads.Asked,
   line-reads.Learnt,
@@ -264,7 +242,6 @@ walk-sub-walk-3 : (t : ℕ) → walk-lts.Need-sub-walk-3 (
 ) (walk-at t) walk.Post walk-Inv-loop walk-μ-loop
 walk-sub-walk-3 t c = search needs
 
--- src/lib.rt:58:58
 walk-part-walk-start-3 : (t : ℕ) → walk-lts.Need-part-walk-start-3 (
   line-reads.Asked,
   line-reads.Learnt,
@@ -273,7 +250,6 @@ walk-part-walk-start-3 : (t : ℕ) → walk-lts.Need-part-walk-start-3 (
 ) (walk-at t) walk.Post walk-Inv-loop walk-μ-loop
 walk-part-walk-start-3 t c = search needs
 
--- src/lib.rt:58:58
 walk-part-walk-end-3 : (t : ℕ) → walk-lts.Need-part-walk-end-3 (
   line-reads.Asked,
   line-reads.Learnt,
@@ -282,7 +258,6 @@ walk-part-walk-end-3 : (t : ℕ) → walk-lts.Need-part-walk-end-3 (
 ) (walk-at t) walk.Post walk-Inv-loop walk-μ-loop
 walk-part-walk-end-3 t c = omega (arith, turn t (c .before .before) .0, c .before .before .before .loop .inv .1 .0)
 
--- src/lib.rt:58:9
 walk-walk-requires : (t : ℕ) → walk-lts.Need-walk-requires (
   line-reads.Asked,
   line-reads.Learnt,
@@ -298,7 +273,6 @@ walk-walk-requires t c κs =
       k .inner (lp .i) _ (omega arith) (part-room (lp .out) _ _ _ (lp .inv .1 .0) (turn t l .0) ∙ k .size),
     )
 
--- src/lib.rt:59:9
 walk-add-i : (t : ℕ) → walk-lts.Need-add-i (
   line-reads.Asked,
   line-reads.Learnt,
@@ -309,7 +283,6 @@ walk-add-i t c =
     let l = c .before .before .before .before .before in
     omega (arith, l .loop-test, known t (l .before .before) .few)
 
--- src/lib.rt:54:5
 walk-loop-less : (t : ℕ) → walk-lts.Need-loop-less (
   line-reads.Asked,
   line-reads.Learnt,
@@ -318,7 +291,6 @@ walk-loop-less : (t : ℕ) → walk-lts.Need-loop-less (
 ) (walk-at t) walk.Post walk-Inv-loop walk-μ-loop
 walk-loop-less t c = search needs
 
--- src/lib.rt:54:5
 walk-loop-again : (t : ℕ) → walk-lts.Need-loop-again (
   line-reads.Asked,
   line-reads.Learnt,
@@ -334,7 +306,6 @@ walk-loop-again t c =
     let more = walked-more (a .lens .now) (a .strides .now) (a .r .now) (lp .out) (a .out .now) _ (a .at) (lp .i) _ _ (omega arith) (s .pre .1 .axes) (k .size) (lp .inv .1 .1) refl (c .before .walk .ensures) in
     (omega arith, (ap length more ∙ length-filled _ _ (a .out .now) (omega (arith, turn t l .0)), more))
 
--- src/lib.rt:37:1
 walk-same-length-3 : (t : ℕ) → walk-lts.Need-same-length-3 (
   line-reads.Asked,
   line-reads.Learnt,
@@ -343,7 +314,6 @@ walk-same-length-3 : (t : ℕ) → walk-lts.Need-same-length-3 (
 ) (walk-at t) walk.Post walk-Inv-loop walk-μ-loop
 walk-same-length-3 t c = search needs
 
--- src/lib.rt:37:1
 walk-returns-3 : (t : ℕ) → walk-lts.Need-returns-3 (
   line-reads.Asked,
   line-reads.Learnt,

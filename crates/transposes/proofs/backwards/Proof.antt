@@ -16,41 +16,32 @@ Inv-loop rank to₀ i₀ to i = (i ≤ rank) × (to ≡ take i (backwards rank) 
 abbrev μ-loop : tie.MeasureT-loop
 μ-loop rank to₀ i₀ to i = rank - i
 
--- src/lib.rt:78:5
 loop-holds : tie.Need-loop-holds Inv-loop μ-loop
 loop-holds c = search needs
 
--- src/lib.rt:79:17
 sub-to : tie.Need-sub-to Inv-loop μ-loop
 sub-to c = search needs
 
--- src/lib.rt:79:17
 sub-to-2 : tie.Need-sub-to-2 Inv-loop μ-loop
 sub-to-2 c = search needs
 
--- src/lib.rt:79:9
 mul-to : tie.Need-mul-to Inv-loop μ-loop
 mul-to c = search needs
 
--- src/lib.rt:79:9
 array-write-to : tie.Need-array-write-to Inv-loop μ-loop
 array-write-to c = search needs
 
--- src/lib.rt:80:9
 add-i : tie.Need-add-i Inv-loop μ-loop
 add-i c = search needs
 
--- src/lib.rt:78:5
 loop-less : tie.Need-loop-less Inv-loop μ-loop
 loop-less c = search needs
 
--- src/lib.rt:78:5
 loop-again : tie.Need-loop-again Inv-loop μ-loop
 loop-again c =
     let lp = c .before .loop in
     (omega arith, rw (lp .inv .1) (backwards-more (c .before .before .args .rank) (lp .i) (omega arith) (omega arith)))
 
--- src/lib.rt:72:1
 returns : tie.Need-returns Inv-loop μ-loop
 returns c =
     let e : c .before .loop .i ≡ c .before .before .args .rank = omega arith in

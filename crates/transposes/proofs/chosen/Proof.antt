@@ -35,44 +35,34 @@ named c =
     let e : toZ w32 (ofZ w32 x) ≡ x = toZ-ofZ (sfits-of (c .before .position-arg .given)) in
     c .position .ensures ∙ ap (axisOf (toZ w32 (ofZ w32 (s .args .g))) (length (s .args .l .now))) e
 
--- src/lib.rt:100:5
 loop-holds : tie.Need-loop-holds Inv-loop μ-loop
 unfolding axesTo
 loop-holds c = search needs
 
--- src/lib.rt:101:34
 mul-position : tie.Need-mul-position Inv-loop μ-loop
 mul-position c = search needs
 
--- src/lib.rt:101:34
 shared-slice-copy-out-position : tie.Need-shared-slice-copy-out-position Inv-loop μ-loop
 shared-slice-copy-out-position c = search needs
 
--- src/lib.rt:101:13
 position-requires : tie.Need-position-requires Inv-loop μ-loop
 position-requires c κs = search needs
 
--- src/lib.rt:102:9
 mul-to : tie.Need-mul-to Inv-loop μ-loop
 mul-to c = search needs
 
--- src/lib.rt:102:9
 array-write-to : tie.Need-array-write-to Inv-loop μ-loop
 array-write-to c = search needs
 
--- src/lib.rt:104:20
 add-axes : tie.Need-add-axes Inv-loop μ-loop
 add-axes c = omega (arith, named (c .before), axis-le (toZ w32 (ofZ w32 (c .before .before .before .before .before .args .g))) (length (c .before .before .before .before .before .args .l .now)) (getD (c .before .before .before .before .before .args .l .now) (c .before .before .before .before .loop .i) (pos 0)))
 
--- src/lib.rt:106:9
 add-i : tie.Need-add-i Inv-loop μ-loop
 add-i c = search needs
 
--- src/lib.rt:100:5
 loop-less : tie.Need-loop-less Inv-loop μ-loop
 loop-less c = search needs
 
--- src/lib.rt:100:5
 loop-again : tie.Need-loop-again Inv-loop μ-loop
 loop-again c =
     let s = c .before .before .before .before .before in
@@ -88,7 +78,6 @@ loop-again c =
       ),
     )
 
--- src/lib.rt:92:1
 returns : tie.Need-returns Inv-loop μ-loop
 returns c =
     let s = c .before .before in

@@ -27,57 +27,44 @@ axis c =
     let s = c .before .before in
     omega (arith, s .pre .high, sends-lt (s .args .t1) (s .args .t2 .rank) (c .before .loop .i - 1) (s .pre) (longs s .0) (omega arith))
 
--- src/lib.rt:116:21
 add-lens : tie.Need-add-lens Inv-loop μ-loop
 add-lens c = search needs
 
--- src/lib.rt:118:5
 loop-holds : tie.Need-loop-holds Inv-loop μ-loop
 loop-holds c =
     let l = longs c in
     (omega arith, shortest-none maxRank (c .args .t2 .rank) (c .args .t1) (c .args .t2 .lens) (l .0) (l .1))
 
--- src/lib.rt:119:9
 sub-i : tie.Need-sub-i Inv-loop μ-loop
 sub-i c = search needs
 
--- src/lib.rt:120:17
 mul-t : tie.Need-mul-t Inv-loop μ-loop
 mul-t c = search needs
 
--- src/lib.rt:120:17
 array-read-t : tie.Need-array-read-t Inv-loop μ-loop
 array-read-t c = search needs
 
--- src/lib.rt:121:17
 mul-n : tie.Need-mul-n Inv-loop μ-loop
 mul-n c = search needs
 
--- src/lib.rt:121:17
 element-copy-out-n : tie.Need-element-copy-out-n Inv-loop μ-loop
 element-copy-out-n c = search needs
 
--- src/lib.rt:122:16
 mul-if1 : tie.Need-mul-if1 Inv-loop μ-loop
 mul-if1 c = omega (arith, axis (c .before))
 
--- src/lib.rt:122:16
 array-read-if1 : tie.Need-array-read-if1 Inv-loop μ-loop
 array-read-if1 c = axis (c .before)
 
--- src/lib.rt:123:13
 mul-lens : tie.Need-mul-lens Inv-loop μ-loop
 mul-lens c = omega (arith, axis (c .before .before))
 
--- src/lib.rt:123:13
 array-write-lens : tie.Need-array-write-lens Inv-loop μ-loop
 array-write-lens c = axis (c .before .before)
 
--- src/lib.rt:118:5
 loop-less : tie.Need-loop-less Inv-loop μ-loop
 loop-less c = search needs
 
--- src/lib.rt:118:5
 loop-again : tie.Need-loop-again Inv-loop μ-loop
 loop-again c =
     let s = c .before .before .before .before in
@@ -85,11 +72,9 @@ loop-again c =
     let l = longs s in
     (omega arith, shorter maxRank (s .args .t2 .rank) (s .args .t1) (s .args .t2 .lens) (l .0) (l .1) (lp .i) (lp .i - 1) (omega arith) (lp .inv .0) (lp .lens) (lp .inv .1) (omega arith))
 
--- src/lib.rt:118:5
 loop-less-2 : tie.Need-loop-less-2 Inv-loop μ-loop
 loop-less-2 c = search needs
 
--- src/lib.rt:118:5
 loop-again-2 : tie.Need-loop-again-2 Inv-loop μ-loop
 loop-again-2 c =
     let s = c .before .before .before .before in
@@ -97,7 +82,6 @@ loop-again-2 c =
     let l = longs s in
     (omega arith, not-shorter maxRank (s .args .t2 .rank) (s .args .t1) (s .args .t2 .lens) (l .0) (l .1) (lp .i) (lp .i - 1) (omega arith) (lp .inv .0) (lp .lens) (lp .inv .1) (omega arith))
 
--- src/lib.rt:112:1
 returns : tie.Need-returns Inv-loop μ-loop
 returns c =
     let e : c .before .loop .i ≡ 0 = omega arith in

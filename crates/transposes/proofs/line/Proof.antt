@@ -14,50 +14,39 @@ ends c =
     let one : c .before .args .stride ≡ 1 = c .if1 .taken in
     omega (arith, rw one at (c .before .pre .1 (n - 1) (omega (arith, c .before .pre .0))), c .before .pre .0)
 
--- src/lib.rt:29:19
 add-end : tie.Need-add-end
 add-end c = omega (arith, ends c)
 
--- src/lib.rt:30:27
 mul-copy-run : tie.Need-mul-copy-run
 mul-copy-run c = omega (arith, ends c)
 
--- src/lib.rt:30:27
 sub-copy-run : tie.Need-sub-copy-run
 sub-copy-run c = search needs
 
--- src/lib.rt:30:27
 part-copy-run-start : tie.Need-part-copy-run-start
 part-copy-run-start c = search needs
 
--- src/lib.rt:30:27
 part-copy-run-end : tie.Need-part-copy-run-end
 part-copy-run-end c = ends c
 
--- src/lib.rt:30:9
 copy-run-requires : tie.Need-copy-run-requires
 copy-run-requires c κs = search needs
 
--- src/lib.rt:31:9
 same-length : tie.Need-same-length
 same-length c = search needs
 
--- src/lib.rt:31:9
 returns : tie.Need-returns
 returns c =
     let t = c .before .before .before .before in
     let a = t .before .args in
     run-spaced (a .r .now) (a .out .now) _ (a .at) (a .stride) _ (t .if1 .taken) refl (ends t) (c .before .copy-run .ensures)
 
--- src/lib.rt:33:5
 spread-requires : tie.Need-spread-requires
 spread-requires c κs = search needs
 
--- src/lib.rt:24:1
 same-length-2 : tie.Need-same-length-2
 same-length-2 c = search needs
 
--- src/lib.rt:24:1
 returns-2 : tie.Need-returns-2
 returns-2 c = search needs
 

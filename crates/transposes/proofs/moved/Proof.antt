@@ -18,55 +18,45 @@ longs c =
     let ls : length (c .args .shape .lens) ≡ maxRank = search needs in
     (lr, (length-take-le (c .args .rs .rank) (c .args .to) (omega (arith, c .pre .sends .high)), ls))
 
--- src/lib.rt:152:9
 refused-requires : tie.Need-refused-requires
 refused-requires c κs = search needs
 
--- src/lib.rt:152:9
 returns : tie.Need-returns
 returns c =
     let s = c .before .before in
     let l = longs s in
     moved-refused (take (s .args .rs .rank) (s .args .to)) (s .args .shape) (s .args .count) (s .args .rs) (s .args .r .now) (s .args .out .now) (l .0) (l .1 .0) (s .pre) (c .refused .result) (omega arith) (c .refused .ensures)
 
--- src/lib.rt:155:9
 returns-2 : tie.Need-returns-2
 returns-2 c =
     let s = c .before .before in
     let l = longs s in
     moved-given (take (s .args .rs .rank) (s .args .to)) (s .args .shape) (s .args .count) (s .args .rs) (s .args .r .now) (s .args .out .now) (l .0) (l .1 .0) (s .pre) (s .args .out .now) (omega arith) (moved-none (take (s .args .rs .rank) (s .args .to)) (s .args .shape) (s .args .count) (s .args .rs) (s .args .r .now) (s .args .out .now) (l .0) (l .1 .0) (s .pre) (omega arith))
 
--- src/lib.rt:159:17
 strides-requires : tie.Need-strides-requires
 strides-requires c κs =
     let s = c .before .before .before in
     let l = longs s in
     (s .pre .sends, moved-positive (take (s .args .rs .rank) (s .args .to)) (s .args .shape) (s .args .count) (s .args .rs) (s .args .r .now) (s .args .out .now) (l .0) (l .1 .0) (s .pre) (omega arith))
 
--- src/lib.rt:160:10
 sub-walk : tie.Need-sub-walk
 sub-walk c = search needs
 
--- src/lib.rt:160:10
 part-walk-start : tie.Need-part-walk-start
 part-walk-start c = search needs
 
--- src/lib.rt:160:10
 part-walk-end : tie.Need-part-walk-end
 part-walk-end c =
     let s = c .before .before .before .before .before in
     let l = longs s in
     omega (arith, l .1 .1, axes-is (take (s .args .rs .rank) (s .args .to)) (s .args .shape) (s .args .count) (s .args .rs) (s .args .r .now) (s .args .out .now) (l .0) (l .1 .0) (s .pre), s .pre .sends .below, s .pre .sends .high)
 
--- src/lib.rt:160:26
 sub-walk-2 : tie.Need-sub-walk-2
 sub-walk-2 c = search needs
 
--- src/lib.rt:160:26
 part-walk-start-2 : tie.Need-part-walk-start-2
 part-walk-start-2 c = search needs
 
--- src/lib.rt:160:26
 part-walk-end-2 : tie.Need-part-walk-end-2
 part-walk-end-2 c =
     let s = c .before .before .before .before .before .before .before in
@@ -74,19 +64,15 @@ part-walk-end-2 c =
     let w : length (c .before .before .before .strides .result) ≡ maxRank = search needs in
     omega (arith, axes-is (take (s .args .rs .rank) (s .args .to)) (s .args .shape) (s .args .count) (s .args .rs) (s .args .r .now) (s .args .out .now) (l .0) (l .1 .0) (s .pre), s .pre .sends .below, s .pre .sends .high)
 
--- src/lib.rt:160:49
 sub-walk-3 : tie.Need-sub-walk-3
 sub-walk-3 c = search needs
 
--- src/lib.rt:160:49
 part-walk-start-3 : tie.Need-part-walk-start-3
 part-walk-start-3 c = search needs
 
--- src/lib.rt:160:49
 part-walk-end-3 : tie.Need-part-walk-end-3
 part-walk-end-3 c = search needs
 
--- src/lib.rt:160:5
 walk-requires : tie.Need-walk-requires
 walk-requires c κs =
     let s = c .before .before .before .before .before .before .before .before .before in
@@ -94,11 +80,9 @@ walk-requires c κs =
     let room = length-take-le (s .args .count - 0) (s .args .out .now) (rw sub-zero (omega arith)) ∙ sub-zero (s .args .count) in
     moved-walk (take (s .args .rs .rank) (s .args .to)) (s .args .shape) (s .args .count) (s .args .rs) (s .args .r .now) (s .args .out .now) (l .0) (l .1 .0) (s .pre) _ _ (c .before .before .before .before .before .strides .ensures) (omega arith) room
 
--- src/lib.rt:147:1
 same-length : tie.Need-same-length
 same-length c = search needs
 
--- src/lib.rt:147:1
 returns-3 : tie.Need-returns-3
 returns-3 c =
     let s = c .before .before .before .before .before .before .before .before .before .before .before in

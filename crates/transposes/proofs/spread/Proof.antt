@@ -18,43 +18,33 @@ Inv-loop stride r at out₀ n i₀ out i = (i ≤ n) × ((length out ≡ length 
 abbrev μ-loop : tie.MeasureT-loop
 μ-loop stride r at out₀ n i₀ out i = n - i
 
--- src/lib.rt:16:5
 loop-holds : tie.Need-loop-holds Inv-loop μ-loop
 loop-holds c = (omega arith, (search needs, filled-none _ _))
 
--- src/lib.rt:17:25
 mul-from : tie.Need-mul-from Inv-loop μ-loop
 mul-from c = omega (arith, c .before .before .pre (c .before .loop .i) (omega arith))
 
--- src/lib.rt:17:20
 add-from : tie.Need-add-from Inv-loop μ-loop
 add-from c = omega (arith, c .before .before .pre (c .before .loop .i) (omega arith))
 
--- src/lib.rt:18:18
 mul-out : tie.Need-mul-out Inv-loop μ-loop
 mul-out c = omega (arith, c .before .before .pre (c .before .loop .i) (omega arith))
 
--- src/lib.rt:18:18
 shared-slice-copy-out-out : tie.Need-shared-slice-copy-out-out Inv-loop μ-loop
 shared-slice-copy-out-out c = omega (arith, c .before .before .pre (c .before .loop .i) (omega arith))
 
--- src/lib.rt:18:9
 mul-t12 : tie.Need-mul-t12 Inv-loop μ-loop
 mul-t12 c = search needs
 
--- src/lib.rt:18:9
 slice-set-from-out : tie.Need-slice-set-from-out Inv-loop μ-loop
 slice-set-from-out c = search needs
 
--- src/lib.rt:19:9
 add-i : tie.Need-add-i Inv-loop μ-loop
 add-i c = search needs
 
--- src/lib.rt:16:5
 loop-less : tie.Need-loop-less Inv-loop μ-loop
 loop-less c = search needs
 
--- src/lib.rt:16:5
 loop-again : tie.Need-loop-again Inv-loop μ-loop
 loop-again c =
     let s = c .before .before .before in
@@ -66,11 +56,9 @@ loop-again c =
       (simp length-set (lp .inv .1 .0), rw (e, lp .inv .1 .1) (filled-one _ (pos 0) _ (lp .i) (s .args .out .now) (omega arith) refl)),
     )
 
--- src/lib.rt:10:1
 same-length : tie.Need-same-length Inv-loop μ-loop
 same-length c = search needs
 
--- src/lib.rt:10:1
 returns : tie.Need-returns Inv-loop μ-loop
 returns c =
     let e : c .before .loop .i ≡ length (c .before .before .args .out .now) = omega arith in

@@ -38,33 +38,26 @@ next c =
     let l = longs s in
     step-more maxRank (s .args .t2 .rank) (s .args .t1) (s .args .t2 .lens) (l .0) (l .1) (lp .i) (lp .i - 1) (omega arith) (lp .inv .0) (lp .step) (lp .inv .1 .0)
 
--- src/lib.rt:137:5
 loop-holds : tie.Need-loop-holds Inv-loop μ-loop
 loop-holds c =
     let l = longs c in
     (omega arith, (count-none maxRank (c .args .t2 .rank) (c .args .t1) (c .args .t2 .lens) (l .0) (l .1), strides-none maxRank (c .args .t2 .rank) (c .args .t1) (c .args .t2 .lens) (l .0) (l .1)))
 
--- src/lib.rt:138:9
 sub-i : tie.Need-sub-i Inv-loop μ-loop
 sub-i c = search needs
 
--- src/lib.rt:139:17
 mul-t : tie.Need-mul-t Inv-loop μ-loop
 mul-t c = search needs
 
--- src/lib.rt:139:17
 array-read-t : tie.Need-array-read-t Inv-loop μ-loop
 array-read-t c = search needs
 
--- src/lib.rt:140:19
 mul-sums : tie.Need-mul-sums Inv-loop μ-loop
 mul-sums c = omega (arith, axis c)
 
--- src/lib.rt:140:19
 array-read-sums : tie.Need-array-read-sums Inv-loop μ-loop
 array-read-sums c = axis c
 
--- src/lib.rt:140:19
 add-sums : tie.Need-add-sums Inv-loop μ-loop
 add-sums c =
     let s = c .before .before in
@@ -78,23 +71,18 @@ add-sums c =
       lp .inv .1 .0,
     )
 
--- src/lib.rt:140:9
 mul-sums-2 : tie.Need-mul-sums-2 Inv-loop μ-loop
 mul-sums-2 c = omega (arith, axis c)
 
--- src/lib.rt:140:9
 array-write-sums : tie.Need-array-write-sums Inv-loop μ-loop
 array-write-sums c = axis c
 
--- src/lib.rt:141:23
 mul-step : tie.Need-mul-step Inv-loop μ-loop
 mul-step c = search needs
 
--- src/lib.rt:141:23
 element-copy-out-step : tie.Need-element-copy-out-step Inv-loop μ-loop
 element-copy-out-step c = search needs
 
--- src/lib.rt:141:16
 mul-step-2 : tie.Need-mul-step-2 Inv-loop μ-loop
 mul-step-2 c =
     let s = c .before .before .before in
@@ -102,11 +90,9 @@ mul-step-2 c =
     let l = longs s in
     omega (arith, next c, step-small maxRank (s .args .t2 .rank) (s .args .t1) (s .args .t2 .lens) (l .0) (l .1) (s .pre .1) (lp .i - 1))
 
--- src/lib.rt:137:5
 loop-less : tie.Need-loop-less Inv-loop μ-loop
 loop-less c = search needs
 
--- src/lib.rt:137:5
 loop-again : tie.Need-loop-again Inv-loop μ-loop
 loop-again c =
     let s = c .before .before .before in
@@ -119,7 +105,6 @@ loop-again c =
       ),
     )
 
--- src/lib.rt:130:1
 returns : tie.Need-returns Inv-loop μ-loop
 returns c =
     let e : c .before .loop .i ≡ 0 = omega arith in

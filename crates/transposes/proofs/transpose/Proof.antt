@@ -29,40 +29,32 @@ good c =
     let long : length (s .lens) ≡ maxRank = search needs in
     lent-good s (c .before .before .args .r .now) long (form c)
 
--- src/lib.rt:21:9
 early-one-requires : tie.Need-early-one-requires
 early-one-requires c κs = search needs
 
--- src/lib.rt:23:9
 refused-requires : tie.Need-refused-requires
 refused-requires c κs = search needs
 
--- src/lib.rt:23:9
 returns : tie.Need-returns
 returns c K L =
     let st = c .before .before .before in
     replied-refused (c .refused .result) _ (st .args .out .now) (c .refused .ensures)
     (early-reply (transpose-names (st .args .g) K L (lent (st .args .rs) (st .args .r .now))) (st .args .out .now) _ (early-is (c .before .before)) (c .before .if1 .taken))
 
--- src/lib.rt:26:9
 backwards-requires : tie.Need-backwards-requires
 backwards-requires c κs =
     good c .high
 
--- src/lib.rt:27:9
 lengths-requires : tie.Need-lengths-requires
 lengths-requires c κs =
     backwards-sends (c .before .before .before .args .rs) _ (c .backwards .ensures) (good (c .before) .high)
 
--- src/lib.rt:28:9
 of-lengths-requires : tie.Need-of-lengths-requires
 of-lengths-requires c κs = search needs
 
--- src/lib.rt:29:9
 count-requires : tie.Need-count-requires
 count-requires c κs = search needs
 
--- src/lib.rt:30:5
 moved-requires : tie.Need-moved-requires
 moved-requires c κs =
     let e = c .before .before .before .before .before in
@@ -70,11 +62,9 @@ moved-requires c κs =
     backwards-moves (s .args .rs) _ (c .before .before .before .before .backwards .ensures) (good e .high) (s .args .r .now) _ _ _ (form e) (good e)
     (c .before .before .before .lengths .ensures) (c .before .before .of-lengths .ensures) (c .before .count .ensures)
 
--- src/lib.rt:18:1
 same-length : tie.Need-same-length
 same-length c = search needs
 
--- src/lib.rt:18:1
 returns-2 : tie.Need-returns-2
 returns-2 c K L =
     let e = c .before .before .before .before .before .before .before in

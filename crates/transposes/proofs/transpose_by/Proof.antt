@@ -54,26 +54,21 @@ named c = rw (read32 _ (c .before .before .before .before .before .before .befor
 few : (c : tie.Else4) → c .before .chosen .result .axes ≤ c .before .before .before .before .before .before .before .before .before .args .rs .rank
 few c = omega arith
 
--- src/lib.rt:39:9
 early-two-requires : tie.Need-early-two-requires
 early-two-requires c κs = search needs
 
--- src/lib.rt:41:9
 refused-requires : tie.Need-refused-requires
 refused-requires c κs = search needs
 
--- src/lib.rt:41:9
 returns : tie.Need-returns
 returns c K =
     let a = c .before .before .before .args in
     replied-refused (c .refused .result) _ (a .out .now) (c .refused .ensures)
     (early-reply (by-names (a .g) K (lent (a .ls) (a .l .now)) (lent (a .rs) (a .r .now))) (a .out .now) _ (early-is (c .before .before)) (c .before .if1 .taken))
 
--- src/lib.rt:45:9
 refused-requires-2 : tie.Need-refused-requires-2
 refused-requires-2 c κs = search needs
 
--- src/lib.rt:45:9
 returns-2 : tie.Need-returns-2
 returns-2 c K =
     let e = c .before .before .before in
@@ -81,15 +76,12 @@ returns-2 c K =
     replied-refused (c .refused2 .result) _ (a .out .now) (c .refused2 .ensures)
     (own-reply (by-names (a .g) K (lent (a .ls) (a .l .now)) (lent (a .rs) (a .r .now))) (a .out .now) (fine e) _ (sym (sent-rank (a .g) (a .ls) (a .l .now) (a .rs) (a .r .now) (left e) (right e) (omega arith))) (λ z. omega arith))
 
--- src/lib.rt:47:8
 count-requires : tie.Need-count-requires
 count-requires c κs = search needs
 
--- src/lib.rt:48:9
 refused-requires-3 : tie.Need-refused-requires-3
 refused-requires-3 c κs = search needs
 
--- src/lib.rt:48:9
 returns-3 : tie.Need-returns-3
 returns-3 c K =
     let e = c .before .before .before .before .before in
@@ -97,15 +89,12 @@ returns-3 c K =
     replied-refused (c .refused3 .result) _ (a .out .now) (c .refused3 .ensures)
     (own-reply (by-names (a .g) K (lent (a .ls) (a .l .now)) (lent (a .rs) (a .r .now))) (a .out .now) (fine e) _ (sym (sent-length (a .g) (a .ls) (a .l .now) (a .rs) (a .r .now) (left e) (right e) (list (c .before .before .before)) _ (c .before .before .count .ensures) (c .before .if3 .taken))) (λ z. omega arith))
 
--- src/lib.rt:50:26
 sub-chosen : tie.Need-sub-chosen
 sub-chosen c = search needs
 
--- src/lib.rt:50:26
 part-chosen-start : tie.Need-part-chosen-start
 part-chosen-start c = search needs
 
--- src/lib.rt:50:26
 part-chosen-end : tie.Need-part-chosen-end
 part-chosen-end c =
     let n = c .before in
@@ -113,7 +102,6 @@ part-chosen-end c =
     let a = e .before .before .args in
     xs-room (a .g) (a .ls) (a .l .now) (a .rs) (a .r .now) (left e) (right e) (list (n .before)) _ (n .count .ensures) (c .if3 .left)
 
--- src/lib.rt:50:9
 chosen-requires : tie.Need-chosen-requires
 chosen-requires c κs =
     let n = c .before .before in
@@ -121,11 +109,9 @@ chosen-requires c κs =
     let a = e .before .before .args in
     omega (arith, xs-length (a .g) (a .ls) (a .l .now) (a .rs) (a .r .now) (left e) (right e) (list (n .before)) _ (n .count .ensures) (c .before .if3 .left), right e .high)
 
--- src/lib.rt:53:9
 refused-requires-4 : tie.Need-refused-requires-4
 refused-requires-4 c κs = search needs
 
--- src/lib.rt:53:9
 returns-4 : tie.Need-returns-4
 returns-4 c K =
     let h = c .before .before in
@@ -137,7 +123,6 @@ returns-4 c K =
     (sym (sent-over (a .g) (a .ls) (a .l .now) (a .rs) (a .r .now) (left e) (right e) (list (n .before)) _ (n .count .ensures) (h .before .before .if3 .left) _ _ (named h) (omega arith)))
     (λ z. omega arith))
 
--- src/lib.rt:56:9
 lengths-requires : tie.Need-lengths-requires
 lengths-requires c κs =
     let h = c .before .before in
@@ -146,19 +131,15 @@ lengths-requires c κs =
     let a = e .before .before .args in
     sent-sends (a .g) (a .ls) (a .l .now) (a .rs) (a .r .now) (left e) (right e) (list (n .before)) _ (n .count .ensures) (h .before .before .if3 .left) _ _ (named h) (omega arith)
 
--- src/lib.rt:57:9
 of-lengths-requires : tie.Need-of-lengths-requires
 of-lengths-requires c κs = search needs
 
--- src/lib.rt:58:9
 count-requires-2 : tie.Need-count-requires-2
 count-requires-2 c κs = search needs
 
--- src/lib.rt:61:9
 refused-requires-5 : tie.Need-refused-requires-5
 refused-requires-5 c κs = search needs
 
--- src/lib.rt:61:9
 returns-5 : tie.Need-returns-5
 returns-5 c K =
     let d = c .before .before in
@@ -171,7 +152,6 @@ returns-5 c K =
     (sym (sent-missing (a .g) (a .ls) (a .l .now) (a .rs) (a .r .now) (left e) (right e) (list (n .before)) _ (n .count .ensures) (h .before .before .if3 .left) _ _ (named h) (few (d .before .before .before .before)) (forms e .1) _ (d .before .before .lengths .ensures) _ (d .before .of-lengths .ensures) _ (d .count2 .ensures) (omega arith)))
     (λ z. omega arith))
 
--- src/lib.rt:63:5
 moved-requires : tie.Need-moved-requires
 moved-requires c κs =
     let d = c .before .before in
@@ -181,11 +161,9 @@ moved-requires c κs =
     let a = e .before .before .args in
     sent-by-moves (a .g) (a .ls) (a .l .now) (a .rs) (a .r .now) (left e) (right e) (list (n .before)) _ (n .count .ensures) (h .before .before .if3 .left) _ _ (named h) (few (d .before .before .before .before)) (forms e .1) _ (d .before .before .lengths .ensures) _ (d .before .of-lengths .ensures) _ (d .count2 .ensures) (omega arith)
 
--- src/lib.rt:34:1
 same-length : tie.Need-same-length
 same-length c = search needs
 
--- src/lib.rt:34:1
 returns-6 : tie.Need-returns-6
 returns-6 c K =
     let d = c .before .before .before .before in
