@@ -1,5 +1,6 @@
 -- A scalar that is read as an array of n lengths of 1.
 use mathlib.Core.Path.{_≡_, refl}
+use mathlib.Core.List.{List, [], _∷_}
 use mathlib.Core.Bool.{Bool, true, false, cond}
 use Prim.Native.Nat.{ℕ, max, _≤_, _<_}
 use native.Mathlib.Omega.{arith}
@@ -7,6 +8,7 @@ use borrow.Author.Tests.{eqb-true, eqb-false, eq-eqb, ne-eqb}
 use lib.ListN.{length, replicate, length-replicate}
 use lib.Dec.{eqb}
 use lib.IntN.{ℤ}
+use Rattle.shape.specs.Shape.{count}
 use Rattle.meaning.specs.Array.{Array}
 use Rattle.meaning.specs.Terms.{rank, asRank, asVector, isScalar}
 
@@ -22,3 +24,9 @@ vector-rank a = by (eqb (rank a) 0) refl
     by : (b : Bool) → eqb (rank a) 0 ≡ b → length (cond b (record { lengths = replicate 1 1; elements = a .elements }) a .lengths) ≡ max 1 (rank a)
     by true e = omega (arith, eqb-true (rank a) 0 e)
     by false e = let f = eqb-false (rank a) 0 e in omega arith
+
+-- A scalar has one element.
+pub scalar-count : (ns : List ℕ) → length ns ≡ 0 → count ns ≡ 1
+unfolding count
+scalar-count [] h = refl
+scalar-count (n ∷ ns) h = absurd (omega arith)

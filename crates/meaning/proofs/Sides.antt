@@ -83,6 +83,16 @@ pub data Beside (r n : ℕ) : Type 0 where
   less : 0 < r → suc r ≡ n → Beside r n
   equal : 0 < r → r ≡ n → Beside r n
 
+pub beside-near : {r n : ℕ} → Beside r n → 0 < r → (r ≤ n) × (n ≤ suc r)
+beside-near (scalar h) p = absurd (omega arith)
+beside-near (less h e) p = (omega arith, omega arith)
+beside-near (equal h e) p = (omega arith, omega arith)
+
+pub beside-as : {r n s m : ℕ} → Beside r n → r ≡ s → n ≡ m → Beside s m
+beside-as (scalar h) e f = scalar (omega arith)
+beside-as (less h q) e f = less (omega arith) (omega arith)
+beside-as (equal h q) e f = equal (omega arith) (omega arith)
+
 -- Ranks that fit, as a test of numbers.
 abbrev pub fit : ℕ → ℕ → Bool
 fit a b = eqb a 0 || eqb b 0 || eqb a b || eqb (suc a) b || eqb (suc b) a
@@ -92,6 +102,7 @@ fit-beside a b n e = by (eqb a 0) (eqb b 0) (eqb a b) (eqb (suc a) b) (eqb (suc 
   where
     rest : (m : ℕ) → (m ≡ 0 → ⊥) → 0 < m
     rest m h = omega arith
+
     by : (p q r s t : Bool) → eqb a 0 ≡ p → eqb b 0 ≡ q → eqb a b ≡ r → eqb (suc a) b ≡ s → eqb (suc b) a ≡ t → (p || q || r || s || t) ≡ true → Beside a n × Beside b n
     by true true r s t ep eq er es et h = (scalar (eqb-true a 0 ep), scalar (eqb-true b 0 eq))
     by true false r s t ep eq er es et h =

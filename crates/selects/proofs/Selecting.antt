@@ -21,6 +21,7 @@ use Rattle.meaning.specs.Terms.{rank, axis, isScalar, isList, eqZ, within, ever
 use Rattle.meaning.specs.Primitives.{select}
 use Rattle.meaning.specs.Reply.{Primitive, primitives, named}
 use Rattle.meaning.proofs.Tab.{tab-none}
+use Rattle.meaning.proofs.Scalars.{scalar-count}
 use Rattle.meaning.proofs.Positions.{within-lt}
 use Rattle.meaning.proofs.Every.{every-at}
 use Rattle.meaning.proofs.Without.{removed, count-without}
@@ -121,15 +122,6 @@ module _ (G K : ℤ) (L R : Array) where
         by true q = count-without (R .lengths) k l ∙ ap (λ n. count (set (R .lengths) k n)) (sym (one (eqb-true (rank L) 0 q)))
         by false q = refl
 
--- A scalar has one element.
-pub scalar-one : (s : Shape) → length (counted s) ≡ 0 → count (counted s) ≡ 1
-unfolding count
-scalar-one s h = by (counted s) h
-  where
-    by : (ns : List ℕ) → length ns ≡ 0 → count ns ≡ 1
-    by [] h = refl
-    by (n ∷ ns) h = absurd (omega arith)
-
 -- An empty result.
 pub none-made : (ns : List ℕ) (f : List ℕ → ℤ) (total : ℕ) (out : List ℤ) → total ≡ count ns → total ≡ 0 → out ≡ build ns f .elements ++ drop total out
 unfolding build
@@ -176,7 +168,7 @@ module _ (G K : ℤ) (ls rs : Shape) (l r : List ℤ) (gl : Lent ls l) (gr : Len
   elements-is = gl .whole ∙ sym em
 
   one : rank L ≡ 0 → m ≡ 1
-  one h = em ∙ scalar-one ls h
+  one h = em ∙ scalar-count (counted ls) h
 
   pub shape-is : shapeOf (selectedLengths (ls .rank) m a (counted rs)) ≡ shapeOf (select G K L R .lengths)
   shape-is =

@@ -80,11 +80,11 @@ fn all_within(g: i32, l: &[i32], n: usize) -> bool
 }
 
 // The result's shape, by L's rank and the count of its elements.
-fn selected(rank: usize, m: usize, rs: Shape, k: usize) -> Shape
+fn selected(left: usize, m: usize, rs: Shape, k: usize) -> Shape
     requires { ⌜ (rs .rank ≤ maxRank) × (k < rs .rank) ⌝ }
-    ensures { λ s. ⌜ s ≡ shapeOf (selectedLengths rank m k (counted rs)) ⌝ }
+    ensures { λ s. ⌜ s ≡ shapeOf (selectedLengths left m k (counted rs)) ⌝ }
 {
-    if rank == 0 {
+    if left == 0 {
         removed(rs, k)
     } else {
         rs.with_length(k, m)

@@ -18,11 +18,11 @@ with-length-requires c κs = search needs
 
 -- src/lib.rt:85:1
 returns : tie.Need-returns
-returns c = let st = c .before .before in c .removed .ensures ∙ rw (eq-eqb (st .args .rank) 0 (c .before .if1 .taken))
+returns c = let st = c .before .before in c .removed .ensures ∙ rw (eq-eqb (st .args .left) 0 (c .before .if1 .taken))
 
 -- src/lib.rt:85:1
 returns-2 : tie.Need-returns-2
-returns-2 c = let st = c .before .before in c .with-length .ensures ∙ rw (ne-eqb (st .args .rank) 0 (c .before .if1 .left))
+returns-2 c = let st = c .before .before in c .with-length .ensures ∙ rw (ne-eqb (st .args .left) 0 (c .before .if1 .left))
 
 pub selected-spec : {M : Type 1} → statement M
 selected-spec = tie.close (tie.spec removed-requires with-length-requires returns returns-2)

@@ -1,0 +1,5 @@
+pub mod Blocks
+pub mod Agreeing
+pub mod Joining
+pub mod Heights
+pub mod Catenating

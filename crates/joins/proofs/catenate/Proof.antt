@@ -1,0 +1,331 @@
+use borrow.Author.Needs.{needs}
+use native.Mathlib.Omega.{arith}
+use native.Mathlib.Nat.{sub-zero}
+use Prim.Native.Nat.{ℕ, _+_, _-_, _≤_, _<_}
+use mathlib.Core.Path.{_≡_, sym, ap, ap₂, _∙_}
+use mathlib.Core.Bool.{true, _&&_}
+use lib.ListN.{length, take}
+use lib.IntN.{ℤ, pos, natAbs, _-ℤ_}
+use Rattle.signed.proofs.Reading.{read32}
+use Rattle.shape.specs.Shape.{maxRank, maxCount, counted, count, countOf, shapeOf}
+use Rattle.shape.proofs.Bools.{both}
+use Rattle.meaning.specs.Array.{Operand, arrayOf, goodForm}
+use Rattle.meaning.specs.Primitives.{Meaning, catenate}
+use Rattle.meaning.proofs.Positions.{positionOf}
+use Rattle.answer.specs.Answer.{lent, early, own}
+use Rattle.answer.proofs.Order.{Names, early-reply, own-reply, limit-reply, space-reply, given-reply, replied-refused, replied-given}
+use Rattle.answer.proofs.Lent.{Lent, lent-good, early-fine}
+use Rattle.answer.proofs.Made.{made-rule, made-no-rule, made-count}
+use Rattle.joins.proofs.Heights.{High, high-is}
+use Rattle.joins.proofs.Joining.{catenating, catenate-names, Joins, catenate-fits}
+use Rattle.joins.proofs.Catenating.{height, axis-in, extents-small, lengths-are, left-room, right-room, catenate-out}
+use Rattle.joins.proofs.catenate.Statement.{statement}
+use Rattle.joins.proofs.catenate.Tie as tie
+use Rattle.joins.proofs.catenate.Reads as reads
+use Rattle.joins.proofs.catenate.Lts as lts
+use Rattle.answer.proofs.Answer.refused.Reads as refused-reads
+use Rattle.answer.proofs.early_two.Reads as early-two-reads
+use Rattle.joins.proofs.catenate_refusal.Reads as catenate-refusal-reads
+use Rattle.joins.proofs.extent.Reads as extent-reads
+use Rattle.joins.proofs.higher.Reads as higher-reads
+use Rattle.joins.proofs.join_into.Reads as join-into-reads
+use Rattle.shape.proofs.Shape.count.Reads as count-reads
+use Rattle.shape.proofs.Shape.with_length.Reads as with-length-reads
+use Rattle.signed.proofs.position.Reads as position-reads
+
+-- The operands, the meaning and its name.
+abbrev left : tie.Start → Operand
+left st = lent (st .args .ls) (st .args .l .now)
+
+abbrev right : tie.Start → Operand
+right st = lent (st .args .rs) (st .args .r .now)
+
+abbrev means : tie.Start → Meaning
+means st = catenate (st .args .g) (st .args .k) (arrayOf (left st)) (arrayOf (right st))
+
+names : (st : tie.Start) → Names (pos 22) (st .args .g) (st .args .k) (left st) (right st) catenating (means st)
+names st = catenate-names (st .args .g) (st .args .k) (left st) (right st)
+
+-- FORM and ORIGIN, and what is known of the operands where neither was met.
+early-is : (c : tie.After-early-two) → c .early-two .result ≡ early (goodForm (left (c .before)) && goodForm (right (c .before))) (c .before .args .g)
+early-is c = c .early-two .ensures ∙ ap (early _) (read32 _ (c .before .fits .g))
+
+fine : (c : tie.Else1) → let st = c .before .before in early (goodForm (left st) && goodForm (right st)) (st .args .g) ≡ 0
+fine c = sym (early-is (c .before)) ∙ c .if1 .left
+
+forms : (c : tie.Else1) → let st = c .before .before in (goodForm (left st) ≡ true) × (goodForm (right st) ≡ true)
+forms c = let st = c .before .before in both (goodForm (left st)) (goodForm (right st)) (early-fine (st .args .g) _ (fine c) .forms)
+
+good-left : (c : tie.Else1) → let st = c .before .before in Lent (st .args .ls) (st .args .l .now)
+good-left c =
+    let st = c .before .before in
+    let long : length (st .args .ls .lens) ≡ maxRank = search needs in
+    lent-good (st .args .ls) (st .args .l .now) long (forms c .0)
+
+good-right : (c : tie.Else1) → let st = c .before .before in Lent (st .args .rs) (st .args .r .now)
+good-right c =
+    let st = c .before .before in
+    let long : length (st .args .rs .lens) ≡ maxRank = search needs in
+    lent-good (st .args .rs) (st .args .r .now) long (forms c .1)
+
+-- RANK, AXIS and LENGTH, and what is known where none was met.
+own-is : (c : tie.After-catenate-refusal) → c .catenate-refusal .result ≡ own 22 (means (c .before .before .before) .refusals)
+own-is c =
+    let st = c .before .before .before in
+    c .catenate-refusal .ensures (st .args .l .now) (st .args .r .now)
+    ∙ ap₂ (λ x y. own 22 (catenate x y (arrayOf (left st)) (arrayOf (right st)) .refusals)) (read32 _ (st .fits .g)) (read32 _ (st .fits .k))
+
+none : (c : tie.Else2) → own 22 (means (c .before .before .before .before) .refusals) ≡ 0
+none c = sym (own-is (c .before)) ∙ c .if2 .left
+
+joins : (c : tie.Else2) → let st = c .before .before .before .before in Joins (st .args .g) (st .args .k) (arrayOf (left st)) (arrayOf (right st))
+joins c = let st = c .before .before .before .before in catenate-fits (st .args .g) (st .args .k) (arrayOf (left st)) (arrayOf (right st)) (none c)
+
+-- The axis, and the result's shape.
+axis-is : (c : tie.After-position) → let st = c .before .before .before .before .before .before in c .position .result ≡ natAbs (st .args .k -ℤ st .args .g)
+axis-is c =
+    let e = c .before .before in
+    let st = e .before .before .before .before in
+    let gl = good-left (e .before .before) in
+    let gr = good-right (e .before .before) in
+    let h = high-is (st .args .ls) (st .args .rs) (st .args .l .now) (st .args .r .now) (gl .high) (gr .high) (gl .rank-is) (gr .rank-is) (c .before .higher .result) (c .before .higher .ensures) in
+    c .position .ensures
+    ∙ ap₂ (λ x y. positionOf (x -ℤ y) (c .before .higher .result .rank)) (read32 _ (st .fits .k)) (read32 _ (st .fits .g))
+    ∙ rw (← (h .rank-is), joins e .on-axis)
+
+high : (p : tie.After-position) → (p .before .higher .result .rank ≤ maxRank) × (p .position .result < p .before .higher .result .rank)
+high p =
+    let e = p .before .before in
+    let st = e .before .before .before .before in
+    (height (st .args .g) (st .args .k) (st .args .ls) (st .args .rs) (st .args .l .now) (st .args .r .now) (good-left (e .before .before)) (good-right (e .before .before)) (joins e) (p .before .higher .result) (p .before .higher .ensures) (p .position .result) (axis-is p) .high, axis-in (st .args .g) (st .args .k) (st .args .ls) (st .args .rs) (st .args .l .now) (st .args .r .now) (good-left (e .before .before)) (good-right (e .before .before)) (joins e) (p .before .higher .result) (p .before .higher .ensures) (p .position .result) (axis-is p))
+
+made : (c : tie.After-with-length) → let st = c .before .before .before .before .before .before .before .before .before in c .with-length .result ≡ shapeOf (means st .lengths)
+made c =
+    let x = c .before in
+    let p = x .before .before in
+    let e = p .before .before in
+    let st = e .before .before .before .before in
+    c .with-length .ensures ∙ ap shapeOf (lengths-are (st .args .g) (st .args .k) (st .args .ls) (st .args .rs) (st .args .l .now) (st .args .r .now) (good-left (e .before .before)) (good-right (e .before .before)) (joins e) (p .before .higher .result) (p .before .higher .ensures) (p .position .result) (axis-is p) _ _ (x .before .extent .ensures) (x .extent2 .ensures))
+
+room : (c : tie.After-count) → let st = c .before .before .before .before .before .before .before .before .before .before in c .count .result ≡ countOf (shapeOf (means st .lengths))
+room c = c .count .ensures ∙ ap countOf (made (c .before))
+
+-- The elements that count, and the result's count.
+abbrev start : tie.After-count3 → tie.Start
+start q = q .before .before .before .before .before .before .before .before .before .before .before .before .before .before
+
+lists : (q : tie.After-count3)
+    → (take (q .before .count2 .result - 0) (start q .args .l .now) ≡ arrayOf (left (start q)) .elements)
+    × (take (q .count3 .result - 0) (start q .args .r .now) ≡ arrayOf (right (start q)) .elements)
+lists q =
+    let e = q .before .before .before .before .before .before .before .before .before .before .before .before in (
+      ap (λ n. take n (start q .args .l .now)) (sub-zero _ ∙ q .before .count2 .ensures ∙ good-left e .count-is),
+      ap (λ n. take n (start q .args .r .now)) (sub-zero _ ∙ q .count3 .ensures ∙ good-right e .count-is),
+    )
+
+small : (q : tie.After-count3) → countOf (shapeOf (means (start q) .lengths)) ≤ maxCount
+small q = omega (arith, room (q .before .before .before .before), q .before .before .before .if3 .left)
+
+total : (q : tie.After-count3) → q .before .before .before .before .count .result ≡ count (means (start q) .lengths)
+total q = room (q .before .before .before .before) ∙ made-count (means (start q) .lengths) (small q)
+
+-- src/lib.rt:29:9
+early-two-requires : tie.Need-early-two-requires
+early-two-requires c κs = search needs
+
+-- src/lib.rt:31:9
+refused-requires : tie.Need-refused-requires
+refused-requires c κs = search needs
+
+-- src/lib.rt:31:9
+returns : tie.Need-returns
+returns c =
+    let st = c .before .before .before in
+    replied-refused (c .refused .result) _ (st .args .out .now) (c .refused .ensures) (early-reply (names st) (st .args .out .now) _ (early-is (c .before .before)) (c .before .if1 .taken))
+
+-- src/lib.rt:33:9
+catenate-refusal-requires : tie.Need-catenate-refusal-requires
+catenate-refusal-requires c κs = (good-left c .good, good-right c .good)
+
+-- src/lib.rt:35:9
+refused-requires-2 : tie.Need-refused-requires-2
+refused-requires-2 c κs = search needs
+
+-- src/lib.rt:35:9
+returns-2 : tie.Need-returns-2
+returns-2 c =
+    let e = c .before .before .before in
+    let st = e .before .before in
+    replied-refused (c .refused2 .result) _ (st .args .out .now) (c .refused2 .ensures) (own-reply (names st) (st .args .out .now) (fine e) _ (own-is (c .before .before)) (c .before .if2 .taken))
+
+-- src/lib.rt:37:9
+higher-requires : tie.Need-higher-requires
+higher-requires c κs = search needs
+
+-- src/lib.rt:38:9
+position-requires : tie.Need-position-requires
+position-requires c κs = search needs
+
+-- src/lib.rt:39:9
+extent-requires : tie.Need-extent-requires
+extent-requires c κs = let h = high c in omega arith
+
+-- src/lib.rt:40:9
+extent-requires-2 : tie.Need-extent-requires-2
+extent-requires-2 c κs = let h = high (c .before) in omega arith
+
+-- src/lib.rt:41:38
+add-with-length : tie.Need-add-with-length
+add-with-length c =
+    let p = c .before .before in
+    let e = p .before .before in
+    let st = e .before .before .before .before in
+    omega (arith, extents-small (st .args .g) (st .args .k) (st .args .ls) (st .args .rs) (st .args .l .now) (st .args .r .now) (good-left (e .before .before)) (good-right (e .before .before)) (joins e) (p .before .higher .result) (p .before .higher .ensures) (p .position .result) (axis-is p) _ _ (c .before .extent .ensures) (c .extent2 .ensures))
+
+-- src/lib.rt:41:9
+with-length-requires : tie.Need-with-length-requires
+with-length-requires c κs = high (c .before .before)
+
+-- src/lib.rt:42:9
+count-requires : tie.Need-count-requires
+count-requires c κs = search needs
+
+-- src/lib.rt:44:9
+refused-requires-3 : tie.Need-refused-requires-3
+refused-requires-3 c κs = search needs
+
+-- src/lib.rt:44:9
+returns-3 : tie.Need-returns-3
+returns-3 c =
+    let n = c .before .before in
+    let e = n .before .before .before .before .before .before in
+    let st = e .before .before .before .before in
+    replied-refused (c .refused3 .result) 9 (st .args .out .now) (c .refused3 .ensures)
+    (limit-reply (names st) (st .args .out .now) (fine (e .before .before)) (none e) (made-no-rule (means st .lengths) (omega (arith, room n))))
+
+-- src/lib.rt:47:9
+refused-requires-4 : tie.Need-refused-requires-4
+refused-requires-4 c κs = search needs
+
+-- src/lib.rt:47:9
+returns-4 : tie.Need-returns-4
+returns-4 c =
+    let n = c .before .before .before in
+    let e = n .before .before .before .before .before .before in
+    let st = e .before .before .before .before in
+    let small : countOf (shapeOf (means st .lengths)) ≤ maxCount = omega (arith, room n) in
+    replied-refused (c .refused4 .result) 10 (st .args .out .now) (c .refused4 .ensures)
+    (space-reply (names st) (st .args .out .now) (fine (e .before .before)) (none e) (made-rule (means st .lengths) small) (omega (arith, room n, made-count (means st .lengths) small)))
+
+-- src/lib.rt:49:9
+count-requires-2 : tie.Need-count-requires-2
+count-requires-2 c κs = search needs
+
+-- src/lib.rt:50:9
+count-requires-3 : tie.Need-count-requires-3
+count-requires-3 c κs = search needs
+
+-- src/lib.rt:51:32
+sub-join-into : tie.Need-sub-join-into
+sub-join-into c = search needs
+
+-- src/lib.rt:51:32
+part-join-into-start : tie.Need-part-join-into-start
+part-join-into-start c = search needs
+
+-- src/lib.rt:51:32
+part-join-into-end : tie.Need-part-join-into-end
+part-join-into-end c =
+    let g = good-left (c .before .before .before .before .before .before .before .before .before .before .before .before .before) in
+    omega (arith, g .room, g .count-is, c .before .before .count2 .ensures)
+
+-- src/lib.rt:51:59
+sub-join-into-2 : tie.Need-sub-join-into-2
+sub-join-into-2 c = search needs
+
+-- src/lib.rt:51:59
+part-join-into-start-2 : tie.Need-part-join-into-start-2
+part-join-into-start-2 c = search needs
+
+-- src/lib.rt:51:59
+part-join-into-end-2 : tie.Need-part-join-into-end-2
+part-join-into-end-2 c =
+    let q = c .before .before .before in
+    let g = good-right (q .before .before .before .before .before .before .before .before .before .before .before .before) in
+    omega (arith, g .room, g .count-is, q .count3 .ensures)
+
+-- src/lib.rt:51:5
+join-into-requires : tie.Need-join-into-requires
+join-into-requires c κs =
+    let q = c .before .before .before .before .before in
+    let x = q .before .before .before .before .before .before in
+    let p = x .before .before in
+    let e = p .before .before in
+    let st = e .before .before .before .before in
+    let u = lists q in
+    let a = x .before .extent .ensures in
+    let b = x .extent2 .ensures in
+    let h = high p in (
+      h .0,
+      (
+        h .1,
+        (
+          total q ∙ sym (ap count (lengths-are (st .args .g) (st .args .k) (st .args .ls) (st .args .rs) (st .args .l .now) (st .args .r .now) (good-left (e .before .before)) (good-right (e .before .before)) (joins e) (p .before .higher .result) (p .before .higher .ensures) (p .position .result) (axis-is p) _ _ a b)),
+          (
+            q .before .before .before .if3 .left,
+            (q .before .before .if4 .left, (left-room (st .args .g) (st .args .k) (st .args .ls) (st .args .rs) (st .args .l .now) (st .args .r .now) (good-left (e .before .before)) (good-right (e .before .before)) (joins e) (p .before .higher .result) (p .before .higher .ensures) (p .position .result) (axis-is p) _ _ a b _ _ (u .0) (u .1), right-room (st .args .g) (st .args .k) (st .args .ls) (st .args .rs) (st .args .l .now) (st .args .r .now) (good-left (e .before .before)) (good-right (e .before .before)) (joins e) (p .before .higher .result) (p .before .higher .ensures) (p .position .result) (axis-is p) _ _ a b _ _ (u .0) (u .1))),
+          ),
+        ),
+      ),
+    )
+
+-- src/lib.rt:23:1
+same-length : tie.Need-same-length
+same-length c = search needs
+
+-- src/lib.rt:23:1
+returns-5 : tie.Need-returns-5
+returns-5 c =
+    let q = c .before .before .before .before .before .before .before in
+    let x = q .before .before .before .before .before .before in
+    let p = x .before .before in
+    let e = p .before .before in
+    let st = e .before .before .before .before in
+    let u = lists q in
+    let out = st .args .out .now in
+    replied-given _ (means st) out _ (ap (λ z. record { number = 0; shape = z }) (made (q .before .before .before .before .before)))
+    (catenate-out (st .args .g) (st .args .k) (st .args .ls) (st .args .rs) (st .args .l .now) (st .args .r .now) (good-left (e .before .before)) (good-right (e .before .before)) (joins e) (p .before .higher .result) (p .before .higher .ensures) (p .position .result) (axis-is p) _ _ (x .before .extent .ensures) (x .extent2 .ensures) _ _ (u .0) (u .1) _ out _ (total q) (c .before .join-into .ensures))
+    (given-reply (names st) out (fine (e .before .before)) (none e) (made-rule (means st .lengths) (small q)) (omega (arith, total q, q .before .before .if4 .left)))
+
+pub catenate-spec : {M : Type 1} → statement M
+catenate-spec =
+    tie.close
+    (tie.spec
+    early-two-requires
+    refused-requires
+    returns
+    catenate-refusal-requires
+    refused-requires-2
+    returns-2
+    higher-requires
+    position-requires
+    extent-requires
+    extent-requires-2
+    add-with-length
+    with-length-requires
+    count-requires
+    refused-requires-3
+    returns-3
+    refused-requires-4
+    returns-4
+    count-requires-2
+    count-requires-3
+    sub-join-into
+    part-join-into-start
+    part-join-into-end
+    sub-join-into-2
+    part-join-into-start-2
+    part-join-into-end-2
+    join-into-requires
+    same-length
+    returns-5)

@@ -1,0 +1,102 @@
+use borrow.Author.Needs.{needs}
+use native.Mathlib.Omega.{arith}
+use native.Mathlib.Nat.{mul-le-mul-right, zero-mul}
+use Prim.Native.Nat.{suc, _+_, _*_, _≤_}
+use mathlib.Core.Path.{_≡_, sym, ap, ap₂, _∙_}
+use lib.ListN.{length, drop, set, take}
+use lib.Seq.{length-take-le}
+use Rattle.shape.specs.declared.Around.{Around}
+use Rattle.shape.specs.Shape.{maxRank, maxCount, counted, count, aroundOf}
+use Rattle.shape.proofs.Surround.{Parts, parts, count-set}
+use Rattle.meaning.proofs.Sides.{sideAt}
+use Rattle.copying.proofs.Runs.{filled}
+use Rattle.joins.specs.Joined.{joinedAt, sized}
+use Rattle.joins.proofs.Blocks.{Widths, widths, filled-zero}
+use Rattle.joins.proofs.join_into.Statement.{statement}
+use Rattle.joins.proofs.join_into.Tie as tie
+use Rattle.joins.proofs.join_into.Reads as reads
+use Rattle.joins.proofs.join_into.Lts as lts
+use Rattle.joins.proofs.join_blocks.Reads as join-blocks-reads
+use Rattle.shape.proofs.Shape.around.Reads as around-reads
+
+-- The counts around the axis, where the result has elements.
+around-parts : (c : tie.Else1) → let st = c .before in Parts (st .args .hs) (st .args .k) (st .args .a + st .args .b) (st .args .total)
+around-parts c =
+    let st = c .before in
+    let n = c .if1 .left in
+    let long : length (st .args .hs .lens) ≡ maxRank = search needs in
+    parts (st .args .hs) (st .args .k) (st .args .a + st .args .b) (st .args .total) (st .pre .0) long (st .pre .1 .0) (sym (st .pre .1 .1 .0)) (omega arith) (omega arith)
+
+around-widths : (c : tie.Else1) → let st = c .before in Widths (st .args .hs) (st .args .k) (st .args .a) (st .args .b) (st .args .total)
+around-widths c =
+    let st = c .before in
+    let long : length (st .args .hs .lens) ≡ maxRank = search needs in
+    let ranked : length (counted (st .args .hs)) ≡ st .args .hs .rank = length-take-le (st .args .hs .rank) (st .args .hs .lens) (omega arith) in
+    widths (st .args .hs) (st .args .k) (st .args .a) (st .args .b) (st .args .total) (omega arith) (around-parts c)
+
+-- src/lib.rt:174:9
+returns : tie.Need-returns
+returns c = filled-zero _ _ _ (c .if1 .taken)
+
+-- src/lib.rt:176:9
+around-requires : tie.Need-around-requires
+around-requires c κs = search needs
+
+-- src/lib.rt:178:23
+mul-join-blocks : tie.Need-mul-join-blocks
+mul-join-blocks c = rw (c .around .ensures) (omega (arith, around-widths (c .before) .left-small, c .before .before .pre .1 .1 .1 .0))
+
+-- src/lib.rt:178:40
+mul-join-blocks-2 : tie.Need-mul-join-blocks-2
+mul-join-blocks-2 c = rw (c .around .ensures) (omega (arith, around-widths (c .before) .right-small, c .before .before .pre .1 .1 .1 .0))
+
+-- src/lib.rt:178:5
+join-blocks-requires : tie.Need-join-blocks-requires
+join-blocks-requires c κs =
+    let e = c .before .before in
+    let st = e .before in
+    let w = around-widths e in
+    let p = st .pre .1 .1 .1 in
+    rw (c .before .around .ensures) (
+      omega (arith, w .made, p .0),
+      (
+        omega (arith, w .made, p .1 .0),
+        (
+          omega (arith, w .left-small, p .0),
+          (
+            omega (arith, w .right-small, p .0),
+            (omega (arith, ap (sized (st .args .x)) (w .left), p .1 .1 .0), omega (arith, ap (sized (st .args .y)) (w .right), p .1 .1 .1)),
+          ),
+        ),
+      ),
+    )
+
+-- src/lib.rt:155:1
+same-length : tie.Need-same-length
+same-length c = search needs
+
+-- src/lib.rt:155:1
+returns-2 : tie.Need-returns-2
+returns-2 c =
+    let e = c .before .before .before .before in
+    let st = e .before in
+    let w = around-widths e in
+    let p = around-parts e in
+    let f = sideAt (st .args .x) (st .args .l .now) in
+    let g = sideAt (st .args .y) (st .args .r .now) in
+    let out = st .args .out .now in
+    c .before .join-blocks .ensures
+    ∙ ap (λ (s : Around). filled (joinedAt (st .args .a * s .inner) (st .args .b * s .inner) f g) (s .outer * (st .args .a * s .inner + st .args .b * s .inner)) out) (c .before .before .before .around .ensures)
+    ∙ ap₂ (λ i n. filled (joinedAt (st .args .a * i) (st .args .b * i) f g) n out) (p .inner-is) (w .made)
+
+pub join-into-spec : {M : Type 1} → statement M
+join-into-spec =
+    tie.close
+    (tie.spec
+    returns
+    around-requires
+    mul-join-blocks
+    mul-join-blocks-2
+    join-blocks-requires
+    same-length
+    returns-2)
