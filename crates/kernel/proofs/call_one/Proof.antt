@@ -1,0 +1,112 @@
+use mathlib.Core.Path.{_≡_, refl, sym, ap, _∙_}
+use lib.IntN.{pos}
+use Rattle.answer.specs.Answer.{lent}
+use native.Mathlib.Omega.{arith}
+use lib.Dec.{lit<}
+use Rattle.signed.proofs.Reading.{read32, key}
+use Rattle.kernel.proofs.Numbered.{carried, not-key}
+use borrow.Author.Needs.{needs}
+use Rattle.kernel.proofs.call_one.Statement.{statement}
+use Rattle.kernel.proofs.call_one.Tie as tie
+use Rattle.kernel.proofs.call_one.Reads as reads
+use Rattle.kernel.proofs.call_one.Lts as lts
+use Rattle.transposes.proofs.transpose.Reads as transpose-reads
+use Rattle.turns.proofs.reverse.Reads as reverse-reads
+use Rattle.vectors.proofs.interval.Reads as interval-reads
+use Rattle.vectors.proofs.ravel.Reads as ravel-reads
+use Rattle.vectors.proofs.shape_of.Reads as shape-of-reads
+
+-- src/lib.rt:19:15
+shape-of-requires : tie.Need-shape-of-requires
+shape-of-requires c κs = search needs
+
+-- src/lib.rt:20:15
+ravel-requires : tie.Need-ravel-requires
+ravel-requires c κs = search needs
+
+-- src/lib.rt:21:15
+interval-requires : tie.Need-interval-requires
+interval-requires c κs = search needs
+
+-- src/lib.rt:22:15
+reverse-requires : tie.Need-reverse-requires
+reverse-requires c κs = search needs
+
+-- src/lib.rt:23:14
+transpose-requires : tie.Need-transpose-requires
+transpose-requires c κs = search needs
+
+-- src/lib.rt:12:1
+same-length : tie.Need-same-length
+same-length c = search needs
+
+-- src/lib.rt:12:1
+returns : tie.Need-returns
+returns c L =
+    let st = c .before .before .before .before in
+    carried L (lent (st .args .rs) (st .args .r .now)) (st .args .out .now) (sym (key 11 (st .fits .number) (lit< tt) (c .before .before .before .match .keys1))) (read32 _ (st .fits .g)) refl (c .before .shape-of .ensures (st .args .k) L)
+
+-- src/lib.rt:12:1
+same-length-2 : tie.Need-same-length-2
+same-length-2 c = search needs
+
+-- src/lib.rt:12:1
+returns-2 : tie.Need-returns-2
+returns-2 c L =
+    let st = c .before .before .before .before in
+    carried L (lent (st .args .rs) (st .args .r .now)) (st .args .out .now) (sym (key 12 (st .fits .number) (lit< tt) (c .before .before .before .match .keys2))) (read32 _ (st .fits .g)) refl (c .before .ravel .ensures (st .args .k) L)
+
+-- src/lib.rt:12:1
+same-length-3 : tie.Need-same-length-3
+same-length-3 c = search needs
+
+-- src/lib.rt:12:1
+returns-3 : tie.Need-returns-3
+returns-3 c L =
+    let st = c .before .before .before .before in
+    carried L (lent (st .args .rs) (st .args .r .now)) (st .args .out .now) (sym (key 13 (st .fits .number) (lit< tt) (c .before .before .before .match .keys3))) (read32 _ (st .fits .g)) refl (c .before .interval .ensures (st .args .k) L)
+
+-- src/lib.rt:12:1
+same-length-4 : tie.Need-same-length-4
+same-length-4 c = search needs
+
+-- src/lib.rt:12:1
+returns-4 : tie.Need-returns-4
+returns-4 c L =
+    let st = c .before .before .before .before in
+    carried L (lent (st .args .rs) (st .args .r .now)) (st .args .out .now) (sym (key 14 (st .fits .number) (lit< tt) (c .before .before .before .match .keys4))) (read32 _ (st .fits .g)) (read32 _ (st .fits .k)) (c .before .reverse .ensures L)
+
+-- src/lib.rt:12:1
+same-length-5 : tie.Need-same-length-5
+same-length-5 c = search needs
+
+-- src/lib.rt:12:1
+returns-5 : tie.Need-returns-5
+returns-5 c L =
+    let st = c .before .before .before .before in
+    let m = c .before .before .before .match .rest in
+    let n = st .pre in
+    let e = n .is in
+    let last : n .value ≡ 15 =
+    omega (arith, not-key 11 e (m .0 .0 .0 .1), not-key 12 e (m .0 .0 .1), not-key 13 e (m .0 .1), not-key 14 e (m .1), n .low, n .high) in
+    carried L (lent (st .args .rs) (st .args .r .now)) (st .args .out .now) (sym (e ∙ ap pos last)) (read32 _ (st .fits .g)) refl (c .before .transpose .ensures (st .args .k) L)
+
+pub call-one-spec : {M : Type 1} → statement M
+call-one-spec =
+    tie.close
+    (tie.spec
+    shape-of-requires
+    ravel-requires
+    interval-requires
+    reverse-requires
+    transpose-requires
+    same-length
+    returns
+    same-length-2
+    returns-2
+    same-length-3
+    returns-3
+    same-length-4
+    returns-4
+    same-length-5
+    returns-5)

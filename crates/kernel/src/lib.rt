@@ -1,0 +1,70 @@
+// The numbered entry point.
+ghost use mathlib.Core.Path.{_≡_};
+ghost use lib.IntN.{pos};
+ghost use Rattle.meaning.specs.Array.{Operand};
+ghost use Rattle.meaning.specs.Reply.{reply};
+ghost use Rattle.answer.specs.Answer.{lent, Replied};
+ghost use Rattle.kernel.specs.Numbers.{OneOperand, TwoOperands};
+use answer::Answer;
+use shape::Shape;
+
+// A call by its primitive's number: 11 to 15 take one operand, 21 to 31 take two, and every other number is refused.
+pub fn call(
+    number: i32,
+    g: i32,
+    k: i32,
+    ls: Shape,
+    l: &[i32],
+    rs: Shape,
+    r: &[i32],
+    out: &mut [i32],
+) -> Answer
+    ensures { λ a. ⌜ Replied a (now (out .exit)) (reply number g k (lent ls (now (l .entry))) (lent rs (now (r .entry))) (now (out .entry))) ⌝ }
+{
+    match number {
+        11..=15 => call_one(number, g, k, rs, r, out),
+        21..=31 => call_two(number, g, k, ls, l, rs, r, out),
+        _ => Answer::refused(1),
+    }
+}
+
+fn call_one(number: i32, g: i32, k: i32, rs: Shape, r: &[i32], out: &mut [i32]) -> Answer
+    requires { ⌜ OneOperand number ⌝ }
+    ensures { λ a. ⌜ ((L : Operand) → Replied a (now (out .exit)) (reply number g k L (lent rs (now (r .entry))) (now (out .entry)))) ⌝ }
+{
+    match number {
+        11 => vectors::shape_of(g, rs, r, out),
+        12 => vectors::ravel(g, rs, r, out),
+        13 => vectors::interval(g, rs, r, out),
+        14 => turns::reverse(g, k, rs, r, out),
+        _ => transposes::transpose(g, rs, r, out),
+    }
+}
+
+fn call_two(
+    number: i32,
+    g: i32,
+    k: i32,
+    ls: Shape,
+    l: &[i32],
+    rs: Shape,
+    r: &[i32],
+    out: &mut [i32],
+) -> Answer
+    requires { ⌜ TwoOperands number ⌝ }
+    ensures { λ a. ⌜ Replied a (now (out .exit)) (reply number g k (lent ls (now (l .entry))) (lent rs (now (r .entry))) (now (out .entry))) ⌝ }
+{
+    match number {
+        21 => vectors::reshape(g, ls, l, rs, r, out),
+        22 => joins::catenate(g, k, ls, l, rs, r, out),
+        23 => cuts::take(g, ls, l, rs, r, out),
+        24 => cuts::drop(g, ls, l, rs, r, out),
+        25 => turns::rotate(g, k, ls, l, rs, r, out),
+        26 => transposes::transpose_by(g, ls, l, rs, r, out),
+        27 => masks::compress(g, k, ls, l, rs, r, out),
+        28 => masks::expand(g, k, ls, l, rs, r, out),
+        29 => lookups::index_of(g, ls, l, rs, r, out),
+        30 => lookups::member(g, ls, l, rs, r, out),
+        _ => selects::select(g, k, ls, l, rs, r, out),
+    }
+}
