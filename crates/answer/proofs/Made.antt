@@ -5,7 +5,7 @@ use mathlib.Core.Bool.{true, false}
 use Prim.Native.Nat.{ℕ, _≤_, _<_}
 use lib.ListN.{length}
 use lib.Seq.{take-at}
-use Rattle.shape.specs.Shape.{maxRank, maxCount, counted, count, countOf, goodShape, shapeOf, shapeRule}
+use Rattle.shape.specs.Shape.{maxCount, counted, count, countOf, goodShape, shapeOf, shapeRule}
 use Rattle.shape.proofs.Counts.{good-count, bad-count}
 use Rattle.answer.proofs.Lent.{count-of}
 

@@ -1,18 +1,18 @@
 -- A call that 22 itself does not refuse, by what its code finds.
-use mathlib.Core.Path.{_≡_, refl, sym, ap, ap₂, _∙_}
-use mathlib.Core.List.{List, [], _∷_, _++_}
-use mathlib.Core.Bool.{Bool, true, false, cond}
+use mathlib.Core.Path.{_≡_, sym, ap, ap₂, _∙_}
+use mathlib.Core.List.{List, _++_}
+use mathlib.Core.Bool.{true}
 use Prim.Native.Nat.{ℕ, suc, _+_, _*_, _≤_, _<_}
 use native.Mathlib.Decide.{ℕ-discrete}
 use native.Mathlib.Omega.{arith}
 use borrow.Author.Tests.{eq-eqb, ne-eqb}
 use lib.Dec.{eqb}
-use lib.ListN.{length, getD, set, take, drop}
-use lib.IntN.{ℤ, pos, natAbs, _-ℤ_}
+use lib.ListN.{length, set, take, drop}
+use lib.IntN.{ℤ, natAbs, _-ℤ_}
 use Rattle.shape.specs.declared.Shape.{Shape}
-use Rattle.shape.specs.Shape.{maxCount, counted, count, shapeOf}
+use Rattle.shape.specs.Shape.{maxCount, counted, count}
 use Rattle.meaning.specs.Array.{Array, arrayOf, tab, build}
-use Rattle.meaning.specs.Terms.{rank, isScalar, without}
+use Rattle.meaning.specs.Terms.{rank}
 use Rattle.meaning.specs.Primitives.{side, higher, catenate}
 use Rattle.meaning.proofs.Scalars.{scalar-count}
 use Rattle.meaning.proofs.Sides.{Beside, ranks-beside, same-is, side-count, sideAt}

@@ -1,24 +1,22 @@
 -- The higher shape and the extents beside it, of two operands.
-use mathlib.Core.Path.{_≡_, refl, sym, ap, ap₂, _∙_}
+use mathlib.Core.Path.{_≡_, refl, sym, ap, _∙_}
 use mathlib.Core.List.{List, [], _∷_}
-use mathlib.Core.Bool.{Bool, true, false, cond}
-use Prim.Native.Nat.{ℕ, suc, max, _+_, _≤_, _<_}
+use mathlib.Core.Bool.{true, cond}
+use Prim.Native.Nat.{ℕ, _≤_, _<_}
 use native.Mathlib.Decide.{decLt, ℕ-discrete}
 use native.Mathlib.Omega.{arith}
 use borrow.Author.Tests.{lt-ltb, le-ltb, eq-eqb, ne-eqb}
-use lib.Dec.{eqb, ltb}
-use lib.ListN.{length, getD, set, take}
-use lib.Seq.{getD-take, length-take-le}
+use lib.Dec.{eqb}
+use lib.ListN.{length}
+use lib.Seq.{getD-take}
 use lib.IntN.{ℤ}
 use Rattle.shape.specs.declared.Shape.{Shape}
-use Rattle.shape.specs.Shape.{maxRank, maxCount, counted, count, goodShape, shapeOf}
+use Rattle.shape.specs.Shape.{maxRank, maxCount, counted, goodShape, shapeOf}
 use Rattle.shape.proofs.Rule.{small-at, rule-small}
-use Rattle.shape.proofs.Counts.{good-rank}
 use Rattle.meaning.specs.Array.{Array, arrayOf}
 use Rattle.meaning.specs.Terms.{rank, axis}
-use Rattle.meaning.specs.Primitives.{Side, side, higher, ranksFit}
+use Rattle.meaning.specs.Primitives.{side, higher, ranksFit}
 use Rattle.meaning.proofs.Sides.{higher-left, higher-right, higher-scalars, Beside, fit, side-extent}
-use Rattle.meaning.proofs.Sides.Beside.{scalar, less, equal}
 use Rattle.answer.specs.Answer.{lent}
 use Rattle.answer.proofs.Made.{made-counted}
 use Rattle.joins.specs.Joined.{higherShape, extentOf}

@@ -1,32 +1,32 @@
 -- What 22 gives, as its code finds it.
-use mathlib.Core.Path.{_≡_, refl, sym, ap, ap₂, _∙_}
-use mathlib.Core.List.{List, [], _∷_, _++_}
+use mathlib.Core.Path.{_≡_, refl, sym, ap, _∙_}
+use mathlib.Core.List.{List}
 use mathlib.Core.Bool.{Bool, true, false, not, cond, _&&_, _||_}
-use Prim.Native.Nat.{ℕ, zero, suc, _+_, _-_, _*_, _/_, _%_, _≤_, _<_}
-use native.Mathlib.Nat.{mod-lt, div-add-mod', mul-le-mul-right}
+use Prim.Native.Nat.{ℕ, suc, _+_, _-_, _*_, _/_, _%_, _<_}
+use native.Mathlib.Nat.{mod-lt, div-add-mod'}
 use native.Mathlib.Decide.{decLt}
 use native.Mathlib.Omega.{arith}
-use borrow.Author.Tests.{lt-ltb, le-ltb, eq-eqb, ne-eqb}
+use borrow.Author.Tests.{lt-ltb, le-ltb}
 use lib.Arith.{digits-div, digits-mod, digits-lt}
-use lib.Dec.{eqb, ltb}
+use lib.Dec.{ltb}
 use lib.ListN.{length, getD, set, take, drop, length-set}
-use lib.Seq.{set-set, set-getD, getD-set-same, drop-set-lt, length-take-le}
+use lib.Seq.{set-set, set-getD, getD-set-same, drop-set-lt}
 use lib.IntN.{ℤ, pos, natAbs, _-ℤ_}
 use Rattle.shape.specs.Shape.{count}
 use Rattle.shape.specs.Place.{index, place}
 use Rattle.shape.proofs.Bools.{both}
 use Rattle.shape.proofs.Places.{In, place-in}
-use Rattle.shape.proofs.Axis.{in-length, in-at, in-set, axis-position, axis-index}
+use Rattle.shape.proofs.Axis.{in-at, in-set, axis-position, axis-index}
 use Rattle.shape.proofs.Surround.{factor, count-set}
 use Rattle.meaning.specs.Array.{Operand, Array, arrayOf, tab, build}
 use Rattle.meaning.specs.Refusal.{number, meets, winner}
-use Rattle.meaning.specs.Terms.{rank, axis, isScalar, eqZ, within, sameLengths, without}
-use Rattle.meaning.specs.Primitives.{Side, side, higher, ranksFit, catenate}
+use Rattle.meaning.specs.Terms.{axis, isScalar, eqZ, within, sameLengths, without}
+use Rattle.meaning.specs.Primitives.{side, higher, ranksFit, catenate}
 use Rattle.meaning.specs.Reply.{Primitive, primitives, named}
 use Rattle.meaning.proofs.Tab.{tab-ext}
 use Rattle.meaning.proofs.Positions.{within-lt}
-use Rattle.meaning.proofs.Sides.{Beside, ranks-beside, same-is, side-flat, sideAt}
-use Rattle.answer.specs.Answer.{lent, ownOrder, own}
+use Rattle.meaning.proofs.Sides.{ranks-beside, same-is, side-flat, sideAt}
+use Rattle.answer.specs.Answer.{ownOrder, own}
 use Rattle.answer.proofs.Order.{Names}
 use Rattle.joins.specs.Joined.{joinedAt}
 

@@ -1,13 +1,12 @@
 // Catenate: two operands joined along an axis.
 ghost use mathlib.Core.Path.{_≡_};
-ghost use mathlib.Core.List.{List, []};
-ghost use mathlib.Core.Bool.{Bool, true};
-ghost use Prim.Native.Nat.{ℕ, suc, _+_, _-_, _*_, _≤_, _<_};
-ghost use lib.ListN.{length, getD, set, drop};
+ghost use mathlib.Core.List.{List};
+ghost use mathlib.Core.Bool.{true};
+ghost use Prim.Native.Nat.{suc, _+_, _-_, _*_, _≤_, _<_};
+ghost use lib.ListN.{length, set, drop};
 ghost use lib.Seq.{slice};
-ghost use lib.Dec.{eqb};
 ghost use lib.IntN.{ℤ, pos};
-ghost use Rattle.shape.specs.Shape.{maxCount, maxRank, counted, count, goodShape, shapeOf};
+ghost use Rattle.shape.specs.Shape.{maxCount, maxRank, counted, count, goodShape};
 ghost use Rattle.meaning.specs.Array.{arrayOf};
 ghost use Rattle.meaning.specs.Terms.{sameLengths, without};
 ghost use Rattle.meaning.specs.Primitives.{side, catenate};

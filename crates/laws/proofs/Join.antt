@@ -1,30 +1,30 @@
 -- Law 4: the first n along an axis joined to what dropping n leaves.
-use mathlib.Core.Path.{_≡_, refl, sym, ap, ap₂, subst, _∙_}
-use mathlib.Core.List.{List, [], _∷_, map}
-use mathlib.Core.Bool.{Bool, true, false, not, cond, _&&_, _||_}
-use Prim.Native.Nat.{ℕ, zero, suc, _+_, _-_, _≤_, _<_}
+use mathlib.Core.Path.{_≡_, refl, sym, ap, ap₂, _∙_}
+use mathlib.Core.List.{List}
+use mathlib.Core.Bool.{true, not, cond, _&&_}
+use Prim.Native.Nat.{ℕ, _+_, _-_, _≤_, _<_}
 use native.Mathlib.Decide.{decLt}
 use native.Mathlib.Omega.{arith}
-use borrow.Author.Tests.{lt-ltb, le-ltb, ltb-true, eq-eqb, ne-eqb}
+use borrow.Author.Tests.{lt-ltb, le-ltb, eq-eqb, ne-eqb}
 use lib.ListN.{length, getD, set, length-set}
 use lib.Seq.{set-set, set-getD, getD-set-same}
 use lib.Dec.{eqb, ltb}
-use lib.IntN.{ℤ, pos, negsuc, natAbs, _-ℤ_}
-use Rattle.shape.specs.Shape.{count, shapeRule}
+use lib.IntN.{ℤ, pos, natAbs, _-ℤ_}
+use Rattle.shape.specs.Shape.{shapeRule}
 use Rattle.shape.proofs.Places.{In}
 use Rattle.shape.proofs.Axis.{in-length, in-at, in-set}
 use Rattle.shape.proofs.Rule.{shorter-rule}
-use Rattle.meaning.specs.Array.{Operand, Array, arrayOf, at, build}
-use Rattle.meaning.specs.Terms.{rank, axis, isScalar, asVector, eqZ, within, sameLengths, without}
+use Rattle.meaning.specs.Array.{Array, arrayOf, at, build}
+use Rattle.meaning.specs.Terms.{rank, axis, eqZ, within, sameLengths, without}
 use Rattle.meaning.specs.Primitives.{Side, side, higher, ranksFit, catenate, takes, droppedLengths, drops}
-use Rattle.meaning.specs.Reply.{Reply, primitives, named, reply}
+use Rattle.meaning.specs.Reply.{primitives, named, reply}
 use Rattle.meaning.proofs.Arrays.{Whole, build-lengths, at-build, build-ext, build-at}
 use Rattle.meaning.proofs.Positions.{within-lt}
 use Rattle.meaning.proofs.Scalars.{array-as}
 use Rattle.meaning.proofs.Without.{without-set}
 use Rattle.meaning.proofs.Sides.{same-lengths, whole, side-whole, higher-left}
 use Rattle.meaning.proofs.Replies.{NoneMet}
-use Rattle.laws.specs.Words.{IsArray, IsOrigin, IsAxis, IsLong, given, Lists}
+use Rattle.laws.specs.Words.{given}
 use Rattle.laws.specs.Laws.{FirstAndRest}
 use Rattle.laws.proofs.Calls.{result, array-rule, form-whole, Gives, gives, same-array, listed, lists-array}
 use Rattle.laws.proofs.Cut.{firsts, lesser, length-firsts, length-lesser, sizes-firsts, lengths-lesser, front, front-lengths, takes-front, back, back-lengths, drops-back}

@@ -1,22 +1,22 @@
 -- 22: an operand beside the lengths of the higher rank.
 use mathlib.Core.Path.{_≡_, refl, sym, ap, ap₂, subst, _∙_}
 use mathlib.Core.List.{List, [], _∷_}
-use mathlib.Core.Bool.{Bool, true, false, cond, _&&_, _||_}
-use Prim.Native.Nat.{ℕ, zero, suc, max, _≤_, _<_}
+use mathlib.Core.Bool.{Bool, true, false, cond, _||_}
+use Prim.Native.Nat.{ℕ, suc, max, _≤_, _<_}
 use native.Mathlib.Decide.{decLt}
 use native.Mathlib.Omega.{arith}
 use borrow.Author.Tests.{lt-ltb, le-ltb, eq-eqb, ne-eqb, eqb-true, eqb-false}
 use lib.ListN.{length, getD, set}
-use lib.Dec.{eqb, ltb}
+use lib.Dec.{eqb}
 use lib.IntN.{ℤ, pos}
 use Rattle.shape.specs.Shape.{count}
 use Rattle.shape.specs.Place.{index}
 use Rattle.shape.proofs.Bools.{no-way, both}
 use Rattle.shape.proofs.Places.{In}
 use Rattle.meaning.specs.Array.{Array, at}
-use Rattle.meaning.specs.Terms.{rank, axis, isScalar, asVector, sameLengths, without}
+use Rattle.meaning.specs.Terms.{rank, axis, isScalar, sameLengths, without}
 use Rattle.meaning.specs.Primitives.{Side, side, higher, ranksFit}
-use Rattle.meaning.proofs.Scalars.{array-as, vector-rank}
+use Rattle.meaning.proofs.Scalars.{array-as}
 use Rattle.meaning.proofs.Without.{index-without, same-set, count-without}
 
 pub same-lengths : (ns : List ℕ) → sameLengths ns ns ≡ true

@@ -1,11 +1,10 @@
 -- Lengths and places without an axis, with rank and axis open.
 use mathlib.Core.Path.{_≡_, refl, sym, ap, ap₂, _∙_}
 use mathlib.Core.List.{List, [], _∷_, _++_}
-use Prim.Native.Nat.{ℕ, zero, suc, _+_, _*_, _/_, _%_, _≤_, _<_}
+use Prim.Native.Nat.{ℕ, zero, suc, _+_, _*_, _/_, _%_, _<_}
 use native.Mathlib.Nat.{zero-mul, zero-add, one-mul, mod-lt, mod-eq-of-lt, div-eq-of-lt, not-suc-le-zero, le-of-suc-le-suc, mul-zero}
 use native.Mathlib.Omega.{arith}
 use lib.ListN.{length, getD, set, take, drop}
-use lib.IntN.{ℤ}
 use Rattle.shape.specs.Shape.{count}
 use Rattle.shape.specs.Place.{place, index}
 use Rattle.shape.proofs.Places.{In}

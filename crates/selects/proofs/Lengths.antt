@@ -5,10 +5,10 @@ use Prim.Native.Nat.{ℕ, zero, suc, _+_, _≤_, _<_}
 use native.Mathlib.Nat.{not-suc-le-zero, le-of-suc-le-suc}
 use native.Mathlib.Numerals.{add-one}
 use native.Mathlib.Omega.{arith}
-use lib.ListN.{length, getD, set, take, drop, length-append, length-drop}
-use lib.Seq.{take-at, take-append-le, take-all, length-take-le, getD-drop, getD-append-add}
+use lib.ListN.{length, getD, set, take, drop}
+use lib.Seq.{take-at, length-take-le, getD-drop, getD-append-add}
 use Rattle.meaning.specs.Terms.{without}
-use Rattle.meaning.proofs.Without.{without-parts, length-without}
+use Rattle.meaning.proofs.Without.{length-without}
 use Rattle.copying.proofs.Steps.{front-step}
 
 -- The lengths without axis k, of which the first i are moved to their places.

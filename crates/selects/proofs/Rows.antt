@@ -1,18 +1,15 @@
 -- Rows of a block that are chosen by position, and blocks of them.
-use mathlib.Core.Path.{_≡_, refl, sym, ap, ap₂, _∙_}
-use mathlib.Core.List.{List, [], _∷_, _++_}
-use mathlib.Core.Bool.{true}
+use mathlib.Core.Path.{_≡_, sym, ap, _∙_}
+use mathlib.Core.List.{List, _++_}
 use Prim.Native.Nat.{ℕ, zero, suc, _+_, _-_, _*_, _/_, _%_, _≤_, _<_}
-use native.Mathlib.Nat.{zero-mul, mul-one, div-one, mod-one, add-zero, mod-lt, div-lt-iff-lt-mul, mul-le-mul-right, not-suc-le-zero, mul-zero}
+use native.Mathlib.Nat.{mul-one, div-one, mod-one, add-zero, mod-lt, div-lt-iff-lt-mul, not-suc-le-zero, mul-zero}
 use native.Mathlib.Omega.{arith}
 use lib.Arith.{digits-div, digits-mod, digits-lt}
-use lib.ListN.{length, getD, set, take, drop, length-drop, List·getD-append}
-use lib.Seq.{length-take-le, getD-take, getD-drop}
-use lib.IntN.{ℤ, pos, natAbs, _-ℤ_}
+use lib.ListN.{length, getD, take, drop}
+use lib.Seq.{getD-take, getD-drop}
+use lib.IntN.{ℤ, pos, _-ℤ_}
 use borrow.Rule.Slice.PartMut.{putMid}
-use Rattle.meaning.specs.Array.{tab}
-use Rattle.meaning.specs.Terms.{within}
-use Rattle.meaning.proofs.Tab.{length-tab, getD-tab, tab-ext}
+use Rattle.meaning.proofs.Tab.{tab-ext}
 use Rattle.meaning.proofs.Positions.{positionOf, within-lt}
 use Rattle.copying.specs.Runs.{copied}
 use Rattle.copying.proofs.Runs.{filled, put-copied}

@@ -1,20 +1,18 @@
 -- What 31 gives, as its code finds it.
 use mathlib.Core.Path.{_≡_, refl, sym, ap, ap₂, _∙_}
-use mathlib.Core.List.{List, [], _∷_, _++_}
+use mathlib.Core.List.{List, _++_}
 use mathlib.Core.Bool.{Bool, true, false, not, cond, _||_}
-use Prim.Native.Nat.{ℕ, zero, suc, _+_, _*_, _≤_, _<_}
-use native.Mathlib.Nat.{mul-assoc, mul-le-mul-right}
+use Prim.Native.Nat.{ℕ, _+_, _*_, _≤_, _<_}
+use native.Mathlib.Nat.{mul-le-mul-right}
 use native.Mathlib.Omega.{arith}
 use borrow.Author.Tests.{eq-eqb, ne-eqb, le-leb, lt-leb, eqb-true, eqb-false, leb-true}
-use lib.Dec.{eqb, leb}
-use lib.ListN.{length, getD, set, take, drop}
-use lib.Seq.{take-length, getD-take}
+use lib.ListN.{length, getD, set, drop}
 use lib.IntN.{ℤ, pos, natAbs, _-ℤ_}
 use Rattle.shape.specs.declared.Shape.{Shape}
 use Rattle.shape.specs.Shape.{maxCount, counted, count, aroundOf, shapeOf}
 use Rattle.shape.specs.Place.{place}
 use Rattle.shape.proofs.Axis.{count-axis}
-use Rattle.shape.proofs.Surround.{Parts, factor}
+use Rattle.shape.proofs.Surround.{Parts}
 use Rattle.meaning.specs.Array.{Operand, Array, arrayOf, at, tab, build}
 use Rattle.meaning.specs.Refusal.{number, meets, winner}
 use Rattle.meaning.specs.Terms.{rank, axis, isScalar, isList, eqZ, within, every, without, putIn, along}
@@ -25,12 +23,9 @@ use Rattle.meaning.proofs.Scalars.{scalar-count}
 use Rattle.meaning.proofs.Positions.{within-lt}
 use Rattle.meaning.proofs.Every.{every-at}
 use Rattle.meaning.proofs.Without.{removed, count-without}
-use Rattle.copying.proofs.Runs.{filled}
-use Rattle.copying.proofs.Blocks.{source}
 use Rattle.answer.specs.Answer.{lent, ownOrder, own}
 use Rattle.answer.proofs.Order.{Names}
 use Rattle.answer.proofs.Lent.{Lent}
-use Rattle.answer.proofs.Moved.{along-lent}
 use Rattle.selects.specs.Chosen.{chosen, Chosen, selectedLengths}
 
 abbrev pub selecting : Primitive

@@ -1,8 +1,8 @@
 // Select: chosen positions of one axis.
 ghost use mathlib.Core.Path.{_≡_};
 ghost use mathlib.Core.List.{List, _++_};
-ghost use mathlib.Core.Bool.{Bool, true};
-ghost use Prim.Native.Nat.{ℕ, _*_, _≤_, _<_};
+ghost use mathlib.Core.Bool.{true};
+ghost use Prim.Native.Nat.{_*_, _≤_, _<_};
 ghost use lib.ListN.{length, getD, set, drop};
 ghost use lib.IntN.{ℤ, pos, _-ℤ_};
 ghost use Rattle.shape.specs.Shape.{maxCount, maxRank, counted, count, goodShape, shapeOf};

@@ -1,20 +1,19 @@
 use borrow.Author.Needs.{needs}
 use native.Mathlib.Omega.{arith}
-use Prim.Native.Nat.{suc, _+_, _-_, _≤_, _<_}
-use mathlib.Core.Path.{_≡_, sym, ap, _∙_}
+use Prim.Native.Nat.{suc, _+_, _-_, _≤_}
+use mathlib.Core.Path.{_≡_, sym, _∙_}
 use mathlib.Core.List.{List}
 use mathlib.Core.Bool.{_&&_}
 use lib.ListN.{length}
 use lib.Seq.{length-take-le}
 use lib.IntN.{ℤ}
-use Rattle.shape.specs.declared.Shape.{Shape}
 use Rattle.shape.specs.Shape.{maxRank, counted}
 use lib.Seq.{slice}
 use Rattle.meaning.specs.Array.{arrayOf}
 use Rattle.meaning.specs.Terms.{rank, sameLengths, without}
 use Rattle.meaning.specs.Primitives.{side}
 use Rattle.answer.specs.Answer.{lent}
-use Rattle.meaning.proofs.Sides.{Beside, beside-near}
+use Rattle.meaning.proofs.Sides.{beside-near}
 use Rattle.joins.proofs.Agreeing.{first-true, first-false, agrees-scalar, agrees-parts}
 use Rattle.joins.proofs.agrees.Statement.{statement}
 use Rattle.joins.proofs.agrees.Tie as tie
@@ -57,7 +56,6 @@ parted c x =
     let hl : length (h .lens) ≡ maxRank = search needs in
     agrees-parts s (h .lens) (h .rank) k (k + 1 + s .rank - h .rank) (h .rank - 1 - k) x (ranked st x) (higher-ranked st) (omega arith) (omega arith) (omega arith) (omega arith) (st .pre .1 .1 .1) (omega arith) (omega arith)
 
--- src/lib.rt:128:9
 returns : tie.Need-returns
 returns c x =
     let st = c .before in
@@ -65,45 +63,35 @@ returns c x =
     let hl : length (st .args .hs .lens) ≡ maxRank = search needs in
     sym (agrees-scalar (st .args .s) (st .args .hs .lens) (st .args .hs .rank) (st .args .k) 0 0 x (ranked st x) (higher-ranked st) (omega arith) (omega arith) (omega arith) (c .if1 .taken))
 
--- src/lib.rt:130:16
 add-from : tie.Need-add-from
 add-from c = search needs
 
--- src/lib.rt:130:16
 add-from-2 : tie.Need-add-from-2
 add-from-2 c = search needs
 
--- src/lib.rt:130:16
 sub-from : tie.Need-sub-from
 sub-from c = let n = near (c .before) in omega arith
 
--- src/lib.rt:131:17
 sub-after : tie.Need-sub-after
 sub-after c = search needs
 
--- src/lib.rt:131:17
 sub-after-2 : tie.Need-sub-after-2
 sub-after-2 c = search needs
 
--- src/lib.rt:134:8
 same-part-requires : tie.Need-same-part-requires
 same-part-requires c κs = search needs
 
--- src/lib.rt:135:31
 add-same-part : tie.Need-add-same-part
 add-same-part c = search needs
 
--- src/lib.rt:135:9
 same-part-requires-2 : tie.Need-same-part-requires-2
 same-part-requires-2 c κs = let n = near (c .before .before .before .before .before .before) in search needs
 
--- src/lib.rt:122:1
 returns-2 : tie.Need-returns-2
 returns-2 c x =
     let p = c .before .before in
     c .same-part2 .ensures ∙ sym (parted (p .before .before .before .before .before) x ∙ first-true _ _ (sym (p .same-part .ensures) ∙ c .before .if2 .taken))
 
--- src/lib.rt:122:1
 returns-3 : tie.Need-returns-3
 returns-3 c x =
     let p = c .before in

@@ -1,13 +1,13 @@
 use borrow.Author.Needs.{needs}
 use native.Mathlib.Omega.{arith}
 use native.Mathlib.Nat.{sub-zero}
-use Prim.Native.Nat.{ℕ, _+_, _-_, _≤_, _<_}
+use Prim.Native.Nat.{_-_, _≤_, _<_}
 use mathlib.Core.Path.{_≡_, sym, ap, ap₂, _∙_}
 use mathlib.Core.Bool.{true, _&&_}
 use lib.ListN.{length, take}
-use lib.IntN.{ℤ, pos, natAbs, _-ℤ_}
+use lib.IntN.{pos, natAbs, _-ℤ_}
 use Rattle.signed.proofs.Reading.{read32}
-use Rattle.shape.specs.Shape.{maxRank, maxCount, counted, count, countOf, shapeOf}
+use Rattle.shape.specs.Shape.{maxRank, maxCount, count, countOf, shapeOf}
 use Rattle.shape.proofs.Bools.{both}
 use Rattle.meaning.specs.Array.{Operand, arrayOf, goodForm}
 use Rattle.meaning.specs.Primitives.{Meaning, catenate}
@@ -16,7 +16,7 @@ use Rattle.answer.specs.Answer.{lent, early, own}
 use Rattle.answer.proofs.Order.{Names, early-reply, own-reply, limit-reply, space-reply, given-reply, replied-refused, replied-given}
 use Rattle.answer.proofs.Lent.{Lent, lent-good, early-fine}
 use Rattle.answer.proofs.Made.{made-rule, made-no-rule, made-count}
-use Rattle.joins.proofs.Heights.{High, high-is}
+use Rattle.joins.proofs.Heights.{high-is}
 use Rattle.joins.proofs.Joining.{catenating, catenate-names, Joins, catenate-fits}
 use Rattle.joins.proofs.Catenating.{height, axis-in, extents-small, lengths-are, left-room, right-room, catenate-out}
 use Rattle.joins.proofs.catenate.Statement.{statement}
@@ -129,52 +129,41 @@ small q = omega (arith, room (q .before .before .before .before), q .before .bef
 total : (q : tie.After-count3) → q .before .before .before .before .count .result ≡ count (means (start q) .lengths)
 total q = room (q .before .before .before .before) ∙ made-count (means (start q) .lengths) (small q)
 
--- src/lib.rt:29:9
 early-two-requires : tie.Need-early-two-requires
 early-two-requires c κs = search needs
 
--- src/lib.rt:31:9
 refused-requires : tie.Need-refused-requires
 refused-requires c κs = search needs
 
--- src/lib.rt:31:9
 returns : tie.Need-returns
 returns c =
     let st = c .before .before .before in
     replied-refused (c .refused .result) _ (st .args .out .now) (c .refused .ensures) (early-reply (names st) (st .args .out .now) _ (early-is (c .before .before)) (c .before .if1 .taken))
 
--- src/lib.rt:33:9
 catenate-refusal-requires : tie.Need-catenate-refusal-requires
 catenate-refusal-requires c κs = (good-left c .good, good-right c .good)
 
--- src/lib.rt:35:9
 refused-requires-2 : tie.Need-refused-requires-2
 refused-requires-2 c κs = search needs
 
--- src/lib.rt:35:9
 returns-2 : tie.Need-returns-2
 returns-2 c =
     let e = c .before .before .before in
     let st = e .before .before in
     replied-refused (c .refused2 .result) _ (st .args .out .now) (c .refused2 .ensures) (own-reply (names st) (st .args .out .now) (fine e) _ (own-is (c .before .before)) (c .before .if2 .taken))
 
--- src/lib.rt:37:9
 higher-requires : tie.Need-higher-requires
 higher-requires c κs = search needs
 
--- src/lib.rt:38:9
 position-requires : tie.Need-position-requires
 position-requires c κs = search needs
 
--- src/lib.rt:39:9
 extent-requires : tie.Need-extent-requires
 extent-requires c κs = let h = high c in omega arith
 
--- src/lib.rt:40:9
 extent-requires-2 : tie.Need-extent-requires-2
 extent-requires-2 c κs = let h = high (c .before) in omega arith
 
--- src/lib.rt:41:38
 add-with-length : tie.Need-add-with-length
 add-with-length c =
     let p = c .before .before in
@@ -182,19 +171,15 @@ add-with-length c =
     let st = e .before .before .before .before in
     omega (arith, extents-small (st .args .g) (st .args .k) (st .args .ls) (st .args .rs) (st .args .l .now) (st .args .r .now) (good-left (e .before .before)) (good-right (e .before .before)) (joins e) (p .before .higher .result) (p .before .higher .ensures) (p .position .result) (axis-is p) _ _ (c .before .extent .ensures) (c .extent2 .ensures))
 
--- src/lib.rt:41:9
 with-length-requires : tie.Need-with-length-requires
 with-length-requires c κs = high (c .before .before)
 
--- src/lib.rt:42:9
 count-requires : tie.Need-count-requires
 count-requires c κs = search needs
 
--- src/lib.rt:44:9
 refused-requires-3 : tie.Need-refused-requires-3
 refused-requires-3 c κs = search needs
 
--- src/lib.rt:44:9
 returns-3 : tie.Need-returns-3
 returns-3 c =
     let n = c .before .before in
@@ -203,11 +188,9 @@ returns-3 c =
     replied-refused (c .refused3 .result) 9 (st .args .out .now) (c .refused3 .ensures)
     (limit-reply (names st) (st .args .out .now) (fine (e .before .before)) (none e) (made-no-rule (means st .lengths) (omega (arith, room n))))
 
--- src/lib.rt:47:9
 refused-requires-4 : tie.Need-refused-requires-4
 refused-requires-4 c κs = search needs
 
--- src/lib.rt:47:9
 returns-4 : tie.Need-returns-4
 returns-4 c =
     let n = c .before .before .before in
@@ -217,44 +200,35 @@ returns-4 c =
     replied-refused (c .refused4 .result) 10 (st .args .out .now) (c .refused4 .ensures)
     (space-reply (names st) (st .args .out .now) (fine (e .before .before)) (none e) (made-rule (means st .lengths) small) (omega (arith, room n, made-count (means st .lengths) small)))
 
--- src/lib.rt:49:9
 count-requires-2 : tie.Need-count-requires-2
 count-requires-2 c κs = search needs
 
--- src/lib.rt:50:9
 count-requires-3 : tie.Need-count-requires-3
 count-requires-3 c κs = search needs
 
--- src/lib.rt:51:32
 sub-join-into : tie.Need-sub-join-into
 sub-join-into c = search needs
 
--- src/lib.rt:51:32
 part-join-into-start : tie.Need-part-join-into-start
 part-join-into-start c = search needs
 
--- src/lib.rt:51:32
 part-join-into-end : tie.Need-part-join-into-end
 part-join-into-end c =
     let g = good-left (c .before .before .before .before .before .before .before .before .before .before .before .before .before) in
     omega (arith, g .room, g .count-is, c .before .before .count2 .ensures)
 
--- src/lib.rt:51:59
 sub-join-into-2 : tie.Need-sub-join-into-2
 sub-join-into-2 c = search needs
 
--- src/lib.rt:51:59
 part-join-into-start-2 : tie.Need-part-join-into-start-2
 part-join-into-start-2 c = search needs
 
--- src/lib.rt:51:59
 part-join-into-end-2 : tie.Need-part-join-into-end-2
 part-join-into-end-2 c =
     let q = c .before .before .before in
     let g = good-right (q .before .before .before .before .before .before .before .before .before .before .before .before) in
     omega (arith, g .room, g .count-is, q .count3 .ensures)
 
--- src/lib.rt:51:5
 join-into-requires : tie.Need-join-into-requires
 join-into-requires c κs =
     let q = c .before .before .before .before .before in
@@ -279,11 +253,9 @@ join-into-requires c κs =
       ),
     )
 
--- src/lib.rt:23:1
 same-length : tie.Need-same-length
 same-length c = search needs
 
--- src/lib.rt:23:1
 returns-5 : tie.Need-returns-5
 returns-5 c =
     let q = c .before .before .before .before .before .before .before in

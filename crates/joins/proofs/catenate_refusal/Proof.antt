@@ -1,9 +1,8 @@
 use borrow.Author.Needs.{needs}
 use native.Mathlib.Omega.{arith}
-use Prim.Native.Nat.{ℕ, _≤_, _<_}
 use mathlib.Core.Path.{_≡_, sym, ap, ap₂, _∙_}
 use mathlib.Core.List.{List, []}
-use mathlib.Core.Bool.{Bool, true}
+use mathlib.Core.Bool.{true}
 use lib.ListN.{length}
 use lib.Seq.{length-take-le}
 use lib.IntN.{ℤ, natAbs, _-ℤ_}
@@ -98,19 +97,15 @@ right-agrees c x y =
     let st = p .before .before .before .before in
     c .agrees2 .ensures y ∙ ap₂ (λ ns i. agree ns i (right st y)) (known (p .before) x y .counts) (on-axis e .1)
 
--- src/lib.rt:60:8
 ranks-fit-requires : tie.Need-ranks-fit-requires
 ranks-fit-requires c κs = (good-rank (c .args .ls) (c .pre .0), good-rank (c .args .rs) (c .pre .1))
 
--- src/lib.rt:61:13
 higher-requires : tie.Need-higher-requires
 higher-requires c κs = search needs
 
--- src/lib.rt:62:13
 position-requires : tie.Need-position-requires
 position-requires c κs = search needs
 
--- src/lib.rt:64:13
 returns : tie.Need-returns
 returns c x y =
     let p = c .before .before in
@@ -119,14 +114,12 @@ returns c x y =
     sym (catenate-axis (st .args .g) (st .args .k) (left st x) (right st y) (tested (h .before .before) x y ∙ h .before .if1 .taken)
     (ap (within _) (known h x y .rank-is) ∙ position-none _ _ (omega (arith, found p, c .if2 .taken))))
 
--- src/lib.rt:66:12
 agrees-requires : tie.Need-agrees-requires
 agrees-requires c κs =
     let p = c .before .before in
     let st = p .before .before .before .before in
     (good-rank (st .args .ls) (st .pre .0), (known (p .before) [] [] .high, (c .if2 .left, besides (p .before) .0)))
 
--- src/lib.rt:67:16
 agrees-requires-2 : tie.Need-agrees-requires-2
 agrees-requires-2 c κs =
     let e = c .before .before in
@@ -134,7 +127,6 @@ agrees-requires-2 c κs =
     let st = p .before .before .before .before in
     (good-rank (st .args .rs) (st .pre .1), (known (p .before) [] [] .high, (e .if2 .left, besides (p .before) .1)))
 
--- src/lib.rt:68:17
 returns-2 : tie.Need-returns-2
 returns-2 c x y =
     let t = c .before .before in
@@ -145,7 +137,6 @@ returns-2 c x y =
     let a = ap (within (st .args .k -ℤ st .args .g)) (known h x y .rank-is) ∙ on-axis e .0 in
     sym (catenate-none (st .args .g) (st .args .k) (left st x) (right st y) f a (sym (left-agrees (t .before) x y) ∙ t .if3 .taken) (sym (right-agrees (c .before) x y) ∙ c .if4 .taken))
 
--- src/lib.rt:71:9
 returns-3 : tie.Need-returns-3
 returns-3 c x y =
     let t = c .before .before in
@@ -156,7 +147,6 @@ returns-3 c x y =
     let a = ap (within (st .args .k -ℤ st .args .g)) (known h x y .rank-is) ∙ on-axis e .0 in
     sym (catenate-right (st .args .g) (st .args .k) (left st x) (right st y) f a (sym (left-agrees (t .before) x y) ∙ t .if3 .taken) (sym (right-agrees (c .before) x y) ∙ c .if4 .left))
 
--- src/lib.rt:71:9
 returns-4 : tie.Need-returns-4
 returns-4 c x y =
     let e = c .before .before in
@@ -166,7 +156,6 @@ returns-4 c x y =
     let a = ap (within (st .args .k -ℤ st .args .g)) (known h x y .rank-is) ∙ on-axis e .0 in
     sym (catenate-left (st .args .g) (st .args .k) (left st x) (right st y) f a (sym (left-agrees (c .before) x y) ∙ c .if3 .left))
 
--- src/lib.rt:56:1
 returns-5 : tie.Need-returns-5
 returns-5 c x y = let st = c .before .before in sym (catenate-rank (st .args .g) (st .args .k) (left st x) (right st y) (tested (c .before) x y ∙ c .if1 .left))
 

@@ -6,19 +6,15 @@ use Rattle.joins.proofs.extent.Tie as tie
 use Rattle.joins.proofs.extent.Reads as reads
 use Rattle.joins.proofs.extent.Lts as lts
 
--- src/lib.rt:61:9
 mul-result : tie.Need-mul-result
 mul-result c = search needs
 
--- src/lib.rt:61:9
 element-copy-out-result : tie.Need-element-copy-out-result
 element-copy-out-result c = search needs
 
--- src/lib.rt:56:1
 returns : tie.Need-returns
 returns c = let st = c .before .before in sym (rw (eq-eqb (st .args .t1 .rank) (st .args .rank) (c .before .if1 .taken)))
 
--- src/lib.rt:56:1
 returns-2 : tie.Need-returns-2
 returns-2 c = let st = c .before in sym (rw (ne-eqb (st .args .t1 .rank) (st .args .rank) (c .if1 .left)))
 

@@ -7,15 +7,12 @@ use Rattle.joins.proofs.higher.Reads as reads
 use Rattle.joins.proofs.higher.Lts as lts
 use Rattle.shape.proofs.Shape.vector.Reads as vector-reads
 
--- src/lib.rt:47:9
 returns : tie.Need-returns
 returns c = let st = c .before .before .before in sym (rw (lt-ltb (st .args .ls .rank) (st .args .rs .rank) (c .if1 .taken)))
 
--- src/lib.rt:50:9
 vector-requires : tie.Need-vector-requires
 vector-requires c κs = search needs
 
--- src/lib.rt:50:9
 returns-2 : tie.Need-returns-2
 returns-2 c =
     let t = c .before in
@@ -23,7 +20,6 @@ returns-2 c =
     let st = e .before .before .before in
     c .vector .ensures ∙ sym (rw (le-ltb (st .args .ls .rank) (st .args .rs .rank) (e .if1 .left), eq-eqb (st .args .ls .rank) 0 (t .if2 .taken)))
 
--- src/lib.rt:43:1
 returns-3 : tie.Need-returns-3
 returns-3 c =
     let e = c .before .before in

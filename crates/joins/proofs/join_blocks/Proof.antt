@@ -2,8 +2,8 @@ use borrow.Author.Needs.{needs}
 use native.Mathlib.Omega.{arith}
 use native.Mathlib.Nat.{mul-le-mul-right}
 use Prim.Native.Nat.{_+_, _-_, _*_, _≤_}
-use mathlib.Core.Path.{_≡_, refl, sym, ap, _∙_}
-use lib.ListN.{length, take, drop}
+use mathlib.Core.Path.{_≡_, refl, ap, _∙_}
+use lib.ListN.{length}
 use Rattle.meaning.proofs.Sides.{sideAt}
 use Rattle.copying.proofs.Runs.{filled, length-filled}
 use Rattle.copying.proofs.Parts.{filled-start, part-long, part-kept}
@@ -37,43 +37,33 @@ inside c =
       ),
     )
 
--- src/lib.rt:111:16
 add-made : tie.Need-add-made Inv-loop μ-loop
 add-made c = search needs
 
--- src/lib.rt:113:5
 loop-holds : tie.Need-loop-holds Inv-loop μ-loop
 loop-holds c = (omega arith, (refl, filled-start _ (c .args .v + c .args .w) _))
 
--- src/lib.rt:114:18
 mul-at : tie.Need-mul-at Inv-loop μ-loop
 mul-at c = omega (arith, inside c)
 
--- src/lib.rt:115:19
 add-mid : tie.Need-add-mid Inv-loop μ-loop
 add-mid c = omega (arith, inside c)
 
--- src/lib.rt:116:19
 add-end : tie.Need-add-end Inv-loop μ-loop
 add-end c = omega (arith, inside c)
 
--- src/lib.rt:117:30
 mul-put-side : tie.Need-mul-put-side Inv-loop μ-loop
 mul-put-side c = let i = inside c in search needs
 
--- src/lib.rt:117:30
 sub-put-side : tie.Need-sub-put-side Inv-loop μ-loop
 sub-put-side c = omega (arith, inside c)
 
--- src/lib.rt:117:30
 part-put-side-start : tie.Need-part-put-side-start Inv-loop μ-loop
 part-put-side-start c = omega (arith, inside c)
 
--- src/lib.rt:117:30
 part-put-side-end : tie.Need-part-put-side-end Inv-loop μ-loop
 part-put-side-end c = omega (arith, inside c)
 
--- src/lib.rt:117:9
 put-side-requires : tie.Need-put-side-requires Inv-loop μ-loop
 put-side-requires c κs =
     let p = c .before in
@@ -84,23 +74,18 @@ put-side-requires c κs =
       (omega arith, omega (arith, sized-le (st .args .x) (o * st .args .v + st .args .v) (st .args .outer * st .args .v) (i .1 .0))),
     )
 
--- src/lib.rt:118:30
 mul-put-side-2 : tie.Need-mul-put-side-2 Inv-loop μ-loop
 mul-put-side-2 c = let i = inside (c .before .before .before) in search needs
 
--- src/lib.rt:118:30
 sub-put-side-2 : tie.Need-sub-put-side-2 Inv-loop μ-loop
 sub-put-side-2 c = omega (arith, inside (c .before .before .before))
 
--- src/lib.rt:118:30
 part-put-side-start-2 : tie.Need-part-put-side-start-2 Inv-loop μ-loop
 part-put-side-start-2 c = omega (arith, inside (c .before .before .before))
 
--- src/lib.rt:118:30
 part-put-side-end-2 : tie.Need-part-put-side-end-2 Inv-loop μ-loop
 part-put-side-end-2 c = omega (arith, inside (c .before .before .before))
 
--- src/lib.rt:118:9
 put-side-requires-2 : tie.Need-put-side-requires-2 Inv-loop μ-loop
 put-side-requires-2 c κs =
     let q = c .before .before in
@@ -118,15 +103,12 @@ put-side-requires-2 c κs =
       (omega arith, omega (arith, sized-le (st .args .y) (o * w + w) (st .args .outer * w) (i .1 .1))),
     )
 
--- src/lib.rt:119:9
 add-o : tie.Need-add-o Inv-loop μ-loop
 add-o c = search needs
 
--- src/lib.rt:113:5
 loop-less : tie.Need-loop-less Inv-loop μ-loop
 loop-less c = search needs
 
--- src/lib.rt:113:5
 loop-again : tie.Need-loop-again Inv-loop μ-loop
 loop-again c =
     let q = c .before .before .before .before in
@@ -144,11 +126,9 @@ loop-again c =
     let d = right-more v w f g o _ out₀ _ _ e (part-kept _ out₀ (o * (v + w) + v) w (ap length e ∙ length-filled _ (o * (v + w) + v) out₀ (omega arith)) (omega arith)) (c .before .put-side2 .ensures) in
     (omega arith, (ap length d ∙ length-filled _ ((o + 1) * (v + w)) out₀ (omega arith), d))
 
--- src/lib.rt:99:1
 same-length : tie.Need-same-length Inv-loop μ-loop
 same-length c = search needs
 
--- src/lib.rt:99:1
 returns : tie.Need-returns Inv-loop μ-loop
 returns c =
     let lp = c .before .loop in

@@ -1,13 +1,12 @@
 use borrow.Author.Needs.{needs}
 use native.Mathlib.Omega.{arith}
-use native.Mathlib.Nat.{mul-le-mul-right, zero-mul}
-use Prim.Native.Nat.{suc, _+_, _*_, _≤_}
+use Prim.Native.Nat.{_+_, _*_}
 use mathlib.Core.Path.{_≡_, sym, ap, ap₂, _∙_}
-use lib.ListN.{length, drop, set, take}
+use lib.ListN.{length}
 use lib.Seq.{length-take-le}
 use Rattle.shape.specs.declared.Around.{Around}
-use Rattle.shape.specs.Shape.{maxRank, maxCount, counted, count, aroundOf}
-use Rattle.shape.proofs.Surround.{Parts, parts, count-set}
+use Rattle.shape.specs.Shape.{maxRank, counted}
+use Rattle.shape.proofs.Surround.{Parts, parts}
 use Rattle.meaning.proofs.Sides.{sideAt}
 use Rattle.copying.proofs.Runs.{filled}
 use Rattle.joins.specs.Joined.{joinedAt, sized}
@@ -34,23 +33,18 @@ around-widths c =
     let ranked : length (counted (st .args .hs)) ≡ st .args .hs .rank = length-take-le (st .args .hs .rank) (st .args .hs .lens) (omega arith) in
     widths (st .args .hs) (st .args .k) (st .args .a) (st .args .b) (st .args .total) (omega arith) (around-parts c)
 
--- src/lib.rt:174:9
 returns : tie.Need-returns
 returns c = filled-zero _ _ _ (c .if1 .taken)
 
--- src/lib.rt:176:9
 around-requires : tie.Need-around-requires
 around-requires c κs = search needs
 
--- src/lib.rt:178:23
 mul-join-blocks : tie.Need-mul-join-blocks
 mul-join-blocks c = rw (c .around .ensures) (omega (arith, around-widths (c .before) .left-small, c .before .before .pre .1 .1 .1 .0))
 
--- src/lib.rt:178:40
 mul-join-blocks-2 : tie.Need-mul-join-blocks-2
 mul-join-blocks-2 c = rw (c .around .ensures) (omega (arith, around-widths (c .before) .right-small, c .before .before .pre .1 .1 .1 .0))
 
--- src/lib.rt:178:5
 join-blocks-requires : tie.Need-join-blocks-requires
 join-blocks-requires c κs =
     let e = c .before .before in
@@ -71,11 +65,9 @@ join-blocks-requires c κs =
       ),
     )
 
--- src/lib.rt:155:1
 same-length : tie.Need-same-length
 same-length c = search needs
 
--- src/lib.rt:155:1
 returns-2 : tie.Need-returns-2
 returns-2 c =
     let e = c .before .before .before .before in

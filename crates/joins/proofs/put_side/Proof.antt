@@ -17,19 +17,15 @@ use Rattle.joins.proofs.put_side.Lts as lts
 use Rattle.copying.proofs.copy_run.Reads as copy-run-reads
 use Rattle.copying.proofs.fill_run.Reads as fill-run-reads
 
--- src/lib.rt:90:27
 shared-slice-copy-out-fill-run : tie.Need-shared-slice-copy-out-fill-run
 shared-slice-copy-out-fill-run c = let h = rw (c .if1 .taken) at (c .before .pre .1 .1) in omega arith
 
--- src/lib.rt:90:9
 fill-run-requires : tie.Need-fill-run-requires
 fill-run-requires c κs = search needs
 
--- src/lib.rt:91:9
 same-length : tie.Need-same-length
 same-length c = search needs
 
--- src/lib.rt:91:9
 returns : tie.Need-returns
 returns c =
     let st = c .before .before .before .before .before in
@@ -39,39 +35,30 @@ returns c =
     one-run src (st .args .out .now) _ (st .args .width) (st .args .o * st .args .width) (st .pre .0) (c .before .fill-run .ensures ∙ ap (λ z. replicate (length (st .args .out .now)) z) e)
     ∙ ap (λ b. filled (λ i. sideAt b src (st .args .o * st .args .width + i)) (st .args .width) (st .args .out .now)) (sym (t .if1 .taken))
 
--- src/lib.rt:93:16
 mul-from : tie.Need-mul-from
 mul-from c = search needs
 
--- src/lib.rt:94:14
 add-to : tie.Need-add-to
 add-to c = search needs
 
--- src/lib.rt:95:23
 mul-copy-run : tie.Need-mul-copy-run
 mul-copy-run c = search needs
 
--- src/lib.rt:95:23
 sub-copy-run : tie.Need-sub-copy-run
 sub-copy-run c = search needs
 
--- src/lib.rt:95:23
 part-copy-run-start : tie.Need-part-copy-run-start
 part-copy-run-start c = search needs
 
--- src/lib.rt:95:23
 part-copy-run-end : tie.Need-part-copy-run-end
 part-copy-run-end c = let h = rw (c .if1 .left) at (c .before .pre .1 .1) in omega arith
 
--- src/lib.rt:95:5
 copy-run-requires : tie.Need-copy-run-requires
 copy-run-requires c κs = search needs
 
--- src/lib.rt:83:1
 same-length-2 : tie.Need-same-length-2
 same-length-2 c = search needs
 
--- src/lib.rt:83:1
 returns-2 : tie.Need-returns-2
 returns-2 c =
     let t = c .before .before .before .before in

@@ -10,33 +10,26 @@ use Rattle.joins.proofs.ranks_fit.Tie as tie
 use Rattle.joins.proofs.ranks_fit.Reads as reads
 use Rattle.joins.proofs.ranks_fit.Lts as lts
 
--- src/lib.rt:28:9
 returns : tie.Need-returns
 returns c = let st = c .before in sym (rw (eq-eqb (st .args .a) 0 (c .if1 .taken)))
 
--- src/lib.rt:31:9
 returns-2 : tie.Need-returns-2
 returns-2 c = let st = c .before .before in sym (rw (ne-eqb (st .args .a) 0 (c .before .if1 .left), eq-eqb (st .args .b) 0 (c .if2 .taken)))
 
--- src/lib.rt:34:9
 returns-3 : tie.Need-returns-3
 returns-3 c = let st = c .before .before .before in sym (rw (ne-eqb (st .args .a) 0 (c .before .before .if1 .left), ne-eqb (st .args .b) 0 (c .before .if2 .left), eq-eqb (st .args .a) (st .args .b) (c .if3 .taken)))
 
--- src/lib.rt:36:8
 add-if4 : tie.Need-add-if4
 add-if4 c = search needs
 
--- src/lib.rt:37:9
 returns-4 : tie.Need-returns-4
 returns-4 c =
     let st = c .before .before .before .before in
     sym (rw (ne-eqb (st .args .a) 0 (c .before .before .before .if1 .left), ne-eqb (st .args .b) 0 (c .before .before .if2 .left), ne-eqb (st .args .a) (st .args .b) (c .before .if3 .left), eq-eqb (suc (st .args .a)) (st .args .b) (omega (arith, c .if4 .taken))))
 
--- src/lib.rt:39:5
 add-result : tie.Need-add-result
 add-result c = search needs
 
--- src/lib.rt:23:1
 returns-5 : tie.Need-returns-5
 returns-5 c =
     let st = c .before .before .before .before in

@@ -19,35 +19,27 @@ Inv-loop i j n a b t₀ t = (t ≤ n) × (sameLengths (slice i (i + n) a) (slice
 abbrev μ-loop : tie.MeasureT-loop
 μ-loop i j n a b t₀ t = n - t
 
--- src/lib.rt:73:5
 loop-holds : tie.Need-loop-holds Inv-loop μ-loop
 loop-holds c = (omega arith, ap₂ (λ x y. sameLengths (slice x (c .args .i + c .args .n) (c .args .t1)) (slice y (c .args .j + c .args .n) (c .args .t3))) (sym (add-zero (c .args .i))) (sym (add-zero (c .args .j))))
 
--- src/lib.rt:74:14
 add-if1 : tie.Need-add-if1 Inv-loop μ-loop
 add-if1 c = search needs
 
--- src/lib.rt:74:12
 mul-if1 : tie.Need-mul-if1 Inv-loop μ-loop
 mul-if1 c = search needs
 
--- src/lib.rt:74:12
 array-read-if1 : tie.Need-array-read-if1 Inv-loop μ-loop
 array-read-if1 c = search needs
 
--- src/lib.rt:74:26
 add-if1-2 : tie.Need-add-if1-2 Inv-loop μ-loop
 add-if1-2 c = search needs
 
--- src/lib.rt:74:24
 mul-if1-2 : tie.Need-mul-if1-2 Inv-loop μ-loop
 mul-if1-2 c = search needs
 
--- src/lib.rt:74:24
 array-read-if1-2 : tie.Need-array-read-if1-2 Inv-loop μ-loop
 array-read-if1-2 c = search needs
 
--- src/lib.rt:75:13
 returns : tie.Need-returns Inv-loop μ-loop
 returns c =
     let lp = c .before .before in
@@ -56,15 +48,12 @@ returns c =
     let q : length (st .args .t3) ≡ maxRank = search needs in
     sym (lp .loop .inv .1 ∙ same-stop (st .args .t1) (st .args .t3) (st .args .i) (st .args .j) (st .args .n) (lp .loop .t) (omega arith) (omega arith) (omega arith) (c .if1 .taken))
 
--- src/lib.rt:77:9
 add-t : tie.Need-add-t Inv-loop μ-loop
 add-t c = search needs
 
--- src/lib.rt:73:5
 loop-less : tie.Need-loop-less Inv-loop μ-loop
 loop-less c = search needs
 
--- src/lib.rt:73:5
 loop-again : tie.Need-loop-again Inv-loop μ-loop
 loop-again c =
     let lp = c .before .before in
@@ -73,7 +62,6 @@ loop-again c =
     let q : length (st .args .t3) ≡ maxRank = search needs in
     (omega arith, lp .loop .inv .1 ∙ same-next (st .args .t1) (st .args .t3) (st .args .i) (st .args .j) (st .args .n) (lp .loop .t) (omega arith) (omega arith) (omega arith) (c .if1 .left))
 
--- src/lib.rt:68:1
 returns-2 : tie.Need-returns-2 Inv-loop μ-loop
 returns-2 c =
     let lp = c .before in

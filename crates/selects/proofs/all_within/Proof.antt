@@ -39,45 +39,36 @@ found c =
 read : (st : tie.Start Inv-loop μ-loop) → every (test st) (st .args .l .now) ≡ every (λ z. within (z -ℤ st .args .g) (st .args .n)) (st .args .l .now)
 read st = ap (λ G. every (λ z. within (z -ℤ G) (st .args .n)) (st .args .l .now)) (read32 _ (st .fits .g))
 
--- src/lib.rt:46:5
 loop-holds : tie.Need-loop-holds Inv-loop μ-loop
 loop-holds c = (omega arith, refl)
 
--- src/lib.rt:47:34
 mul-position : tie.Need-mul-position Inv-loop μ-loop
 mul-position c = search needs
 
--- src/lib.rt:47:34
 shared-slice-copy-out-position : tie.Need-shared-slice-copy-out-position Inv-loop μ-loop
 shared-slice-copy-out-position c = search needs
 
--- src/lib.rt:47:17
 position-requires : tie.Need-position-requires Inv-loop μ-loop
 position-requires c κs = search needs
 
--- src/lib.rt:48:13
 returns : tie.Need-returns Inv-loop μ-loop
 returns c =
     let lp = c .before .before .before .before in
     let st = lp .before in
     sym (sym (read st) ∙ lp .loop .inv .1 ∙ every-stop (test st) (st .args .l .now) (lp .loop .i) (pos 0) (omega arith) (position-none _ _ (omega (arith, found (c .before), c .if1 .taken))))
 
--- src/lib.rt:50:9
 add-i : tie.Need-add-i Inv-loop μ-loop
 add-i c = search needs
 
--- src/lib.rt:46:5
 loop-less : tie.Need-loop-less Inv-loop μ-loop
 loop-less c = search needs
 
--- src/lib.rt:46:5
 loop-again : tie.Need-loop-again Inv-loop μ-loop
 loop-again c =
     let lp = c .before .before .before .before in
     let st = lp .before in
     (omega arith, lp .loop .inv .1 ∙ every-next (test st) (st .args .l .now) (lp .loop .i) (pos 0) (omega arith) (position-lt _ _ (omega (arith, found (c .before), c .if1 .left)) .0))
 
--- src/lib.rt:42:1
 returns-2 : tie.Need-returns-2 Inv-loop μ-loop
 returns-2 c =
     let lp = c .before in

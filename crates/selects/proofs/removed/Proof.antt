@@ -1,6 +1,6 @@
 use borrow.Author.Needs.{needs}
 use native.Mathlib.Omega.{arith}
-use mathlib.Core.Path.{_≡_, refl, sym, ap, _∙_}
+use mathlib.Core.Path.{_≡_, refl, ap, _∙_}
 use Prim.Native.Nat.{_-_, _≤_}
 use lib.ListN.{length}
 use Rattle.shape.specs.Shape.{maxRank, counted}
@@ -19,43 +19,33 @@ Inv-loop k last lens₀ i₀ lens i = (k ≤ i) × ((i ≤ last) × (lens ≡ sh
 abbrev μ-loop : tie.MeasureT-loop
 μ-loop k last lens₀ i₀ lens i = last - i
 
--- src/lib.rt:70:16
 sub-last : tie.Need-sub-last Inv-loop μ-loop
 sub-last c = search needs
 
--- src/lib.rt:73:5
 loop-holds : tie.Need-loop-holds Inv-loop μ-loop
 loop-holds c = (omega arith, (omega arith, shifted-none (c .before .before .args .rs .lens) (c .before .before .args .k)))
 
--- src/lib.rt:74:24
 add-lens : tie.Need-add-lens Inv-loop μ-loop
 add-lens c = search needs
 
--- src/lib.rt:74:19
 mul-lens : tie.Need-mul-lens Inv-loop μ-loop
 mul-lens c = search needs
 
--- src/lib.rt:74:19
 array-read-lens : tie.Need-array-read-lens Inv-loop μ-loop
 array-read-lens c = search needs
 
--- src/lib.rt:74:9
 mul-lens-2 : tie.Need-mul-lens-2 Inv-loop μ-loop
 mul-lens-2 c = search needs
 
--- src/lib.rt:74:9
 array-write-lens : tie.Need-array-write-lens Inv-loop μ-loop
 array-write-lens c = search needs
 
--- src/lib.rt:75:9
 add-i : tie.Need-add-i Inv-loop μ-loop
 add-i c = search needs
 
--- src/lib.rt:73:5
 loop-less : tie.Need-loop-less Inv-loop μ-loop
 loop-less c = search needs
 
--- src/lib.rt:73:5
 loop-again : tie.Need-loop-again Inv-loop μ-loop
 loop-again c =
     let st = c .before .before .before .before in
@@ -63,11 +53,9 @@ loop-again c =
     let long : length (st .args .rs .lens) ≡ maxRank = search needs in
     (omega arith, (omega arith, shifted-more (st .args .rs .lens) (st .args .k) (lp .i) (lp .inv .0) (omega arith) (lp .lens) _ (lp .inv .1 .1) refl))
 
--- src/lib.rt:77:5
 of-lengths-requires : tie.Need-of-lengths-requires Inv-loop μ-loop
 of-lengths-requires c κs = search needs
 
--- src/lib.rt:66:1
 returns : tie.Need-returns Inv-loop μ-loop
 returns c =
     let st = c .before .before .before .before .before in

@@ -1,19 +1,19 @@
 use borrow.Author.Needs.{needs}
 use native.Mathlib.Omega.{arith}
 use native.Mathlib.Nat.{sub-zero}
-use Prim.Native.Nat.{ℕ, _-_, _≤_, _<_}
+use Prim.Native.Nat.{_-_, _≤_}
 use mathlib.Core.Path.{_≡_, sym, ap, ap₂, _∙_}
 use mathlib.Core.Bool.{true, _&&_}
 use lib.ListN.{length, getD, set, take, drop}
 use mathlib.Core.List.{_++_}
-use lib.IntN.{ℤ, pos, natAbs, _-ℤ_}
+use lib.IntN.{pos, natAbs, _-ℤ_}
 use Rattle.signed.proofs.Reading.{read32}
 use Rattle.shape.specs.Shape.{maxRank, maxCount, counted, count, countOf, shapeOf}
 use Rattle.shape.proofs.Bools.{both}
-use Rattle.meaning.specs.Array.{Operand, Array, arrayOf, goodForm, build}
+use Rattle.meaning.specs.Array.{Operand, arrayOf, goodForm, build}
 use Rattle.meaning.specs.Terms.{within, along}
 use Rattle.meaning.specs.Primitives.{Meaning, select}
-use Rattle.meaning.proofs.Positions.{positionOf, position-lt, within-lt}
+use Rattle.meaning.proofs.Positions.{positionOf}
 use Rattle.answer.specs.Answer.{lent, early, own}
 use Rattle.answer.proofs.Order.{Names, early-reply, own-reply, limit-reply, space-reply, given-reply, replied-refused, replied-given}
 use Rattle.answer.proofs.Lent.{Lent, lent-good, early-fine}
@@ -107,44 +107,35 @@ made c =
 room : (c : tie.After-count2) → let st = c .before .before .before .before .before .before .before .before in c .count2 .result ≡ countOf (shapeOf (means st .lengths))
 room c = c .count2 .ensures ∙ ap countOf (made (c .before))
 
--- src/lib.rt:27:9
 early-two-requires : tie.Need-early-two-requires
 early-two-requires c κs = search needs
 
--- src/lib.rt:29:9
 refused-requires : tie.Need-refused-requires
 refused-requires c κs = search needs
 
--- src/lib.rt:29:9
 returns : tie.Need-returns
 returns c =
     let st = c .before .before .before in
     replied-refused (c .refused .result) _ (st .args .out .now) (c .refused .ensures) (early-reply (names st) (st .args .out .now) _ (early-is (c .before .before)) (c .before .if1 .taken))
 
--- src/lib.rt:31:9
 select-refusal-requires : tie.Need-select-refusal-requires
 select-refusal-requires c κs = (forms c .0, good-right c .good)
 
--- src/lib.rt:33:9
 refused-requires-2 : tie.Need-refused-requires-2
 refused-requires-2 c κs = search needs
 
--- src/lib.rt:33:9
 returns-2 : tie.Need-returns-2
 returns-2 c =
     let e = c .before .before .before in
     let st = e .before .before in
     replied-refused (c .refused2 .result) _ (st .args .out .now) (c .refused2 .ensures) (own-reply (names st) (st .args .out .now) (fine e) _ (own-is (c .before .before)) (c .before .if2 .taken))
 
--- src/lib.rt:35:9
 position-requires : tie.Need-position-requires
 position-requires c κs = search needs
 
--- src/lib.rt:36:9
 count-requires : tie.Need-count-requires
 count-requires c κs = search needs
 
--- src/lib.rt:37:9
 selected-requires : tie.Need-selected-requires
 selected-requires c κs =
     let e = c .before .before in
@@ -152,15 +143,12 @@ selected-requires c κs =
     let g = good-right (e .before .before) in
     (g .high, axis-in (st .args .g) (st .args .k) (st .args .ls) (st .args .rs) (st .args .l .now) (st .args .r .now) (good-left (e .before .before)) g (fits e) _ _ (axis-is (c .before)) (count-is c))
 
--- src/lib.rt:38:9
 count-requires-2 : tie.Need-count-requires-2
 count-requires-2 c κs = search needs
 
--- src/lib.rt:40:9
 refused-requires-3 : tie.Need-refused-requires-3
 refused-requires-3 c κs = search needs
 
--- src/lib.rt:40:9
 returns-3 : tie.Need-returns-3
 returns-3 c =
     let n = c .before .before in
@@ -169,11 +157,9 @@ returns-3 c =
     replied-refused (c .refused3 .result) 9 (st .args .out .now) (c .refused3 .ensures)
     (limit-reply (names st) (st .args .out .now) (fine (e .before .before)) (none e) (made-no-rule (means st .lengths) (omega (arith, room n))))
 
--- src/lib.rt:43:9
 refused-requires-4 : tie.Need-refused-requires-4
 refused-requires-4 c κs = search needs
 
--- src/lib.rt:43:9
 returns-4 : tie.Need-returns-4
 returns-4 c =
     let n = c .before .before .before in
@@ -183,22 +169,18 @@ returns-4 c =
     replied-refused (c .refused4 .result) 10 (st .args .out .now) (c .refused4 .ensures)
     (space-reply (names st) (st .args .out .now) (fine (e .before .before)) (none e) (made-rule (means st .lengths) small) (omega (arith, room n, made-count (means st .lengths) small)))
 
--- src/lib.rt:45:20
 sub-select-into : tie.Need-sub-select-into
 sub-select-into c = search needs
 
--- src/lib.rt:45:20
 part-select-into-start : tie.Need-part-select-into-start
 part-select-into-start c = search needs
 
--- src/lib.rt:45:20
 part-select-into-end : tie.Need-part-select-into-end
 part-select-into-end c =
     let n = c .before .before .before .before in
     let g = good-left (n .before .before .before .before) in
     omega (arith, g .room, count-is n)
 
--- src/lib.rt:45:5
 select-into-requires : tie.Need-select-into-requires
 select-into-requires c κs =
     let w = c .before .before .before .before in
@@ -224,11 +206,9 @@ select-into-requires c κs =
       ),
     )
 
--- src/lib.rt:21:1
 same-length : tie.Need-same-length
 same-length c = search needs
 
--- src/lib.rt:21:1
 returns-5 : tie.Need-returns-5
 returns-5 c =
     let w = c .before .before .before .before .before .before in

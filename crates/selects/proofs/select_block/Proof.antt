@@ -4,7 +4,7 @@ use native.Mathlib.Nat.{mul-one}
 use Prim.Native.Nat.{ℕ, _*_}
 use mathlib.Core.Path.{_≡_, sym, ap, _∙_}
 use lib.ListN.{length, getD}
-use lib.IntN.{ℤ, pos, _-ℤ_}
+use lib.IntN.{pos, _-ℤ_}
 use Rattle.signed.proofs.Reading.{read32}
 use Rattle.meaning.specs.Terms.{within}
 use Rattle.copying.proofs.Runs.{filled}
@@ -20,7 +20,6 @@ use Rattle.selects.proofs.select_rows.Reads as select-rows-reads
 one : {w : ℕ} → w ≡ 1 → (n : ℕ) → n * w ≡ n
 one e n = ap (λ x. n * x) e ∙ mul-one n
 
--- src/lib.rt:123:9
 select-line-requires : tie.Need-select-line-requires
 select-line-requires c κs =
     let st = c .before .before in
@@ -29,15 +28,12 @@ select-line-requires c κs =
       (omega (arith, one e (st .args .n)), omega (arith, one e (length (st .args .l .now)))),
     )
 
--- src/lib.rt:125:9
 select-rows-requires : tie.Need-select-rows-requires
 select-rows-requires c κs = search needs
 
--- src/lib.rt:110:1
 same-length : tie.Need-same-length
 same-length c = search needs
 
--- src/lib.rt:110:1
 returns : tie.Need-returns
 returns c =
     let st = c .before .before .before .before in
@@ -49,11 +45,9 @@ returns c =
     ∙ one-row r (chosen (st .args .g) l) (length l) out
     ∙ ap (λ w. filled (λ i. getD r (inBlock w (chosen (st .args .g) l) i) (pos 0)) (length l * w) out) (sym (c .before .before .before .if1 .taken))
 
--- src/lib.rt:110:1
 same-length-2 : tie.Need-same-length-2
 same-length-2 c = search needs
 
--- src/lib.rt:110:1
 returns-2 : tie.Need-returns-2
 returns-2 c =
     let st = c .before .before .before .before in

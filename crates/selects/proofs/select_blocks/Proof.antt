@@ -1,10 +1,10 @@
 use borrow.Author.Needs.{needs}
 use native.Mathlib.Omega.{arith}
 use native.Mathlib.Nat.{mul-le-mul-right}
-use mathlib.Core.Path.{_≡_, refl, sym, ap, ap₂, _∙_}
-use Prim.Native.Nat.{_-_, _*_, _≤_, _<_, _+_}
+use mathlib.Core.Path.{_≡_, refl, ap, ap₂, _∙_}
+use Prim.Native.Nat.{_-_, _*_, _≤_, _+_}
 use lib.ListN.{length, getD}
-use lib.IntN.{ℤ, pos, _-ℤ_}
+use lib.IntN.{pos, _-ℤ_}
 use mir.Syntax.{w32}
 use mir.Val.{toZ, ofZ}
 use Rattle.signed.proofs.Reading.{read32}
@@ -45,67 +45,51 @@ inside c =
       omega (arith, mul-le-mul-right {m = o + 1} {n = st .args .outer} (length (st .args .l .now) * st .args .inner) (omega arith)),
     )
 
--- src/lib.rt:96:17
 mul-taken : tie.Need-mul-taken Inv-loop μ-loop
 mul-taken c = search needs
 
--- src/lib.rt:97:16
 mul-made : tie.Need-mul-made Inv-loop μ-loop
 mul-made c = search needs
 
--- src/lib.rt:99:5
 loop-holds : tie.Need-loop-holds Inv-loop μ-loop
 loop-holds c = (omega arith, (refl, filled-start _ (length (c .args .l .now) * c .args .inner) _))
 
--- src/lib.rt:100:20
 mul-from : tie.Need-mul-from Inv-loop μ-loop
 mul-from c = omega (arith, inside c)
 
--- src/lib.rt:101:18
 add-to : tie.Need-add-to Inv-loop μ-loop
 add-to c = omega (arith, inside c)
 
--- src/lib.rt:102:18
 mul-at : tie.Need-mul-at Inv-loop μ-loop
 mul-at c = omega (arith, inside c)
 
--- src/lib.rt:103:19
 add-end : tie.Need-add-end Inv-loop μ-loop
 add-end c = omega (arith, inside c)
 
--- src/lib.rt:104:38
 mul-select-block : tie.Need-mul-select-block Inv-loop μ-loop
 mul-select-block c = let i = inside c in search needs
 
--- src/lib.rt:104:38
 sub-select-block : tie.Need-sub-select-block Inv-loop μ-loop
 sub-select-block c = omega (arith, inside c)
 
--- src/lib.rt:104:38
 part-select-block-start : tie.Need-part-select-block-start Inv-loop μ-loop
 part-select-block-start c = omega (arith, inside c)
 
--- src/lib.rt:104:38
 part-select-block-end : tie.Need-part-select-block-end Inv-loop μ-loop
 part-select-block-end c = omega (arith, inside c)
 
--- src/lib.rt:104:52
 mul-select-block-2 : tie.Need-mul-select-block-2 Inv-loop μ-loop
 mul-select-block-2 c = let i = inside (c .before) in search needs
 
--- src/lib.rt:104:52
 sub-select-block-2 : tie.Need-sub-select-block-2 Inv-loop μ-loop
 sub-select-block-2 c = omega (arith, inside (c .before))
 
--- src/lib.rt:104:52
 part-select-block-start-2 : tie.Need-part-select-block-start-2 Inv-loop μ-loop
 part-select-block-start-2 c = omega (arith, inside (c .before))
 
--- src/lib.rt:104:52
 part-select-block-end-2 : tie.Need-part-select-block-end-2 Inv-loop μ-loop
 part-select-block-end-2 c = omega (arith, inside (c .before))
 
--- src/lib.rt:104:9
 select-block-requires : tie.Need-select-block-requires Inv-loop μ-loop
 select-block-requires c κs =
     let st = c .before .before .before .before in
@@ -115,15 +99,12 @@ select-block-requires c κs =
     let y = part-long (lp .out) (lp .o * (length (st .args .l .now) * st .args .inner)) (length (st .args .l .now) * st .args .inner) (omega arith) in
     (positions st, (omega arith, (omega arith, (omega arith, omega arith))))
 
--- src/lib.rt:105:9
 add-o : tie.Need-add-o Inv-loop μ-loop
 add-o c = search needs
 
--- src/lib.rt:99:5
 loop-less : tie.Need-loop-less Inv-loop μ-loop
 loop-less c = search needs
 
--- src/lib.rt:99:5
 loop-again : tie.Need-loop-again Inv-loop μ-loop
 loop-again c =
     let p = c .before .before .before .before in
@@ -139,11 +120,9 @@ loop-again c =
     (lp .inv .1 .1) refl refl refl refl (part-long (lp .out) (lp .o * (length l * w)) (length l * w) (omega arith)) (c .before .select-block .ensures) in
     (omega arith, (ap length e ∙ length-filled _ ((lp .o + 1) * (length l * w)) out₀ (omega arith), e))
 
--- src/lib.rt:81:1
 same-length : tie.Need-same-length Inv-loop μ-loop
 same-length c = search needs
 
--- src/lib.rt:81:1
 returns : tie.Need-returns Inv-loop μ-loop
 returns c =
     let lp = c .before .loop in

@@ -3,11 +3,11 @@ use native.Mathlib.Omega.{arith}
 use Prim.Native.Nat.{_*_}
 use mathlib.Core.Path.{_≡_, sym, ap, ap₂, _∙_}
 use mathlib.Core.List.{_++_}
-use lib.ListN.{length, getD, set, drop}
-use lib.IntN.{ℤ, pos, _-ℤ_}
+use lib.ListN.{length, getD, drop}
+use lib.IntN.{pos, _-ℤ_}
 use Rattle.signed.proofs.Reading.{read32}
 use Rattle.shape.specs.declared.Around.{Around}
-use Rattle.shape.specs.Shape.{maxRank, counted, aroundOf}
+use Rattle.shape.specs.Shape.{maxRank, aroundOf}
 use Rattle.shape.proofs.Surround.{Parts, parts}
 use Rattle.meaning.specs.Array.{tab}
 use Rattle.meaning.specs.Terms.{within}
@@ -48,15 +48,12 @@ positions c i h =
     let st = c .before in
     ap (λ n. within (getD (st .args .l .now) i (pos 0) -ℤ st .args .g) n) (around-parts c .length-is) ∙ st .pre .1 .1 .0 i h
 
--- src/lib.rt:133:9
 returns : tie.Need-returns
 returns c = let st = c .before in none-made _ _ (st .args .total) (st .args .out .now) (st .pre .1 .1 .1 .0) (c .if1 .taken)
 
--- src/lib.rt:135:9
 around-requires : tie.Need-around-requires
 around-requires c κs = search needs
 
--- src/lib.rt:136:5
 select-blocks-requires : tie.Need-select-blocks-requires
 select-blocks-requires c κs =
     let e = c .before .before in
@@ -66,11 +63,9 @@ select-blocks-requires c κs =
     let p = around-parts e in
     rw a (λ i h. ap (λ G. within (getD (st .args .l .now) i (pos 0) -ℤ G) (aroundOf (st .args .rs) (st .args .k) .length)) (read32 _ (st .fits .g)) ∙ positions e i h, (omega (arith, p .outer-small), (b .taken-small, (b .made-small, (b .taken, omega (arith, b .made))))))
 
--- src/lib.rt:118:1
 same-length : tie.Need-same-length
 same-length c = search needs
 
--- src/lib.rt:118:1
 returns-2 : tie.Need-returns-2
 returns-2 c =
     let e = c .before .before .before .before in

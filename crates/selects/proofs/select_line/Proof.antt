@@ -1,9 +1,9 @@
 use borrow.Author.Needs.{needs, sfits-of}
 use native.Mathlib.Omega.{arith}
 use mathlib.Core.Path.{_≡_, refl, sym, ap, ap₂, _∙_}
-use Prim.Native.Nat.{_-_, _≤_, _<_, _+_}
+use Prim.Native.Nat.{_-_, _≤_, _<_}
 use lib.ListN.{length, getD, set, length-set}
-use lib.IntN.{ℤ, pos, _-ℤ_}
+use lib.IntN.{pos, _-ℤ_}
 use Rattle.signed.proofs.Reading.{read32}
 use Rattle.meaning.proofs.Positions.{positionOf}
 use mir.Syntax.{w32}
@@ -37,47 +37,36 @@ found c =
     (c .position .ensures ∙ ap₂ (λ z y. positionOf (z -ℤ y) (st .args .n)) (read32 (getD l i (pos 0)) (sfits-of (c .before .position-arg .given))) e) in
     (f .0 ∙ ap (λ G. chosen G l i) (sym e), f .1)
 
--- src/lib.rt:136:5
 loop-holds : tie.Need-loop-holds Inv-loop μ-loop
 loop-holds c = (omega arith, (refl, filled-none _ _))
 
--- src/lib.rt:137:34
 mul-position : tie.Need-mul-position Inv-loop μ-loop
 mul-position c = search needs
 
--- src/lib.rt:137:34
 shared-slice-copy-out-position : tie.Need-shared-slice-copy-out-position Inv-loop μ-loop
 shared-slice-copy-out-position c = search needs
 
--- src/lib.rt:137:13
 position-requires : tie.Need-position-requires Inv-loop μ-loop
 position-requires c κs = search needs
 
--- src/lib.rt:138:18
 mul-out : tie.Need-mul-out Inv-loop μ-loop
 mul-out c = let f = found c .1 in search needs
 
--- src/lib.rt:138:18
 shared-slice-copy-out-out : tie.Need-shared-slice-copy-out-out Inv-loop μ-loop
 shared-slice-copy-out-out c = let f = found c .1 in omega arith
 
--- src/lib.rt:138:9
 mul-t13 : tie.Need-mul-t13 Inv-loop μ-loop
 mul-t13 c = search needs
 
--- src/lib.rt:138:9
 slice-set-from-out : tie.Need-slice-set-from-out Inv-loop μ-loop
 slice-set-from-out c = search needs
 
--- src/lib.rt:139:9
 add-i : tie.Need-add-i Inv-loop μ-loop
 add-i c = search needs
 
--- src/lib.rt:136:5
 loop-less : tie.Need-loop-less Inv-loop μ-loop
 loop-less c = search needs
 
--- src/lib.rt:136:5
 loop-again : tie.Need-loop-again Inv-loop μ-loop
 loop-again c =
     let p = c .before in
@@ -93,11 +82,9 @@ loop-again c =
       ),
     )
 
--- src/lib.rt:129:1
 same-length : tie.Need-same-length Inv-loop μ-loop
 same-length c = search needs
 
--- src/lib.rt:129:1
 returns : tie.Need-returns Inv-loop μ-loop
 returns c =
     let lp = c .before .loop in

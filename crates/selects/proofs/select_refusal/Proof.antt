@@ -1,10 +1,10 @@
 use borrow.Author.Needs.{needs}
 use native.Mathlib.Omega.{arith}
 use native.Mathlib.Nat.{sub-zero}
-use Prim.Native.Nat.{ℕ, _-_, _<_, _≤_}
+use Prim.Native.Nat.{_-_, _<_, _≤_}
 use mathlib.Core.Path.{_≡_, sym, ap, ap₂, _∙_}
 use mathlib.Core.List.{List}
-use mathlib.Core.Bool.{Bool, true}
+use mathlib.Core.Bool.{true}
 use lib.ListN.{length, getD, take}
 use lib.Seq.{length-take-le}
 use lib.IntN.{ℤ, natAbs, _-ℤ_}
@@ -78,22 +78,18 @@ tested c b =
     (ap (λ i. getD (st .args .t5 .lens) i 0) at ∙ sym (axis-is (st .args .t5) b (natAbs (st .args .k -ℤ st .args .g)) (omega arith)))
     (ap (λ n. take n (st .args .l .now)) (sub-zero _ ∙ c .before .before .count .ensures ∙ g .count-is))
 
--- src/lib.rt:27:9
 returns : tie.Need-returns
 returns c b = sym (select-scalar (c .before .args .g) (c .before .args .k) (left (c .before)) (right (c .before) b) (rank-is (c .before) b ∙ c .if1 .taken))
 
--- src/lib.rt:30:9
 returns-2 : tie.Need-returns-2
 returns-2 c b =
     let e = c .before .before in
     let st = e .before in
     sym (select-rank (st .args .g) (st .args .k) (left st) (right st b) (some e b) (omega (arith, good st .rank-is)))
 
--- src/lib.rt:32:9
 position-requires : tie.Need-position-requires
 position-requires c κs = search needs
 
--- src/lib.rt:34:9
 returns-3 : tie.Need-returns-3
 returns-3 c b =
     let e = c .before .before in
@@ -101,35 +97,27 @@ returns-3 c b =
     sym (select-axis (st .args .g) (st .args .k) (left st) (right st b) (some (e .before .before) b) (list e)
     (ap (within _) (rank-is st b) ∙ position-none _ _ (omega (arith, found (c .before), c .if3 .taken))))
 
--- src/lib.rt:36:13
 mul-n : tie.Need-mul-n
 mul-n c = let h = high (c .before .before .before .before .before) in search needs
 
--- src/lib.rt:36:13
 element-copy-out-n : tie.Need-element-copy-out-n
 element-copy-out-n c = let h = high (c .before .before .before .before .before) in omega arith
 
--- src/lib.rt:37:9
 count-requires : tie.Need-count-requires
 count-requires c κs = search needs
 
--- src/lib.rt:38:22
 sub-all-within : tie.Need-sub-all-within
 sub-all-within c = search needs
 
--- src/lib.rt:38:22
 part-all-within-start : tie.Need-part-all-within-start
 part-all-within-start c = search needs
 
--- src/lib.rt:38:22
 part-all-within-end : tie.Need-part-all-within-end
 part-all-within-end c = let g = good (c .before .before .before .before .before .before .before) in omega (arith, g .room, g .count-is, c .count .ensures)
 
--- src/lib.rt:38:8
 all-within-requires : tie.Need-all-within-requires
 all-within-requires c κs = search needs
 
--- src/lib.rt:21:1
 returns-4 : tie.Need-returns-4
 returns-4 c b =
     let e = c .before .before .before .before .before in
@@ -137,7 +125,6 @@ returns-4 c b =
     sym (select-none (st .args .g) (st .args .k) (left st) (right st b) (some (e .before .before .before .before) b) (list (e .before .before))
     (ap (within _) (rank-is st b) ∙ on-axis e .0) (sym (tested (c .before) b) ∙ c .if4 .taken))
 
--- src/lib.rt:21:1
 returns-5 : tie.Need-returns-5
 returns-5 c b =
     let e = c .before .before .before .before .before in

@@ -4,7 +4,7 @@ use mathlib.Core.Path.{_≡_, refl, sym, ap, ap₂, _∙_}
 use Prim.Native.Nat.{_-_, _*_, _≤_, _<_, _+_}
 use lib.ListN.{length, getD}
 use native.Mathlib.Nat.{mul-le-mul-right}
-use lib.IntN.{ℤ, pos, _-ℤ_}
+use lib.IntN.{pos, _-ℤ_}
 use Rattle.signed.proofs.Reading.{read32}
 use Rattle.meaning.proofs.Positions.{positionOf}
 use mir.Syntax.{w32}
@@ -52,83 +52,63 @@ inside c =
       omega (arith, mul-le-mul-right {m = c .before .before .before .loop .q + 1} {n = length (st .args .l .now)} (st .args .inner) (omega arith)),
     )
 
--- src/lib.rt:157:5
 loop-holds : tie.Need-loop-holds Inv-loop μ-loop
 loop-holds c = (omega arith, (refl, filled-start _ (c .args .inner) _))
 
--- src/lib.rt:158:34
 mul-position : tie.Need-mul-position Inv-loop μ-loop
 mul-position c = search needs
 
--- src/lib.rt:158:34
 shared-slice-copy-out-position : tie.Need-shared-slice-copy-out-position Inv-loop μ-loop
 shared-slice-copy-out-position c = search needs
 
--- src/lib.rt:158:13
 position-requires : tie.Need-position-requires Inv-loop μ-loop
 position-requires c κs = search needs
 
--- src/lib.rt:159:20
 mul-from : tie.Need-mul-from Inv-loop μ-loop
 mul-from c = omega (arith, inside c)
 
--- src/lib.rt:160:18
 add-to : tie.Need-add-to Inv-loop μ-loop
 add-to c = omega (arith, inside c)
 
--- src/lib.rt:161:18
 mul-at : tie.Need-mul-at Inv-loop μ-loop
 mul-at c = omega (arith, inside c)
 
--- src/lib.rt:162:19
 add-end : tie.Need-add-end Inv-loop μ-loop
 add-end c = omega (arith, inside c)
 
--- src/lib.rt:163:27
 mul-copy-run : tie.Need-mul-copy-run Inv-loop μ-loop
 mul-copy-run c = let i = inside c in search needs
 
--- src/lib.rt:163:27
 sub-copy-run : tie.Need-sub-copy-run Inv-loop μ-loop
 sub-copy-run c = omega (arith, inside c)
 
--- src/lib.rt:163:27
 part-copy-run-start : tie.Need-part-copy-run-start Inv-loop μ-loop
 part-copy-run-start c = omega (arith, inside c)
 
--- src/lib.rt:163:27
 part-copy-run-end : tie.Need-part-copy-run-end Inv-loop μ-loop
 part-copy-run-end c = omega (arith, inside c)
 
--- src/lib.rt:163:41
 mul-copy-run-2 : tie.Need-mul-copy-run-2 Inv-loop μ-loop
 mul-copy-run-2 c = let i = inside (c .before) in search needs
 
--- src/lib.rt:163:41
 sub-copy-run-2 : tie.Need-sub-copy-run-2 Inv-loop μ-loop
 sub-copy-run-2 c = omega (arith, inside (c .before))
 
--- src/lib.rt:163:41
 part-copy-run-start-2 : tie.Need-part-copy-run-start-2 Inv-loop μ-loop
 part-copy-run-start-2 c = omega (arith, inside (c .before))
 
--- src/lib.rt:163:41
 part-copy-run-end-2 : tie.Need-part-copy-run-end-2 Inv-loop μ-loop
 part-copy-run-end-2 c = omega (arith, inside (c .before))
 
--- src/lib.rt:163:9
 copy-run-requires : tie.Need-copy-run-requires Inv-loop μ-loop
 copy-run-requires c κs = search needs
 
--- src/lib.rt:164:9
 add-q : tie.Need-add-q Inv-loop μ-loop
 add-q c = search needs
 
--- src/lib.rt:157:5
 loop-less : tie.Need-loop-less Inv-loop μ-loop
 loop-less c = search needs
 
--- src/lib.rt:157:5
 loop-again : tie.Need-loop-again Inv-loop μ-loop
 loop-again c =
     let p = c .before .before .before .before in
@@ -141,11 +121,9 @@ loop-again c =
     (lp .inv .1 .1) refl (omega arith) (ap (λ x. x * w) (found p .0)) refl (omega arith) (c .before .copy-run .ensures) in
     (omega arith, (ap length e ∙ length-filled _ ((lp .q + 1) * w) out₀ (omega arith), e))
 
--- src/lib.rt:144:1
 same-length : tie.Need-same-length Inv-loop μ-loop
 same-length c = search needs
 
--- src/lib.rt:144:1
 returns : tie.Need-returns Inv-loop μ-loop
 returns c =
     let lp = c .before .loop in

@@ -8,19 +8,15 @@ use Rattle.selects.proofs.selected.Lts as lts
 use Rattle.selects.proofs.removed.Reads as removed-reads
 use Rattle.shape.proofs.Shape.with_length.Reads as with-length-reads
 
--- src/lib.rt:89:20
 removed-requires : tie.Need-removed-requires
 removed-requires c κs = search needs
 
--- src/lib.rt:89:44
 with-length-requires : tie.Need-with-length-requires
 with-length-requires c κs = search needs
 
--- src/lib.rt:85:1
 returns : tie.Need-returns
 returns c = let st = c .before .before in c .removed .ensures ∙ rw (eq-eqb (st .args .left) 0 (c .before .if1 .taken))
 
--- src/lib.rt:85:1
 returns-2 : tie.Need-returns-2
 returns-2 c = let st = c .before .before in c .with-length .ensures ∙ rw (ne-eqb (st .args .left) 0 (c .before .if1 .left))
 

@@ -10,19 +10,15 @@ use Rattle.shape.proofs.Shape.with_length.Reads as reads
 use Rattle.shape.proofs.Shape.with_length.Lts as lts
 use Rattle.shape.proofs.Shape.of_lengths.Reads as of-lengths-reads
 
--- src/lib.rt:61:5
 mul-lens : tie.Need-mul-lens
 mul-lens c = search needs
 
--- src/lib.rt:61:5
 array-write-lens : tie.Need-array-write-lens
 array-write-lens c = search needs
 
--- src/lib.rt:62:5
 of-lengths-requires : tie.Need-of-lengths-requires
 of-lengths-requires c κs = search needs
 
--- src/lib.rt:56:1
 returns : tie.Need-returns
 returns c =
     let st = c .before .before in
