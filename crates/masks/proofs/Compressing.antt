@@ -1,22 +1,20 @@
 -- What 27 gives, as its code finds it.
 use mathlib.Core.Path.{_≡_, refl, sym, ap, ap₂, _∙_}
 use mathlib.Core.List.{List, [], _∷_, _++_}
-use mathlib.Core.Bool.{Bool, true, false, not, cond, _&&_, _||_}
-use Prim.Native.Nat.{ℕ, suc, _+_, _*_, _-_, _≤_, _<_}
+use mathlib.Core.Bool.{Bool, true, false, not, cond, _||_}
+use Prim.Native.Nat.{ℕ, suc, _*_, _-_, _≤_, _<_}
 use native.Mathlib.Decide.{decLe}
 use native.Mathlib.Nat.{mul-zero, zero-mul, zero-add, sub-zero}
 use native.Mathlib.Omega.{arith}
-use borrow.Author.Tests.{le-leb, lt-leb, eq-eqb, ne-eqb, eqb-true, eqb-false}
-use lib.ListN.{length, getD, take, drop, set, replicate}
+use borrow.Author.Tests.{le-leb, lt-leb, ne-eqb, eqb-true}
+use lib.ListN.{length, getD, take, drop, set}
 use lib.Seq.{set-getD, length-take-le, getD-take}
 use lib.Dec.{eqb}
 use lib.IntN.{ℤ, pos, natAbs, _-ℤ_}
 use Rattle.shape.specs.declared.Shape.{Shape}
 use Rattle.shape.specs.Shape.{maxRank, maxCount, counted, count, countOf, shapeOf}
-use Rattle.shape.proofs.Places.{In}
 use Rattle.shape.proofs.Axis.{in-at}
 use Rattle.shape.proofs.Surround.{count-set}
-use Rattle.shape.proofs.Bools.{no-way}
 use Rattle.meaning.specs.Array.{Operand, Array, arrayOf, at, build}
 use Rattle.meaning.specs.Refusal.{Rule, _unless_, number, meets, winner}
 use Rattle.meaning.specs.Refusal.Refusal.{RANK, AXIS, LENGTH, DOMAIN}
@@ -29,8 +27,8 @@ use Rattle.copying.proofs.Runs.{copied-fits}
 use Rattle.answer.specs.Answer.{lent, ownOrder, own}
 use Rattle.answer.proofs.Lent.{Lent, lent-good}
 use Rattle.answer.proofs.Order.{Names}
-use Rattle.masks.specs.Vector.{vectorShape}
-use Rattle.masks.proofs.Results.{vector-array, result-count, form-of, part-is, Call, call-good, call-has, call-axis}
+use Rattle.masks.specs.Uses.{compressTest}
+use Rattle.masks.proofs.Results.{result-count, form-of, part-is, Call, call-good, call-has, call-axis}
 use Rattle.masks.specs.Rows.{maskOf, width, fits, takes, taken, keptAt, Along, Compressed}
 use Rattle.masks.proofs.Ones.{mask-single, mask-list, ones-all, ones-no, ones-same}
 use Rattle.masks.proofs.Lined.{build-none}
@@ -71,10 +69,8 @@ compress-names G K L R W e = record {
 
 -- No refusal is met.
 pub record Free (G K : ℤ) (L W : Array) : Type 0 where
-  pub list : rank L ≤ 1
   pub has : within (K -ℤ G) (rank W) ≡ true
   pub fitting : (eqb (length (L .elements)) 1 || eqb (axis W (natAbs (K -ℤ G))) 1 || eqb (length (L .elements)) (axis W (natAbs (K -ℤ G)))) ≡ true
-  pub bits : every isBit (L .elements) ≡ true
 
 module _ (G K : ℤ) (L W : Array) where
   pub compress-rank : 1 < rank L → own 27 (rulesOf G K L W) ≡ 4
@@ -85,52 +81,38 @@ module _ (G K : ℤ) (L W : Array) where
   unfolding ownOrder winner meets number
   compress-axis h a = rw (le-leb (rank L) 1 h, a)
 
-  pub compress-length : rank L ≤ 1 → within (K -ℤ G) (rank W) ≡ true
-      → (eqb (length (L .elements)) 1 || eqb (axis W (natAbs (K -ℤ G))) 1 || eqb (length (L .elements)) (axis W (natAbs (K -ℤ G)))) ≡ false
-      → own 27 (rulesOf G K L W) ≡ 6
-  unfolding ownOrder winner meets number
-  compress-length h a f = rw (le-leb (rank L) 1 h, a, f)
+  -- LENGTH before DOMAIN.
+  pub compress-test : rank L ≤ 1 → within (K -ℤ G) (rank W) ≡ true → own 27 (rulesOf G K L W) ≡ compressTest (L .elements) (axis W (natAbs (K -ℤ G)))
+  unfolding ownOrder winner meets number compressTest
+  compress-test h a =
+      rw (le-leb (rank L) 1 h, a)
+      (by
+      (eqb (length (L .elements)) 1 || eqb (axis W (natAbs (K -ℤ G))) 1 || eqb (length (L .elements)) (axis W (natAbs (K -ℤ G))))
+      (every isBit (L .elements)))
+    where
+      by : (f b : Bool) → _≡_ {A = ℕ} (cond (not f || false) 6 (cond (not b || false) 7 0)) (cond f (cond b 0 7) 6)
+      by true true = refl
+      by true false = refl
+      by false b = refl
 
-  pub compress-domain : rank L ≤ 1 → within (K -ℤ G) (rank W) ≡ true
+  test-fitting : compressTest (L .elements) (axis W (natAbs (K -ℤ G))) ≡ 0
       → (eqb (length (L .elements)) 1 || eqb (axis W (natAbs (K -ℤ G))) 1 || eqb (length (L .elements)) (axis W (natAbs (K -ℤ G)))) ≡ true
-      → every isBit (L .elements) ≡ false → own 27 (rulesOf G K L W) ≡ 7
-  unfolding ownOrder winner meets number
-  compress-domain h a f b = rw (le-leb (rank L) 1 h, a, f, b)
-
-  pub compress-none : Free G K L W → own 27 (rulesOf G K L W) ≡ 0
-  unfolding ownOrder winner meets number
-  compress-none f = rw (le-leb (rank L) 1 (f .list), f .has, f .fitting, f .bits)
+  unfolding compressTest
+  test-fitting e = by _ (every isBit (L .elements)) e
+    where
+      by : (f b : Bool) → _≡_ {A = ℕ} (cond f (cond b 0 7) 6) 0 → f ≡ true
+      by true b e = refl
+      by false b e = absurd (omega arith)
 
   pub compress-free : own 27 (rulesOf G K L W) ≡ 0 → Free G K L W
   compress-free e =
       let list : rank L ≤ 1 = elim (decLe (rank L) 1) [ yes h ↦ h | no h ↦ absurd (omega (arith, compress-rank (omega arith))) ] in
       let has : within (K -ℤ G) (rank W) ≡ true = by-axis _ refl list in
-      let fitting = by-length _ refl list has in
-      record { list = list; has = has; fitting = fitting; bits = by-bits _ refl list has fitting }
+      record { has = has; fitting = test-fitting (sym (compress-test list has) ∙ e) }
     where
       by-axis : (b : Bool) → within (K -ℤ G) (rank W) ≡ b → rank L ≤ 1 → within (K -ℤ G) (rank W) ≡ true
       by-axis true t list = t
       by-axis false t list = absurd (omega (arith, compress-axis list t))
-
-      by-length : (b : Bool) → (eqb (length (L .elements)) 1 || eqb (axis W (natAbs (K -ℤ G))) 1 || eqb (length (L .elements)) (axis W (natAbs (K -ℤ G)))) ≡ b
-          → rank L ≤ 1 → within (K -ℤ G) (rank W) ≡ true
-          → (eqb (length (L .elements)) 1 || eqb (axis W (natAbs (K -ℤ G))) 1 || eqb (length (L .elements)) (axis W (natAbs (K -ℤ G)))) ≡ true
-      by-length true t list has = t
-      by-length false t list has = absurd (omega (arith, compress-length list has t))
-
-      by-bits : (b : Bool) → every isBit (L .elements) ≡ b → rank L ≤ 1 → within (K -ℤ G) (rank W) ≡ true
-          → (eqb (length (L .elements)) 1 || eqb (axis W (natAbs (K -ℤ G))) 1 || eqb (length (L .elements)) (axis W (natAbs (K -ℤ G)))) ≡ true
-          → every isBit (L .elements) ≡ true
-      by-bits true t list has fitting = t
-      by-bits false t list has fitting = absurd (omega (arith, compress-domain list has fitting t))
-
--- The refusals, by the shape that R is read with.
-module _ (G K : ℤ) (ls : Shape) (l : List ℤ) (rs : Shape) (b : List ℤ) (s : Shape) (e : s ≡ vectorShape rs) (h : length (counted rs) ≡ rs .rank) where
-  pub refusal-is : own 27 (rulesOf G K (arrayOf (lent ls l)) (arrayOf (lent s b))) ≡ own 27 (compress G K (arrayOf (lent ls l)) (arrayOf (lent rs b)) .refusals)
-  refusal-is =
-      sym
-      (ap (λ (m : Meaning). own 27 (m .refusals)) (compress-is G K (arrayOf (lent ls l)) (arrayOf (lent rs b)))
-      ∙ ap (λ a. own 27 (rulesOf G K (arrayOf (lent ls l)) a)) (vector-array rs b h ∙ ap (λ x. arrayOf (lent x b)) (sym e)))
 
 -- What the code puts in front of the output buffer.
 module _ (l : List ℤ) (s : Shape) (k m total : ℕ) (r : List ℤ) (room : ℕ) (a : Compressed l s k m total r room) (long : length (s .lens) ≡ maxRank) where

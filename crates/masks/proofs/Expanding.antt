@@ -1,12 +1,12 @@
 -- What 28 gives, as its code finds it.
 use mathlib.Core.Path.{_≡_, refl, sym, ap, ap₂, _∙_}
 use mathlib.Core.List.{List, [], _∷_, _++_}
-use mathlib.Core.Bool.{Bool, true, false, not, cond, _&&_, _||_}
-use Prim.Native.Nat.{ℕ, suc, _+_, _*_, _/_, _-_, _≤_, _<_}
+use mathlib.Core.Bool.{Bool, true, false, not, cond, _||_}
+use Prim.Native.Nat.{ℕ, _/_, _-_, _≤_, _<_}
 use native.Mathlib.Decide.{decLe}
 use native.Mathlib.Nat.{mul-one, div-one}
 use native.Mathlib.Omega.{arith}
-use borrow.Author.Tests.{le-leb, lt-leb, eq-eqb, eqb-true}
+use borrow.Author.Tests.{le-leb, lt-leb, eqb-true}
 use lib.ListN.{length, getD, take, drop, set}
 use lib.Seq.{getD-take}
 use lib.Dec.{eqb}
@@ -26,8 +26,8 @@ use Rattle.answer.specs.Answer.{lent, ownOrder, own}
 use Rattle.answer.proofs.Lent.{Lent, lent-good}
 use Rattle.answer.proofs.Order.{Names}
 use Rattle.masks.specs.Rows.{width, fits, takes, taken, Along, openedAt, Expanded}
-use Rattle.masks.specs.Vector.{vectorShape}
-use Rattle.masks.proofs.Results.{vector-array, scalar-counted, result-count, form-of, part-is, Call, call-good, call-has, call-axis}
+use Rattle.masks.specs.Uses.{expandTest}
+use Rattle.masks.proofs.Results.{scalar-counted, result-count, form-of, part-is, Call, call-good, call-has, call-axis}
 
 -- By whether R is a scalar, and W, which is R where R is read as a vector.
 abbrev pub rulesOf : ℤ → ℤ → Array → Bool → Array → List Rule
@@ -64,9 +64,7 @@ expand-names G K L R b W s e = record {
 
 -- No refusal is met.
 pub record Free (G K : ℤ) (L : Array) (b : Bool) (W : Array) : Type 0 where
-  pub list : rank L ≤ 1
   pub has : within (K -ℤ G) (rank W) ≡ true
-  pub bits : every isBit (L .elements) ≡ true
   pub fitting : (b || eqb (length (ones (L .elements))) (axis W (natAbs (K -ℤ G)))) ≡ true
 
 module _ (G K : ℤ) (L : Array) (b : Bool) (W : Array) where
@@ -79,47 +77,34 @@ module _ (G K : ℤ) (L : Array) (b : Bool) (W : Array) where
   expand-axis h a = rw (le-leb (rank L) 1 h, a)
 
   -- DOMAIN before LENGTH.
-  pub expand-domain : rank L ≤ 1 → within (K -ℤ G) (rank W) ≡ true → every isBit (L .elements) ≡ false → own 28 (rulesOf G K L b W) ≡ 7
-  unfolding ownOrder winner meets number
-  expand-domain h a d = rw (le-leb (rank L) 1 h, a, d)
+  pub expand-test : rank L ≤ 1 → within (K -ℤ G) (rank W) ≡ true → own 28 (rulesOf G K L b W) ≡ expandTest (L .elements) b (axis W (natAbs (K -ℤ G)))
+  unfolding ownOrder winner meets number expandTest
+  expand-test h a = rw (le-leb (rank L) 1 h, a) (by (b || eqb (length (ones (L .elements))) (axis W (natAbs (K -ℤ G)))) (every isBit (L .elements)))
+    where
+      by : (f d : Bool) → _≡_ {A = ℕ} (cond (not d || false) 7 (cond (not f || false) 6 0)) (cond d (cond f 0 6) 7)
+      by true true = refl
+      by true false = refl
+      by false true = refl
+      by false false = refl
 
-  pub expand-length : rank L ≤ 1 → within (K -ℤ G) (rank W) ≡ true → every isBit (L .elements) ≡ true
-      → (b || eqb (length (ones (L .elements))) (axis W (natAbs (K -ℤ G)))) ≡ false → own 28 (rulesOf G K L b W) ≡ 6
-  unfolding ownOrder winner meets number
-  expand-length h a d f = rw (le-leb (rank L) 1 h, a, d, f)
-
-  pub expand-none : Free G K L b W → own 28 (rulesOf G K L b W) ≡ 0
-  unfolding ownOrder winner meets number
-  expand-none f = rw (le-leb (rank L) 1 (f .list), f .has, f .bits, f .fitting)
+  test-fitting : expandTest (L .elements) b (axis W (natAbs (K -ℤ G))) ≡ 0 → (b || eqb (length (ones (L .elements))) (axis W (natAbs (K -ℤ G)))) ≡ true
+  unfolding expandTest
+  test-fitting e = by _ (every isBit (L .elements)) e
+    where
+      by : (f d : Bool) → _≡_ {A = ℕ} (cond d (cond f 0 6) 7) 0 → f ≡ true
+      by true d e = refl
+      by false true e = absurd (omega arith)
+      by false false e = absurd (omega arith)
 
   pub expand-free : own 28 (rulesOf G K L b W) ≡ 0 → Free G K L b W
   expand-free e =
       let list : rank L ≤ 1 = elim (decLe (rank L) 1) [ yes h ↦ h | no h ↦ absurd (omega (arith, expand-rank (omega arith))) ] in
       let has : within (K -ℤ G) (rank W) ≡ true = by-axis _ refl list in
-      let bits : every isBit (L .elements) ≡ true = by-bits _ refl list has in
-      record { list = list; has = has; bits = bits; fitting = by-length _ refl list has bits }
+      record { has = has; fitting = test-fitting (sym (expand-test list has) ∙ e) }
     where
       by-axis : (t : Bool) → within (K -ℤ G) (rank W) ≡ t → rank L ≤ 1 → within (K -ℤ G) (rank W) ≡ true
       by-axis true t list = t
       by-axis false t list = absurd (omega (arith, expand-axis list t))
-
-      by-bits : (t : Bool) → every isBit (L .elements) ≡ t → rank L ≤ 1 → within (K -ℤ G) (rank W) ≡ true → every isBit (L .elements) ≡ true
-      by-bits true t list has = t
-      by-bits false t list has = absurd (omega (arith, expand-domain list has t))
-
-      by-length : (t : Bool) → (b || eqb (length (ones (L .elements))) (axis W (natAbs (K -ℤ G)))) ≡ t → rank L ≤ 1 → within (K -ℤ G) (rank W) ≡ true
-          → every isBit (L .elements) ≡ true → (b || eqb (length (ones (L .elements))) (axis W (natAbs (K -ℤ G)))) ≡ true
-      by-length true t list has bits = t
-      by-length false t list has bits = absurd (omega (arith, expand-length list has bits t))
-
--- The refusals, by the shape that R is read with.
-module _ (G K : ℤ) (ls : Shape) (l : List ℤ) (rs : Shape) (b : List ℤ) (s : Shape) (e : s ≡ vectorShape rs) (h : length (counted rs) ≡ rs .rank) where
-  pub refusal-is : own 28 (rulesOf G K (arrayOf (lent ls l)) (eqb (rs .rank) 0) (arrayOf (lent s b)))
-      ≡ own 28 (expand G K (arrayOf (lent ls l)) (arrayOf (lent rs b)) .refusals)
-  refusal-is =
-      sym
-      (ap (λ (m : Meaning). own 28 (m .refusals)) (expand-is G K (arrayOf (lent ls l)) (arrayOf (lent rs b)))
-      ∙ ap₂ (λ t a. own 28 (rulesOf G K (arrayOf (lent ls l)) t a)) (ap (λ x. eqb x 0) h) (vector-array rs b h ∙ ap (λ x. arrayOf (lent x b)) (sym e)))
 
 -- What the code puts in front of the output buffer.
 module _ (scalar : Bool) (l : List ℤ) (s : Shape) (k total : ℕ) (r : List ℤ) (room : ℕ) (a : Expanded scalar l s k total r room) (long : length (s .lens) ≡ maxRank) where

@@ -10,3 +10,4 @@ pub mod Results
 pub mod Lined
 pub mod Compressing
 pub mod Expanding
+pub mod Masking

@@ -1,16 +1,15 @@
 -- The lines along an axis, from the whole operand.
-use mathlib.Core.Path.{_≡_, refl, sym, ap, ap₂, _∙_}
-use mathlib.Core.List.{List, [], _∷_, _++_}
-use mathlib.Core.Bool.{Bool, true, false, cond}
-use Prim.Native.Nat.{ℕ, suc, _+_, _*_, _≤_, _<_}
-use native.Mathlib.Nat.{mul-assoc}
+use mathlib.Core.Path.{_≡_, sym, ap, ap₂, _∙_}
+use mathlib.Core.List.{List, [], _++_}
+use mathlib.Core.Bool.{Bool, true, cond}
+use Prim.Native.Nat.{ℕ, _*_, _<_}
 use native.Mathlib.Omega.{arith}
-use lib.ListN.{length, getD, take, drop, set}
+use lib.ListN.{length, getD, drop, set}
 use lib.IntN.{ℤ, pos}
 use Rattle.shape.specs.declared.Shape.{Shape}
 use Rattle.shape.specs.declared.Around.{Around}
-use Rattle.shape.specs.Shape.{maxRank, maxCount, counted, count, aroundOf}
-use Rattle.shape.proofs.Surround.{Parts, parts, count-set}
+use Rattle.shape.specs.Shape.{maxRank, counted, count, aroundOf}
+use Rattle.shape.proofs.Surround.{Parts, parts}
 use Rattle.shape.specs.Place.{place}
 use Rattle.meaning.specs.Array.{arrayOf, tab, build}
 use Rattle.meaning.specs.Terms.{along}
@@ -18,7 +17,7 @@ use Rattle.meaning.proofs.Tab.{tab-none}
 use Rattle.copying.proofs.Runs.{filled}
 use Rattle.answer.specs.Answer.{lent}
 use Rattle.answer.proofs.Lent.{Lent, lent-good}
-use Rattle.masks.specs.Rows.{width, fits, takes, taken, placed, Blocks, Along}
+use Rattle.masks.specs.Rows.{fits, takes, taken, placed, Blocks, Along}
 use Rattle.masks.proofs.Uses.{taken-lt}
 use Rattle.masks.proofs.Placing.{held, along-placed}
 
@@ -51,7 +50,6 @@ module _ (e : Bool) (l : List ℤ) (s : Shape) (k m total : ℕ) (r : List ℤ) 
         fitting = ap (fits e l) (around .length-is) ∙ a .fitting;
         wide = a .wide;
         some = around .outer-some;
-        rows = around .some;
         row = around .inner-some;
         source = omega (arith, good .room, held s k m total (omega (arith, good .rank-is, a .has)) around);
         room = omega (arith, a .space, around .whole);

@@ -1,17 +1,28 @@
 -- The ones of a mask, and how many there are before a position.
-use mathlib.Core.Path.{_≡_, refl, sym, ap, ap₂, _∙_}
+use mathlib.Core.Path.{_≡_, refl, sym, ap, _∙_}
 use mathlib.Core.List.{List, [], _∷_, _++_}
 use mathlib.Core.Bool.{Bool, true, false, cond}
 use Prim.Native.Nat.{ℕ, zero, suc, _+_, _≤_, _<_}
-use native.Mathlib.Nat.{add-zero, add-suc}
+use native.Mathlib.Nat.{add-zero}
 use native.Mathlib.Numerals.{add-one}
 use native.Mathlib.Omega.{arith}
-use lib.ListN.{length, getD, take, drop, replicate, length-append, length-take, length-replicate, getD-replicate}
-use lib.Seq.{take-suc, split-at, take-all, getD-at, getD-append-add, length-take-le}
+use lib.ListN.{length, getD, take, drop, replicate, length-append, length-take}
+use lib.Seq.{take-suc, split-at, take-all, getD-at, length-take-le}
 use lib.IntN.{ℤ, pos}
+use lib.Dec.{lit<}
+use mir.Syntax.{w32}
+use mir.Val.{SFits, ofZ}
+use Rattle.signed.proofs.Equal.{eqZ-key}
 use borrow.Author.Tests.{eq-eqb, ne-eqb}
 use Rattle.meaning.specs.Terms.{eqZ, onesFrom, ones}
 use Rattle.masks.specs.Rows.{maskOf}
+
+-- What the code's test `z == 1` tells.
+pub test-one : (z : ℤ) → SFits w32 z → ofZ w32 z ≡ 1 → eqZ z (pos 1) ≡ true
+test-one z f e = sym (eqZ-key z 1 f (lit< tt)) ∙ eq-eqb (ofZ w32 z) 1 e
+
+pub test-other : (z : ℤ) → SFits w32 z → (ofZ w32 z ≡ 1 → ⊥) → eqZ z (pos 1) ≡ false
+test-other z f h = sym (eqZ-key z 1 f (lit< tt)) ∙ ne-eqb (ofZ w32 z) 1 h
 
 pub ones-append : (i : ℕ) (xs ys : List ℤ) → onesFrom i (xs ++ ys) ≡ onesFrom i xs ++ onesFrom (i + length xs) ys
 unfolding onesFrom

@@ -1,29 +1,28 @@
 -- Blocks written one after another, and what they make of the lines along an axis.
 use mathlib.Core.Path.{_≡_, refl, sym, ap, ap₂, _∙_}
-use mathlib.Core.List.{List, [], _∷_, _++_}
+use mathlib.Core.List.{List}
 use mathlib.Core.Bool.{Bool, true, false, cond}
-use Prim.Native.Nat.{ℕ, suc, _+_, _*_, _/_, _%_, _-_, _≤_, _<_}
-use native.Mathlib.Nat.{div-lt-iff-lt-mul, mod-lt, div-add-mod', mul-assoc, zero-mul, mul-le-mul-right}
+use Prim.Native.Nat.{ℕ, _+_, _*_, _/_, _%_, _-_, _≤_, _<_}
+use native.Mathlib.Nat.{div-lt-iff-lt-mul, mod-lt, div-add-mod', zero-mul, mul-le-mul-right}
 use native.Mathlib.Omega.{arith}
-use lib.ListN.{length, getD, take, drop, set, length-set, length-drop}
-use lib.Seq.{length-take-le, getD-take, getD-drop, getD-set-same}
+use lib.ListN.{length, getD, take, drop, set, length-drop}
+use lib.Seq.{length-take-le, getD-take, getD-drop}
 use lib.Arith.{digits-lt, digits-div, digits-mod}
 use lib.IntN.{ℤ, pos}
 use borrow.Rule.Slice.PartMut.{putMid}
 use Rattle.shape.specs.declared.Shape.{Shape}
 use Rattle.shape.specs.Shape.{counted, count, aroundOf}
 use Rattle.shape.specs.Place.{place, index}
-use Rattle.shape.proofs.Places.{place-in}
-use Rattle.shape.proofs.Axis.{in-at, axis-position, axis-index, count-axis}
+use Rattle.shape.proofs.Axis.{axis-position, axis-index, count-axis}
 use Rattle.shape.proofs.Surround.{Parts, count-set}
-use Rattle.meaning.specs.Array.{Array, arrayOf, at, tab, build}
-use Rattle.meaning.specs.Terms.{rank, axis, along}
+use Rattle.meaning.specs.Array.{arrayOf, at, tab, build}
+use Rattle.meaning.specs.Terms.{rank, along}
 use Rattle.meaning.proofs.Tab.{length-tab, getD-tab, tab-ext}
 use Rattle.copying.proofs.Runs.{filled, filled-none, length-filled, put-list}
-use Rattle.copying.proofs.Blocks.{source, source-in, source-lt}
+use Rattle.copying.proofs.Blocks.{source, source-in}
 use Rattle.answer.specs.Answer.{lent}
 use Rattle.answer.proofs.Lent.{Lent}
-use Rattle.masks.specs.Rows.{width, fits, takes, taken, rowed, placed, Block, Blocks}
+use Rattle.masks.specs.Rows.{takes, taken, rowed, placed, Block, Blocks}
 use Rattle.masks.proofs.Uses.{taken-lt}
 
 module _ (t : ℕ → Bool) (φ : ℕ → ℕ) (n m c : ℕ) (r : List ℤ) (o : ℕ) (c> : 0 < c) (low : (i : ℕ) → i < m → t i ≡ true → φ i < n) where

@@ -1,20 +1,19 @@
 -- The shape of a result with m positions on axis k, and the shape of a scalar that is read as a vector.
-use mathlib.Core.Path.{_≡_, refl, sym, ap, ap₂, _∙_}
-use mathlib.Core.List.{List, [], _∷_, _++_}
+use mathlib.Core.Path.{_≡_, refl, sym, ap, _∙_}
+use mathlib.Core.List.{List, [], _∷_}
 use mathlib.Core.Bool.{Bool, true, false, cond}
-use Prim.Native.Nat.{ℕ, suc, _+_, _*_, _-_, _≤_, _<_}
+use Prim.Native.Nat.{ℕ, _-_, _≤_, _<_}
 use native.Mathlib.Nat.{sub-zero}
 use native.Mathlib.Omega.{arith}
 use borrow.Author.Tests.{le-leb, eq-eqb, ne-eqb, eqb-true, eqb-false}
-use lib.ListN.{length, getD, take, drop, set, replicate, length-set}
+use lib.ListN.{length, getD, take, set}
 use lib.Seq.{take-at, take-set-lt, length-take-le, getD-take}
 use lib.Dec.{eqb}
-use lib.IntN.{ℤ, pos, natAbs, _-ℤ_}
+use lib.IntN.{ℤ, natAbs, _-ℤ_}
 use Rattle.shape.specs.declared.Shape.{Shape}
 use Rattle.shape.specs.Shape.{maxRank, maxCount, counted, count, small, shapeRule, goodShape, countOf, shapeOf, madeOf}
 use Rattle.shape.proofs.Counts.{good-count, bad-count}
 use Rattle.shape.proofs.Bools.{and-true}
-use Rattle.shape.proofs.Rule.{vector-rule}
 use Rattle.meaning.specs.Array.{arrayOf, goodForm}
 use Rattle.meaning.specs.Terms.{asVector, within}
 use Rattle.meaning.proofs.Positions.{positionOf, position-lt, position-none, within-lt}
@@ -77,9 +76,6 @@ module _ (s : Shape) where
   one-of : countOf (shapeOf (1 ∷ [])) ≡ 1
   unfolding countOf shapeRule small count
   one-of = refl
-
-  pub vector-some : 0 < vectorShape s .rank
-  vector-some = vector-by (λ v. 0 < v .rank) (λ z. omega arith) (λ n. omega arith)
 
   pub vector-long : length (s .lens) ≡ maxRank → length (vectorShape s .lens) ≡ maxRank
   vector-long h = vector-by (λ v. length (v .lens) ≡ maxRank) (λ z. refl) (λ n. h)

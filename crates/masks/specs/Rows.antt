@@ -51,7 +51,6 @@ pub record Blocks (expands : Bool) (l : List ℤ) (outer n m c from to : ℕ) : 
   pub fitting : fits expands l n ≡ true
   pub wide : m ≡ width expands l
   pub some : 0 < outer
-  pub rows : 0 < m
   pub row : 0 < c
   pub source : outer * (n * c) ≤ from
   pub room : outer * (m * c) ≤ to

@@ -2,21 +2,21 @@
 mod rows;
 
 ghost use mathlib.Core.Path.{_≡_};
-ghost use mathlib.Core.List.{List, [], _∷_, _++_};
-ghost use mathlib.Core.Bool.{Bool, true, false, cond, _||_};
-ghost use Prim.Native.Nat.{ℕ, _*_, _≤_, _<_};
+ghost use mathlib.Core.List.{List, _++_};
+ghost use mathlib.Core.Bool.{true, false, cond, _||_};
+ghost use Prim.Native.Nat.{_*_, _≤_, _<_};
 ghost use lib.ListN.{length, drop, getD, set};
 ghost use lib.Dec.{eqb};
 ghost use lib.IntN.{ℤ, pos};
-ghost use Rattle.shape.specs.Shape.{maxRank, maxCount, counted, count, goodShape, shapeOf};
+ghost use Rattle.shape.specs.Shape.{maxRank, counted, count, goodShape, shapeOf};
 ghost use Rattle.meaning.specs.Array.{arrayOf, goodForm, tab, build};
-ghost use Rattle.meaning.specs.Terms.{axis, along, every, isBit, eqZ, ones};
-ghost use Rattle.meaning.specs.Primitives.{compress, expand};
+ghost use Rattle.meaning.specs.Terms.{along, every, isBit, eqZ, ones};
 ghost use Rattle.meaning.specs.Reply.{reply};
 ghost use Rattle.copying.proofs.Runs.{filled};
 ghost use Rattle.answer.specs.Answer.{lent, own, Replied};
-ghost use Rattle.masks.specs.Rows.{maskOf, width, fits, takes, taken, rowed, placed, Block, Blocks, Along, keptAt, Compressed, openedAt, Expanded};
+ghost use Rattle.masks.specs.Rows.{maskOf, takes, taken, rowed, placed, Block, Blocks, Along, keptAt, Compressed, openedAt, Expanded};
 ghost use Rattle.masks.specs.Vector.{vectorShape};
+ghost use Rattle.masks.specs.Uses.{numbered, masking, compressTest, expandTest, resultWidth, maskElement, Masked};
 use answer::Answer;
 use shape::Shape;
 
@@ -84,24 +84,12 @@ fn compress_fits(c: usize, n: usize) -> bool
     c == 1 || n == 1 || c == n
 }
 
-// RANK, AXIS, LENGTH and DOMAIN, whatever R's elements are.
-fn compress_refusal(g: i32, k: i32, ls: Shape, l: &[i32], rs: Shape) -> usize
-    requires { ⌜ (goodForm (lent ls (now l)) ≡ true) × (goodShape rs ≡ true) ⌝ }
-    ensures { λ n. ⌜ ((b : List ℤ) → n ≡ own 27 (compress g k (arrayOf (lent ls (now (l .entry)))) (arrayOf (lent rs b)) .refusals)) ⌝ }
+// LENGTH before DOMAIN.
+fn compress_test(l: &[i32], n: usize) -> usize
+    ensures { λ t. ⌜ t ≡ compressTest (now (l .entry)) n ⌝ }
 {
-    if 1 < ls.rank {
-        return 4;
-    }
-    let s = as_vector(rs);
-    let rank = s.rank;
-    let at = signed::position(k, g, rank);
-    if rank <= at {
-        return 5;
-    }
-    let c = ls.count();
-    let n = s.lens[at];
-    if compress_fits(c, n) {
-        if all_bits(&l[0..c]) { 0 } else { 7 }
+    if compress_fits(l.len(), n) {
+        if all_bits(l) { 0 } else { 7 }
     } else {
         6
     }
@@ -118,10 +106,21 @@ fn expand_fits(rank: usize, l: &[i32], n: usize) -> bool
     m == n
 }
 
-// RANK, AXIS, then DOMAIN before LENGTH, whatever R's elements are.
-fn expand_refusal(g: i32, k: i32, ls: Shape, l: &[i32], rs: Shape) -> usize
+// DOMAIN before LENGTH.
+fn expand_test(l: &[i32], rank: usize, n: usize) -> usize
+    ensures { λ t. ⌜ t ≡ expandTest (now (l .entry)) (eqb rank 0) n ⌝ }
+{
+    if all_bits(l) {
+        if expand_fits(rank, l, n) { 0 } else { 6 }
+    } else {
+        7
+    }
+}
+
+// RANK, AXIS and what the mask meets, whatever R's elements are.
+fn mask_refusal(expands: bool, g: i32, k: i32, ls: Shape, l: &[i32], rs: Shape) -> usize
     requires { ⌜ (goodForm (lent ls (now l)) ≡ true) × (goodShape rs ≡ true) ⌝ }
-    ensures { λ n. ⌜ ((b : List ℤ) → n ≡ own 28 (expand g k (arrayOf (lent ls (now (l .entry)))) (arrayOf (lent rs b)) .refusals)) ⌝ }
+    ensures { λ n. ⌜ ((b : List ℤ) → n ≡ own (numbered expands) (masking expands g k (arrayOf (lent ls (now (l .entry)))) (arrayOf (lent rs b)) .refusals)) ⌝ }
 {
     if 1 < ls.rank {
         return 4;
@@ -133,16 +132,22 @@ fn expand_refusal(g: i32, k: i32, ls: Shape, l: &[i32], rs: Shape) -> usize
         return 5;
     }
     let c = ls.count();
-    if all_bits(&l[0..c]) {
-        let n = s.lens[at];
-        if expand_fits(rs.rank, &l[0..c], n) {
-            0
-        } else {
-            6
-        }
+    let n = s.lens[at];
+    if expands {
+        expand_test(&l[0..c], rs.rank, n)
     } else {
-        7
+        compress_test(&l[0..c], n)
     }
+}
+
+// How many positions the result has on an axis of length n.
+fn width_of(expands: bool, l: &[i32], n: usize) -> usize
+    ensures { λ m. ⌜ m ≡ resultWidth expands (now (l .entry)) n ⌝ }
+{
+    if expands {
+        return l.len();
+    }
+    kept_count(l, n)
 }
 
 // One block of n rows to m rows.
@@ -244,42 +249,6 @@ fn compress_into(l: &[i32], s: Shape, k: usize, m: usize, total: usize, r: &[i32
     }
 }
 
-// 27.
-pub fn compress(
-    g: i32,
-    k: i32,
-    ls: Shape,
-    l: &[i32],
-    rs: Shape,
-    r: &[i32],
-    out: &mut [i32],
-) -> Answer
-    ensures { λ a. ⌜ Replied a (now (out .exit)) (reply (pos 27) g k (lent ls (now (l .entry))) (lent rs (now (r .entry))) (now (out .entry))) ⌝ }
-{
-    let early = answer::early_two(g, ls, l, rs, r);
-    if early != 0 {
-        return Answer::refused(early);
-    }
-    let own = compress_refusal(g, k, ls, l, rs);
-    if own != 0 {
-        return Answer::refused(own);
-    }
-    let s = as_vector(rs);
-    let at = signed::position(k, g, s.rank);
-    let c = ls.count();
-    let m = kept_count(&l[0..c], s.lens[at]);
-    let shape = with_length(s, at, m);
-    let total = shape.count();
-    if Shape::MAX_COUNT < total {
-        return Answer::refused(9);
-    }
-    if out.len() < total {
-        return Answer::refused(10);
-    }
-    compress_into(&l[0..c], s, at, m, total, r, out);
-    Answer { number: 0, shape }
-}
-
 // The lines along axis k opened by a mask; a scalar is repeated.
 fn expand_into(
     scalar: bool,
@@ -306,22 +275,57 @@ fn expand_into(
     }
 }
 
-// 28.
-pub fn expand(g: i32, k: i32, ls: Shape, l: &[i32], rs: Shape, r: &[i32], out: &mut [i32]) -> Answer
-    ensures { λ a. ⌜ Replied a (now (out .exit)) (reply (pos 28) g k (lent ls (now (l .entry))) (lent rs (now (r .entry))) (now (out .entry))) ⌝ }
+fn mask_into(
+    expands: bool,
+    scalar: bool,
+    l: &[i32],
+    s: Shape,
+    k: usize,
+    m: usize,
+    total: usize,
+    r: &[i32],
+    out: &mut [i32],
+)
+    requires { ⌜ Masked expands scalar (now l) s k m total (now r) (length (now out)) ⌝ }
+    ensures { λ _.
+        ⌜ now (out .exit)
+        ≡ build (set (counted s) k m) (maskElement expands scalar (now (l .entry)) (arrayOf (lent s (now (r .entry)))) k) .elements
+        ++ drop total (now (out .entry)) ⌝ }
+{
+    if expands {
+        expand_into(scalar, l, s, k, total, r, out);
+    } else {
+        compress_into(l, s, k, m, total, r, out);
+    }
+}
+
+// Both uses of a mask: they differ in what they ask of it, in the positions of the result and in what those take.
+fn masked(
+    expands: bool,
+    g: i32,
+    k: i32,
+    ls: Shape,
+    l: &[i32],
+    rs: Shape,
+    r: &[i32],
+    out: &mut [i32],
+) -> Answer
+    ensures { λ a.
+        ⌜ Replied a (now (out .exit)) (reply (pos (numbered expands)) g k (lent ls (now (l .entry))) (lent rs (now (r .entry))) (now (out .entry))) ⌝ }
 {
     let early = answer::early_two(g, ls, l, rs, r);
     if early != 0 {
         return Answer::refused(early);
     }
-    let own = expand_refusal(g, k, ls, l, rs);
+    let own = mask_refusal(expands, g, k, ls, l, rs);
     if own != 0 {
         return Answer::refused(own);
     }
     let s = as_vector(rs);
     let at = signed::position(k, g, s.rank);
     let c = ls.count();
-    let shape = with_length(s, at, c);
+    let m = width_of(expands, &l[0..c], s.lens[at]);
+    let shape = with_length(s, at, m);
     let total = shape.count();
     if Shape::MAX_COUNT < total {
         return Answer::refused(9);
@@ -330,6 +334,28 @@ pub fn expand(g: i32, k: i32, ls: Shape, l: &[i32], rs: Shape, r: &[i32], out: &
         return Answer::refused(10);
     }
     let scalar = rs.rank == 0;
-    expand_into(scalar, &l[0..c], s, at, total, r, out);
+    mask_into(expands, scalar, &l[0..c], s, at, m, total, r, out);
     Answer { number: 0, shape }
+}
+
+// 27.
+pub fn compress(
+    g: i32,
+    k: i32,
+    ls: Shape,
+    l: &[i32],
+    rs: Shape,
+    r: &[i32],
+    out: &mut [i32],
+) -> Answer
+    ensures { λ a. ⌜ Replied a (now (out .exit)) (reply (pos 27) g k (lent ls (now (l .entry))) (lent rs (now (r .entry))) (now (out .entry))) ⌝ }
+{
+    masked(false, g, k, ls, l, rs, r, out)
+}
+
+// 28.
+pub fn expand(g: i32, k: i32, ls: Shape, l: &[i32], rs: Shape, r: &[i32], out: &mut [i32]) -> Answer
+    ensures { λ a. ⌜ Replied a (now (out .exit)) (reply (pos 28) g k (lent ls (now (l .entry))) (lent rs (now (r .entry))) (now (out .entry))) ⌝ }
+{
+    masked(true, g, k, ls, l, rs, r, out)
 }

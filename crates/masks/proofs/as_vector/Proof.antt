@@ -1,5 +1,4 @@
-use mathlib.Core.Path.{_≡_, sym, ap, _∙_}
-use native.Mathlib.Omega.{arith}
+use mathlib.Core.Path.{_∙_}
 use Rattle.masks.proofs.Results.{scalar-vector, array-vector}
 use borrow.Author.Needs.{needs}
 use Rattle.masks.proofs.as_vector.Statement.{statement}

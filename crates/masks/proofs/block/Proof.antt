@@ -1,9 +1,4 @@
-use native.Mathlib.Omega.{arith}
-use Prim.Native.Nat.{_+_, _-_, _*_, _≤_, _<_}
-use mathlib.Core.Path.{_≡_, refl, sym, ap, _∙_}
-use mathlib.Core.Bool.{true, false}
-use lib.IntN.{pos}
-use lib.ListN.{length, getD}
+use mathlib.Core.Path.{refl, _∙_}
 use Rattle.masks.proofs.Uses.{expand-source, expand-room, expand-block, repeat-source, repeat-block, compress-source, compress-room, compress-block}
 use borrow.Author.Needs.{needs}
 use Rattle.masks.proofs.block.Statement.{statement}

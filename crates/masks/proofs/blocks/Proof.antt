@@ -1,8 +1,6 @@
 use native.Mathlib.Omega.{arith}
-use Prim.Native.Nat.{_+_, _-_, _*_, _≤_, _<_}
-use mathlib.Core.Path.{_≡_, refl, sym, ap, _∙_}
-use mathlib.Core.Bool.{true, false}
-use lib.ListN.{length, getD, take}
+use Prim.Native.Nat.{_+_, _-_, _*_, _≤_}
+use lib.ListN.{length}
 use borrow.Author.Needs.{needs}
 use native.Mathlib.Nat.{mul-le-mul-right}
 use Rattle.masks.proofs.Placing.{Passed, passed-none, passed-all, passed-inside, passed-room, passed-block, passed-more}

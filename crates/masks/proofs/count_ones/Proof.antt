@@ -1,16 +1,13 @@
 use native.Mathlib.Omega.{arith}
-use Prim.Native.Nat.{_+_, _-_, _*_, _≤_, _<_}
-use mathlib.Core.Path.{_≡_, refl, sym, ap, _∙_}
+use Prim.Native.Nat.{_-_, _≤_}
+use mathlib.Core.Path.{_≡_, _∙_}
 use mathlib.Core.Bool.{true, false}
 use lib.IntN.{pos}
-use lib.ListN.{length, getD, take}
+use lib.ListN.{length, getD}
 use borrow.Author.Needs.{needs, sfits-of}
 use mathlib.Core.Logic.{⊎-elim}
-use lib.Dec.{lit<}
-use borrow.Author.Tests.{eq-eqb, ne-eqb}
 use Rattle.meaning.specs.Terms.{eqZ}
-use Rattle.signed.proofs.Equal.{eqZ-key}
-use Rattle.masks.proofs.Ones.{before, before-none, before-one, before-other, before-all, before-le}
+use Rattle.masks.proofs.Ones.{test-one, test-other, before, before-none, before-one, before-other, before-all, before-le}
 use Rattle.masks.proofs.count_ones.Statement.{statement}
 use Rattle.masks.proofs.count_ones.Tie as tie
 use Rattle.masks.proofs.count_ones.Reads as reads
@@ -24,10 +21,10 @@ abbrev μ-loop : tie.MeasureT-loop
 
 -- What the test tells of the mask's element.
 one : (c : tie.Then1 Inv-loop μ-loop) → eqZ (getD (c .before .before .before .before .args .l .now) (c .before .before .before .loop .i) (pos 0)) (pos 1) ≡ true
-one c = sym (eqZ-key _ 1 (sfits-of (c .before .if12 .given)) (lit< tt)) ∙ eq-eqb _ 1 (c .if1 .taken)
+one c = test-one _ (sfits-of (c .before .if12 .given)) (c .if1 .taken)
 
 other : (c : tie.Else1 Inv-loop μ-loop) → eqZ (getD (c .before .before .before .before .args .l .now) (c .before .before .before .loop .i) (pos 0)) (pos 1) ≡ false
-other c = sym (eqZ-key _ 1 (sfits-of (c .before .if12 .given)) (lit< tt)) ∙ ne-eqb _ 1 (c .if1 .left)
+other c = test-other _ (sfits-of (c .before .if12 .given)) (c .if1 .left)
 
 -- src/lib.rt:63:5
 loop-holds : tie.Need-loop-holds Inv-loop μ-loop

@@ -1,7 +1,6 @@
 use borrow.Author.Needs.{needs, sfits-of}
-use mathlib.Core.Path.{_≡_, refl, sym, ap, _∙_}
+use mathlib.Core.Path.{_≡_, ap, _∙_}
 use mathlib.Core.List.{_++_}
-use native.Mathlib.Omega.{arith}
 use lib.IntN.{pos}
 use lib.ListN.{length, getD, drop}
 use Rattle.shape.specs.Shape.{maxRank}

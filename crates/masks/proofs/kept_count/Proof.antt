@@ -1,7 +1,7 @@
 use native.Mathlib.Omega.{arith}
 use mathlib.Core.Path.{_≡_, sym, ap, _∙_}
 use lib.IntN.{pos}
-use lib.ListN.{length, getD}
+use lib.ListN.{getD}
 use Rattle.meaning.specs.Terms.{eqZ}
 use Rattle.signed.proofs.Reading.{read32}
 use Rattle.masks.proofs.Ones.{kept-list, kept-all, kept-no}

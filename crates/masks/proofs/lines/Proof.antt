@@ -1,5 +1,5 @@
 use native.Mathlib.Omega.{arith}
-use mathlib.Core.Path.{_≡_, sym, ap, _∙_}
+use mathlib.Core.Path.{_≡_, _∙_}
 use lib.ListN.{length}
 use Rattle.shape.specs.Shape.{maxRank}
 use Rattle.masks.proofs.Lined.{lined-none, lined-blocks, lined-all}

@@ -1,17 +1,14 @@
 use borrow.Author.Needs.{needs, sfits-of}
 use native.Mathlib.Omega.{arith}
-use Prim.Native.Nat.{_+_, _-_, _*_, _≤_, _<_}
-use mathlib.Core.Path.{_≡_, refl, sym, ap, _∙_}
+use Prim.Native.Nat.{_-_, _<_}
+use mathlib.Core.Path.{_≡_}
 use mathlib.Core.Bool.{true, false}
 use mathlib.Core.Logic.{⊎-elim}
-use lib.Dec.{lit<}
 use lib.IntN.{pos}
 use lib.ListN.{length, getD}
-use borrow.Author.Tests.{eq-eqb, ne-eqb}
 use Rattle.meaning.specs.Terms.{eqZ}
 use Rattle.signed.proofs.Reading.{read32}
-use Rattle.signed.proofs.Equal.{eqZ-key}
-use Rattle.masks.proofs.Ones.{before, one-below}
+use Rattle.masks.proofs.Ones.{test-one, test-other, before}
 use Rattle.masks.proofs.Kept.{Kept, kept-none, kept-all, kept-one, kept-other, kept-room}
 use Rattle.masks.proofs.rows.compress_line.Statement.{statement}
 use Rattle.masks.proofs.rows.compress_line.Tie as tie
@@ -26,10 +23,10 @@ abbrev μ-loop : tie.MeasureT-loop
 
 -- What the test tells of the mask's element.
 one : (c : tie.Then1 Inv-loop μ-loop) → eqZ (getD (c .before .before .before .before .args .l .now) (c .before .before .before .loop .i) (pos 0)) (pos 1) ≡ true
-one c = sym (eqZ-key _ 1 (sfits-of (c .before .if12 .given)) (lit< tt)) ∙ eq-eqb _ 1 (c .if1 .taken)
+one c = test-one _ (sfits-of (c .before .if12 .given)) (c .if1 .taken)
 
 other : (c : tie.Else1 Inv-loop μ-loop) → eqZ (getD (c .before .before .before .before .args .l .now) (c .before .before .before .loop .i) (pos 0)) (pos 1) ≡ false
-other c = sym (eqZ-key _ 1 (sfits-of (c .before .if12 .given)) (lit< tt)) ∙ ne-eqb _ 1 (c .if1 .left)
+other c = test-other _ (sfits-of (c .before .if12 .given)) (c .if1 .left)
 
 room : (c : tie.Then1 Inv-loop μ-loop) → c .before .before .before .loop .to < length (c .before .before .before .before .args .out .now)
 room c =

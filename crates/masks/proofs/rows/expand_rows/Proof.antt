@@ -1,16 +1,12 @@
 use borrow.Author.Needs.{needs, sfits-of}
 use native.Mathlib.Omega.{arith}
-use Prim.Native.Nat.{_+_, _-_, _*_, _≤_, _<_}
-use mathlib.Core.Path.{_≡_, refl, sym, ap, _∙_}
-use mathlib.Core.Bool.{true, false}
+use Prim.Native.Nat.{_+_, _-_, _≤_}
+use mathlib.Core.Path.{_≡_, sym, ap, _∙_}
 use mathlib.Core.Logic.{⊎-elim}
-use lib.Dec.{lit<}
 use lib.IntN.{pos}
 use lib.ListN.{length, getD}
-use borrow.Author.Tests.{eq-eqb, ne-eqb}
 use Rattle.meaning.specs.Terms.{eqZ}
 use Rattle.signed.proofs.Reading.{read32}
-use Rattle.signed.proofs.Equal.{eqZ-key}
 use Rattle.masks.proofs.Opened.{Opened, opened-none, opened-all, opened-row, opened-zeros, opened-room, opened-inside}
 use Rattle.masks.proofs.rows.expand_rows.Statement.{statement}
 use Rattle.masks.proofs.rows.expand_rows.Tie as tie

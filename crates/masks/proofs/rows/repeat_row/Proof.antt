@@ -1,7 +1,7 @@
 use borrow.Author.Needs.{needs, sfits-of}
 use native.Mathlib.Omega.{arith}
-use Prim.Native.Nat.{_+_, _-_, _*_, _≤_, _<_}
-use mathlib.Core.Path.{_≡_, refl, sym, ap, _∙_}
+use Prim.Native.Nat.{_+_, _-_, _≤_}
+use mathlib.Core.Path.{_∙_}
 use lib.IntN.{pos}
 use lib.ListN.{length, getD}
 use Rattle.signed.proofs.Reading.{read32}

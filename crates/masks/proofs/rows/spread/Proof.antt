@@ -1,18 +1,16 @@
+use Rattle.masks.proofs.Ones.{test-one, test-other}
 use borrow.Author.Needs.{needs, sfits-of}
 use native.Mathlib.Omega.{arith}
-use Prim.Native.Nat.{_+_, _-_, _≤_}
+use Prim.Native.Nat.{_-_, _≤_}
 use mathlib.Core.Path.{_≡_, refl, sym, ap, _∙_}
 use mathlib.Core.Bool.{true, false, cond}
 use mathlib.Core.Logic.{⊎-elim}
-use lib.Dec.{lit<}
 use lib.IntN.{pos}
 use lib.ListN.{length, getD, length-set}
 use mir.Syntax.{w32}
 use mir.Val.{toZ, ofZ}
-use borrow.Author.Tests.{eq-eqb, ne-eqb}
 use Rattle.meaning.specs.Terms.{eqZ}
 use Rattle.signed.proofs.Reading.{read32}
-use Rattle.signed.proofs.Equal.{eqZ-key}
 use Rattle.copying.proofs.Runs.{filled, filled-none, filled-one}
 use Rattle.masks.proofs.rows.spread.Statement.{statement}
 use Rattle.masks.proofs.rows.spread.Tie as tie
@@ -27,10 +25,10 @@ abbrev μ-loop : tie.MeasureT-loop
 
 -- What the test tells of the mask's element.
 one : (c : tie.Then1 Inv-loop μ-loop) → eqZ (getD (c .before .before .before .before .args .l .now) (c .before .before .before .loop .i) (pos 0)) (pos 1) ≡ true
-one c = sym (eqZ-key _ 1 (sfits-of (c .before .if12 .given)) (lit< tt)) ∙ eq-eqb _ 1 (c .if1 .taken)
+one c = test-one _ (sfits-of (c .before .if12 .given)) (c .if1 .taken)
 
 other : (c : tie.Else1 Inv-loop μ-loop) → eqZ (getD (c .before .before .before .before .args .l .now) (c .before .before .before .loop .i) (pos 0)) (pos 1) ≡ false
-other c = sym (eqZ-key _ 1 (sfits-of (c .before .if12 .given)) (lit< tt)) ∙ ne-eqb _ 1 (c .if1 .left)
+other c = test-other _ (sfits-of (c .before .if12 .given)) (c .if1 .left)
 
 -- src/rows.rt:134:5
 loop-holds : tie.Need-loop-holds Inv-loop μ-loop

@@ -1,0 +1,52 @@
+use mathlib.Core.Path.{ap, _∙_}
+use mathlib.Core.List.{_++_}
+use lib.ListN.{drop}
+use Rattle.masks.proofs.Masking.{expanding-ready, compressing-ready, expanding-element, compressing-element}
+use borrow.Author.Needs.{needs}
+use Rattle.masks.proofs.mask_into.Statement.{statement}
+use Rattle.masks.proofs.mask_into.Tie as tie
+use Rattle.masks.proofs.mask_into.Reads as reads
+use Rattle.masks.proofs.mask_into.Lts as lts
+use Rattle.masks.proofs.compress_into.Reads as compress-into-reads
+use Rattle.masks.proofs.expand_into.Reads as expand-into-reads
+
+-- src/lib.rt:290:9
+expand-into-requires : tie.Need-expand-into-requires
+expand-into-requires c κs = let st = c .before .before in expanding-ready _ _ _ _ _ _ _ _ _ (st .pre) (c .before .if1 .taken) .1
+
+-- src/lib.rt:292:9
+compress-into-requires : tie.Need-compress-into-requires
+compress-into-requires c κs = let st = c .before .before in compressing-ready _ _ _ _ _ _ _ _ _ (st .pre) (c .before .if1 .left)
+
+-- src/lib.rt:280:1
+same-length : tie.Need-same-length
+same-length c = search needs
+
+-- src/lib.rt:280:1
+returns : tie.Need-returns
+returns c =
+    let e = c .before .before .before in
+    let a = e .before .args in
+    c .before .expand-into .ensures ∙ ap (λ x. x ++ drop (a .total) (a .out .now)) (expanding-element _ _ _ _ _ _ _ _ _ (e .before .pre) (e .if1 .taken))
+
+-- src/lib.rt:280:1
+same-length-2 : tie.Need-same-length-2
+same-length-2 c = search needs
+
+-- src/lib.rt:280:1
+returns-2 : tie.Need-returns-2
+returns-2 c =
+    let e = c .before .before .before in
+    let a = e .before .args in
+    c .before .compress-into .ensures ∙ ap (λ x. x ++ drop (a .total) (a .out .now)) (compressing-element _ _ _ _ _ _ _ _ _ (e .before .pre) (e .if1 .left))
+
+pub mask-into-spec : {M : Type 1} → statement M
+mask-into-spec =
+    tie.close
+    (tie.spec
+    expand-into-requires
+    compress-into-requires
+    same-length
+    returns
+    same-length-2
+    returns-2)

@@ -1,0 +1,214 @@
+use mathlib.Core.Path.{_≡_, refl, sym, ap, ap₂, _∙_}
+use mathlib.Core.Bool.{true}
+use Prim.Native.Nat.{_-_, _≤_}
+use native.Mathlib.Omega.{arith}
+use lib.Dec.{eqb}
+use lib.Seq.{length-take-le}
+use mathlib.Core.List.{List}
+use lib.IntN.{ℤ, natAbs, _-ℤ_}
+use lib.ListN.{length, getD, take}
+use Rattle.shape.specs.declared.Shape.{Shape}
+use Rattle.shape.specs.Shape.{maxRank, counted}
+use Rattle.shape.proofs.Counts.{good-rank}
+use Rattle.meaning.specs.Array.{Array, arrayOf}
+use Rattle.meaning.specs.Terms.{rank, within}
+use Rattle.meaning.proofs.Positions.{positionOf}
+use Rattle.signed.proofs.Reading.{read32}
+use Rattle.answer.specs.Answer.{lent, own}
+use Rattle.meaning.specs.Primitives.{Meaning}
+use Rattle.answer.proofs.Lent.{Lent, lent-good}
+use Rattle.masks.specs.Vector.{vectorShape}
+use Rattle.masks.proofs.Results.{part-is, vector-long, vector-high, axis-named, axis-unnamed, axis-length}
+use Rattle.masks.specs.Uses.{numbered, masking, compressTest, expandTest}
+use Rattle.masks.proofs.Masking.{maskingOf, masking-rank, masking-axis, expanding-test, compressing-test, masking-refusal}
+use borrow.Author.Needs.{needs}
+use Rattle.masks.proofs.mask_refusal.Statement.{statement}
+use Rattle.masks.proofs.mask_refusal.Tie as tie
+use Rattle.masks.proofs.mask_refusal.Reads as reads
+use Rattle.masks.proofs.mask_refusal.Lts as lts
+use Rattle.masks.proofs.as_vector.Reads as as-vector-reads
+use Rattle.masks.proofs.compress_test.Reads as compress-test-reads
+use Rattle.masks.proofs.expand_test.Reads as expand-test-reads
+use Rattle.shape.proofs.Shape.count.Reads as count-reads
+use Rattle.signed.proofs.position.Reads as position-reads
+
+-- L, and what is known of both shapes.
+abbrev left : tie.Start → Array
+left st = arrayOf (lent (st .args .ls) (st .args .l .now))
+
+good : (st : tie.Start) → Lent (st .args .ls) (st .args .l .now)
+good st =
+    let long : length (st .args .ls .lens) ≡ maxRank = search needs in
+    lent-good (st .args .ls) (st .args .l .now) long (st .pre .0)
+
+long : (st : tie.Start) → length (st .args .rs .lens) ≡ maxRank
+long st = search needs
+
+list : (c : tie.Else1) → rank (left (c .before .before)) ≤ 1
+list c = omega (arith, good (c .before .before) .rank-is)
+
+-- The shape that R is read with, and the axis that K names.
+s-long : (c : tie.After-as-vector) → length (c .as-vector .result .lens) ≡ maxRank
+s-long c = ap (λ (x : Shape). length (x .lens)) (c .as-vector .ensures) ∙ vector-long (c .before .before .before .args .rs) (long (c .before .before .before))
+
+s-high : (c : tie.After-as-vector) → c .as-vector .result .rank ≤ maxRank
+s-high c =
+    let st = c .before .before .before in
+    omega (arith, ap (λ (x : Shape). x .rank) (c .as-vector .ensures), vector-high (st .args .rs) (good-rank (st .args .rs) (st .pre .1)))
+
+at-is : (c : tie.After-position) → c .position .result ≡ positionOf (c .before .before .before .before .args .k -ℤ c .before .before .before .before .args .g) (c .before .as-vector .result .rank)
+at-is c =
+    let st = c .before .before .before .before in
+    c .position .ensures ∙ ap₂ (λ x y. positionOf (x -ℤ y) (c .before .as-vector .result .rank)) (read32 _ (st .fits .k)) (read32 _ (st .fits .g))
+
+-- The refusals, by a shape that R is read with.
+abbrev given : tie.Start → Shape → List ℤ → Meaning
+given st s b = maskingOf (st .args .expands) (st .args .g) (st .args .k) (left st) (eqb (st .args .rs .rank) 0) (arrayOf (lent s b))
+
+by-shape : (st : tie.Start) (s : Shape) → s ≡ vectorShape (st .args .rs) → (b : List ℤ)
+    → own (numbered (st .args .expands)) (given st s b .refusals) ≡ own (numbered (st .args .expands)) (masking (st .args .expands) (st .args .g) (st .args .k) (left st) (arrayOf (lent (st .args .rs) b)) .refusals)
+by-shape st s e b =
+    let rs = st .args .rs in
+    masking-refusal (st .args .expands) (st .args .g) (st .args .k) (left st) rs b s e (length-take-le (rs .rank) (rs .lens) (omega (arith, long st, good-rank rs (st .pre .1))))
+
+has : (c : tie.Else2) → within (c .before .before .before .before .before .args .k -ℤ c .before .before .before .before .before .args .g) (length (counted (c .before .before .as-vector .result))) ≡ true
+has c = let st = c .before .before .before .before .before in axis-named (st .args .g) (st .args .k) (c .before .before .as-vector .result) (s-long (c .before .before)) (s-high (c .before .before)) _ (at-is (c .before)) (omega arith)
+
+mask-is : (c : tie.After-count)
+    → (let st = c .before .before .before .before .before .before in take (c .count .result - 0) (st .args .l .now) ≡ left st .elements)
+mask-is c = let st = c .before .before .before .before .before .before in part-is (st .args .ls) (st .args .l .now) (c .count .result) (good st) (c .count .ensures)
+
+length-is : (c : tie.After-count)
+    → (let v = c .before .before .before in
+    let st = v .before .before .before in
+    getD (v .as-vector .result .lens) (c .before .before .position .result) 0 ≡ getD (counted (v .as-vector .result)) (natAbs (st .args .k -ℤ st .args .g)) 0)
+length-is c =
+    let p = c .before .before in
+    let v = p .before in
+    let st = v .before .before .before in
+    sym (axis-length (st .args .g) (st .args .k) (v .as-vector .result) (s-long v) (s-high v) _ (at-is p) (omega arith))
+
+inside : (c : tie.After-count) → c .count .result ≤ length (c .before .before .before .before .before .before .args .l .now)
+inside c = let g = good (c .before .before .before .before .before .before) in omega (arith, g .room, g .count-is, c .count .ensures)
+
+-- src/lib.rt:128:9
+returns : tie.Need-returns
+returns c b =
+    let st = c .before .before in
+    let s = vectorShape (st .args .rs) in
+    sym
+    (sym (by-shape st s refl b)
+    ∙ masking-rank (st .args .expands) (st .args .g) (st .args .k) (left st) (eqb (st .args .rs .rank) 0) (arrayOf (lent s b)) (omega (arith, good st .rank-is)))
+
+-- src/lib.rt:130:13
+as-vector-requires : tie.Need-as-vector-requires
+as-vector-requires c κs = search needs
+
+-- src/lib.rt:132:9
+position-requires : tie.Need-position-requires
+position-requires c κs = search needs
+
+-- src/lib.rt:134:9
+returns-2 : tie.Need-returns-2
+returns-2 c b =
+    let v = c .before .before in
+    let st = v .before .before .before in
+    let s = v .as-vector .result in
+    sym
+    (sym (by-shape st s (v .as-vector .ensures) b)
+    ∙ masking-axis (st .args .expands) (st .args .g) (st .args .k) (left st) (eqb (st .args .rs .rank) 0) (arrayOf (lent s b)) (list (v .before))
+    (axis-unnamed (st .args .g) (st .args .k) s (s-long v) (s-high v) _ (at-is (c .before)) (omega arith)))
+
+-- src/lib.rt:136:9
+count-requires : tie.Need-count-requires
+count-requires c κs = search needs
+
+-- src/lib.rt:137:13
+mul-n : tie.Need-mul-n
+mul-n c = omega (arith, s-high (c .before .before .before))
+
+-- src/lib.rt:137:13
+element-copy-out-n : tie.Need-element-copy-out-n
+element-copy-out-n c = omega (arith, s-high (c .before .before .before))
+
+-- src/lib.rt:139:21
+sub-expand-test : tie.Need-sub-expand-test
+sub-expand-test c = search needs
+
+-- src/lib.rt:139:21
+part-expand-test-start : tie.Need-part-expand-test-start
+part-expand-test-start c = search needs
+
+-- src/lib.rt:139:21
+part-expand-test-end : tie.Need-part-expand-test-end
+part-expand-test-end c = omega (arith, inside (c .before .before))
+
+-- src/lib.rt:139:9
+expand-test-requires : tie.Need-expand-test-requires
+expand-test-requires c κs = search needs
+
+-- src/lib.rt:141:23
+sub-compress-test : tie.Need-sub-compress-test
+sub-compress-test c = search needs
+
+-- src/lib.rt:141:23
+part-compress-test-start : tie.Need-part-compress-test-start
+part-compress-test-start c = search needs
+
+-- src/lib.rt:141:23
+part-compress-test-end : tie.Need-part-compress-test-end
+part-compress-test-end c = omega (arith, inside (c .before .before))
+
+-- src/lib.rt:141:9
+compress-test-requires : tie.Need-compress-test-requires
+compress-test-requires c κs = search needs
+
+-- src/lib.rt:121:1
+returns-3 : tie.Need-returns-3
+returns-3 c b =
+    let t = c .before .before in
+    let n = t .before .before in
+    let e = n .before in
+    let v = e .before .before in
+    let st = v .before .before .before in
+    let s = v .as-vector .result in
+    c .expand-test .ensures
+    ∙ ap₂ (λ x y. expandTest x (eqb (st .args .rs .rank) 0) y) (mask-is n) (length-is n)
+    ∙ sym (expanding-test (st .args .expands) (st .args .g) (st .args .k) (left st) (eqb (st .args .rs .rank) 0) (arrayOf (lent s b)) (list (v .before)) (has e) (t .if3 .taken))
+    ∙ by-shape st s (v .as-vector .ensures) b
+
+-- src/lib.rt:121:1
+returns-4 : tie.Need-returns-4
+returns-4 c b =
+    let t = c .before .before in
+    let n = t .before .before in
+    let e = n .before in
+    let v = e .before .before in
+    let st = v .before .before .before in
+    let s = v .as-vector .result in
+    c .compress-test .ensures
+    ∙ ap₂ compressTest (mask-is n) (length-is n)
+    ∙ sym (compressing-test (st .args .expands) (st .args .g) (st .args .k) (left st) (eqb (st .args .rs .rank) 0) (arrayOf (lent s b)) (list (v .before)) (has e) (t .if3 .left))
+    ∙ by-shape st s (v .as-vector .ensures) b
+
+pub mask-refusal-spec : {M : Type 1} → statement M
+mask-refusal-spec =
+    tie.close
+    (tie.spec
+    returns
+    as-vector-requires
+    position-requires
+    returns-2
+    count-requires
+    mul-n
+    element-copy-out-n
+    sub-expand-test
+    part-expand-test-start
+    part-expand-test-end
+    expand-test-requires
+    sub-compress-test
+    part-compress-test-start
+    part-compress-test-end
+    compress-test-requires
+    returns-3
+    returns-4)
