@@ -338,7 +338,7 @@ fn masked(
     Answer { number: 0, shape }
 }
 
-// 27.
+// 27: the positions at ones.
 pub fn compress(
     g: i32,
     k: i32,
@@ -353,7 +353,7 @@ pub fn compress(
     masked(false, g, k, ls, l, rs, r, out)
 }
 
-// 28.
+// 28: the positions in order at ones, zeros elsewhere.
 pub fn expand(g: i32, k: i32, ls: Shape, l: &[i32], rs: Shape, r: &[i32], out: &mut [i32]) -> Answer
     ensures { λ a. ⌜ Replied a (now (out .exit)) (reply (pos 28) g k (lent ls (now (l .entry))) (lent rs (now (r .entry))) (now (out .entry))) ⌝ }
 {
