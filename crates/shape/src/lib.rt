@@ -143,13 +143,13 @@ fn held_count(lens: [usize; Shape::MAX_RANK], from: usize, to: usize) -> usize
     total
 }
 
-fn held(n: usize) -> usize
-    ensures { λ r. ⌜ r ≡ held n ⌝ }
+fn held(length: usize) -> usize
+    ensures { λ r. ⌜ r ≡ held length ⌝ }
 {
-    if Shape::MAX_COUNT < n {
+    if Shape::MAX_COUNT < length {
         Shape::MAX_COUNT + 1
     } else {
-        n
+        length
     }
 }
 
