@@ -5,12 +5,33 @@ use shape::Place;
 use shape::Shape;
 
 // Calls with an output buffer of `room` elements and prints the reply; a result too long to print is only counted.
-fn show(line: u64, number: i32, g: i32, k: i32, ls: Shape, l: &[i32], rs: Shape, r: &[i32], room: usize) {
+fn show(
+    line: u64,
+    number: i32,
+    g: i32,
+    k: i32,
+    ls: Shape,
+    l: &[i32],
+    rs: Shape,
+    r: &[i32],
+    room: usize,
+) {
     let mut held = [0i32; Shape::MAX_COUNT];
     shown(line, number, g, k, ls, l, rs, r, room, &mut held);
 }
 
-fn shown(line: u64, number: i32, g: i32, k: i32, ls: Shape, l: &[i32], rs: Shape, r: &[i32], room: usize, held: &mut [i32]) {
+fn shown(
+    line: u64,
+    number: i32,
+    g: i32,
+    k: i32,
+    ls: Shape,
+    l: &[i32],
+    rs: Shape,
+    r: &[i32],
+    room: usize,
+    held: &mut [i32],
+) {
     if held.len() < room {
         return;
     }
@@ -166,7 +187,7 @@ fn places() {
         positions: [0; Shape::MAX_RANK],
         end: false,
     };
-    let mut turns = 8;
+    let mut turns: usize = 8;
     while 0 < turns {
         let done = place.end;
         if done {

@@ -66,11 +66,7 @@ fn ended(start: usize, n: usize, room: usize) -> usize
     requires { ⌜ start ≤ room ⌝ }
     ensures { λ e. ⌜ e ≤ room ⌝ }
 {
-    if n <= room - start {
-        start + n
-    } else {
-        start
-    }
+    if n <= room - start { start + n } else { start }
 }
 
 // Writes what waits, unless there is still room for the longest answer; what then waits.
