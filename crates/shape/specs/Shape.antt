@@ -2,7 +2,7 @@
 use Prim.Native.Nat.{ℕ, suc, _*_, _-_, min}
 use mathlib.Core.List.{List, [], _∷_, _++_}
 use mathlib.Core.Bool.{Bool, true, false, cond, _&&_}
-use lib.ListN.{length, take, drop, getD, replicate}
+use lib.ListN.{length, take, drop, getD, set, replicate}
 use lib.Dec.{leb, ltb}
 use Rattle.shape.specs.declared.Shape.{Shape}
 use Rattle.shape.specs.declared.Around.{Around}
@@ -50,6 +50,10 @@ scalar = shapeOf []
 -- The shape of the first rank of some lengths, and the scalar where the rank is above the limit.
 abbrev pub madeOf : ℕ → List ℕ → Shape
 madeOf rank ns = cond (leb rank maxRank) (shapeOf (take rank ns)) scalar
+
+-- The shape with another length of axis k, and the scalar where there is no such axis.
+unfoldable pub withLength : Shape → ℕ → ℕ → Shape
+withLength s k n = cond (leb (s .rank) maxRank && ltb k (s .rank)) (shapeOf (set (counted s) k n)) scalar
 
 -- What stands around axis k: the count of the axes before it, its length, and the count of the axes after it.
 -- A count above the limit, as lengths beside a zero may have, is held one above it. Where there is no such axis all are 0.

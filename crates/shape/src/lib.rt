@@ -5,7 +5,7 @@ ghost use mathlib.Core.List.{[], _∷_, _++_};
 ghost use Prim.Native.Nat.{suc, _*_, _-_, _≤_, _<_, min};
 ghost use lib.ListN.{take, set, replicate};
 ghost use lib.Seq.{slice};
-ghost use Rattle.shape.specs.Shape.{maxRank, maxCount, counted, goodShape, countOf, shapeOf, madeOf, scalar, count, held, aroundOf};
+ghost use Rattle.shape.specs.Shape.{maxRank, maxCount, counted, goodShape, countOf, shapeOf, madeOf, withLength, scalar, count, held, aroundOf};
 ghost use Rattle.shape.specs.Place.{endPlace, successor, inside};
 
 // A rank and a length for each axis; only the first `rank` lengths count.
@@ -61,11 +61,16 @@ impl Shape {
         Shape { rank, lens: kept }
     }
 
-    // The same shape with another length of axis k.
+    // The same shape with another length of axis k; the scalar where there is no such axis.
     pub fn with_length(self, k: usize, n: usize) -> Shape
-        requires { ⌜ (self .rank ≤ maxRank) × (k < self .rank) ⌝ }
-        ensures { λ s. ⌜ s ≡ shapeOf (set (counted self) k n) ⌝ }
+        ensures { λ s. ⌜ s ≡ withLength self k n ⌝ }
     {
+        if Shape::MAX_RANK < self.rank {
+            return Shape::scalar();
+        }
+        if self.rank <= k {
+            return Shape::scalar();
+        }
         let mut lens = self.lens;
         lens[k] = n;
         Shape::of_lengths(self.rank, lens)

@@ -30,6 +30,7 @@ use Rattle.joins.proofs.extent.Reads as extent-reads
 use Rattle.joins.proofs.higher.Reads as higher-reads
 use Rattle.joins.proofs.join_into.Reads as join-into-reads
 use Rattle.shape.proofs.Shape.count.Reads as count-reads
+use Rattle.shape.proofs.Made.{with-length-is}
 use Rattle.shape.proofs.Shape.with_length.Reads as with-length-reads
 use Rattle.signed.proofs.position.Reads as position-reads
 
@@ -105,7 +106,9 @@ made c =
     let p = x .before .before in
     let e = p .before .before in
     let st = e .before .before .before .before in
-    c .with-length .ensures ∙ ap shapeOf (lengths-are (st .args .g) (st .args .k) (st .args .ls) (st .args .rs) (st .args .l .now) (st .args .r .now) (good-left (e .before .before)) (good-right (e .before .before)) (joins e) (p .before .higher .result) (p .before .higher .ensures) (p .position .result) (axis-is p) _ _ (x .before .extent .ensures) (x .extent2 .ensures))
+    c .with-length .ensures
+    ∙ with-length-is (p .before .higher .result) (p .position .result) _ (high p .0) (high p .1)
+    ∙ ap shapeOf (lengths-are (st .args .g) (st .args .k) (st .args .ls) (st .args .rs) (st .args .l .now) (st .args .r .now) (good-left (e .before .before)) (good-right (e .before .before)) (joins e) (p .before .higher .result) (p .before .higher .ensures) (p .position .result) (axis-is p) _ _ (x .before .extent .ensures) (x .extent2 .ensures))
 
 room : (c : tie.After-count) → let st = c .before .before .before .before .before .before .before .before .before .before in c .count .result ≡ countOf (shapeOf (means st .lengths))
 room c = c .count .ensures ∙ ap countOf (made (c .before))
@@ -172,7 +175,7 @@ add-with-length c =
     omega (arith, extents-small (st .args .g) (st .args .k) (st .args .ls) (st .args .rs) (st .args .l .now) (st .args .r .now) (good-left (e .before .before)) (good-right (e .before .before)) (joins e) (p .before .higher .result) (p .before .higher .ensures) (p .position .result) (axis-is p) _ _ (c .before .extent .ensures) (c .extent2 .ensures))
 
 with-length-requires : tie.Need-with-length-requires
-with-length-requires c κs = high (c .before .before)
+with-length-requires c κs = search needs
 
 count-requires : tie.Need-count-requires
 count-requires c κs = search needs

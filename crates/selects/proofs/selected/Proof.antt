@@ -6,6 +6,7 @@ use Rattle.selects.proofs.selected.Tie as tie
 use Rattle.selects.proofs.selected.Reads as reads
 use Rattle.selects.proofs.selected.Lts as lts
 use Rattle.selects.proofs.removed.Reads as removed-reads
+use Rattle.shape.proofs.Made.{with-length-is}
 use Rattle.shape.proofs.Shape.with_length.Reads as with-length-reads
 
 removed-requires : tie.Need-removed-requires
@@ -18,7 +19,11 @@ returns : tie.Need-returns
 returns c = let st = c .before .before in c .removed .ensures ∙ rw (eq-eqb (st .args .left) 0 (c .before .if1 .taken))
 
 returns-2 : tie.Need-returns-2
-returns-2 c = let st = c .before .before in c .with-length .ensures ∙ rw (ne-eqb (st .args .left) 0 (c .before .if1 .left))
+returns-2 c =
+    let st = c .before .before in
+    c .with-length .ensures
+    ∙ with-length-is (st .args .rs) (st .args .k) (st .args .m) (st .pre .0) (st .pre .1)
+    ∙ rw (ne-eqb (st .args .left) 0 (c .before .if1 .left))
 
 pub selected-spec : {M : Type 1} → statement M
 selected-spec = tie.close (tie.spec removed-requires with-length-requires returns returns-2)

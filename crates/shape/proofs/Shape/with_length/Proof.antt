@@ -1,14 +1,28 @@
 use borrow.Author.Needs.{needs}
-use mathlib.Core.Path.{_∙_}
+use mathlib.Core.Path.{sym, _∙_}
+use Prim.Native.Nat.{_≤_, _<_}
+use native.Mathlib.Omega.{arith}
 use lib.ListN.{set}
-use Rattle.shape.specs.Shape.{counted}
-use Rattle.shape.proofs.Made.{made-is}
+use Rattle.shape.specs.Shape.{maxRank, counted}
+use Rattle.shape.proofs.Made.{made-is, with-length-high, with-length-past, with-length-is}
 use lib.Seq.{take-set-lt}
 use Rattle.shape.proofs.Shape.with_length.Statement.{statement}
 use Rattle.shape.proofs.Shape.with_length.Tie as tie
 use Rattle.shape.proofs.Shape.with_length.Reads as reads
 use Rattle.shape.proofs.Shape.with_length.Lts as lts
 use Rattle.shape.proofs.Shape.of_lengths.Reads as of-lengths-reads
+
+scalar-requires : tie.Need-scalar-requires
+scalar-requires c κs = search needs
+
+returns : tie.Need-returns
+returns c = let a = c .before .before .before .args in c .scalar .ensures ∙ with-length-high (a .self) (a .k) (a .n) (omega arith)
+
+scalar-requires-2 : tie.Need-scalar-requires-2
+scalar-requires-2 c κs = search needs
+
+returns-2 : tie.Need-returns-2
+returns-2 c = let a = c .before .before .before .before .before .args in c .scalar2 .ensures ∙ with-length-past (a .self) (a .k) (a .n) (omega arith) (omega arith)
 
 mul-lens : tie.Need-mul-lens
 mul-lens c = search needs
@@ -19,12 +33,15 @@ array-write-lens c = search needs
 of-lengths-requires : tie.Need-of-lengths-requires
 of-lengths-requires c κs = search needs
 
-returns : tie.Need-returns
-returns c =
-    let st = c .before .before in
-    let s = st .args .self in
+returns-3 : tie.Need-returns-3
+returns-3 c =
+    let a = c .before .before .before .before .before .before .args in
+    let s = a .self in
+    let high : s .rank ≤ maxRank = omega arith in
+    let on : a .k < s .rank = omega arith in
     c .of-lengths .ensures
-    ∙ made-is (set (counted s) (st .args .k) (st .args .n)) (s .rank) _ (st .pre .0) (take-set-lt (s .rank) (s .lens) (st .args .k) (st .args .n) (st .pre .1))
+    ∙ made-is (set (counted s) (a .k) (a .n)) (s .rank) _ high (take-set-lt (s .rank) (s .lens) (a .k) (a .n) on)
+    ∙ sym (with-length-is s (a .k) (a .n) high on)
 
 pub with-length-spec : {M : Type 1} → statement M
-with-length-spec = tie.close (tie.spec mul-lens array-write-lens of-lengths-requires returns)
+with-length-spec = tie.close (tie.spec scalar-requires returns scalar-requires-2 returns-2 mul-lens array-write-lens of-lengths-requires returns-3)
