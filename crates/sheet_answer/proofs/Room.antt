@@ -32,14 +32,14 @@ parts-most f k test h (x ∷ xs) e =
     let l = length-append (f x) (following (map f xs)) in
     omega (arith, q, l, p)
 
--- An element has at most eleven bytes, a length five.
+-- An element has at most eleven bytes; a rank and a length have no more than the largest number of the machine.
 element-most : (z : ℤ) → fits z ≡ true → length (decimal z) ≤ 11
 unfolding fits decimal
 element-most (pos n) h = omega (arith, width-most 9 n (omega (arith, ltb-true n (2 ^ 31) h)))
 element-most (negsuc m) h = omega (arith, width-most 9 (suc m) (omega (arith, ltb-true m (2 ^ 31) h)))
 
-length-most : (n : ℕ) → leb n maxCount ≡ true → length (digits n) ≤ 5
-length-most n h = width-most 4 n (omega (arith, leb-true n maxCount h))
+length-most : (n : ℕ) → leb n maxCount ≡ true → length (digits n) ≤ 20
+length-most n h = width-most 19 n (omega (arith, leb-true n maxCount h))
 
 small-every : (ns : List ℕ) → small ns ≡ every (λ n. leb n maxCount) ns
 unfolding small every
@@ -65,8 +65,8 @@ module _ (line : ℕ) (h : line < 2 ^ 64) where
   ok-fits : (ns : List ℕ) (zs : List ℤ) → length ns ≤ maxRank → small ns ≡ true → length zs ≤ maxHeld → every fits zs ≡ true
       → length (okLine line (record { lengths = ns; elements = zs })) ≤ maxLine
   ok-fits ns zs r s c f =
-      let rank = width-most 0 (length ns) (omega arith) in
-      let lengths = parts-most digits 5 (λ n. leb n maxCount) length-most ns (sym (small-every ns) ∙ s) in
+      let rank = width-most 19 (length ns) (omega arith) in
+      let lengths = parts-most digits 20 (λ n. leb n maxCount) length-most ns (sym (small-every ns) ∙ s) in
       let elements = parts-most decimal 11 fits element-most zs f in
       omega (arith, head-most, ok-length line ns zs)
 
