@@ -1,5 +1,5 @@
 -- What the program hands over at a call, and what it answers.
-use Prim.Native.Nat.{ℕ, zero, suc}
+use Prim.Native.Nat.{ℕ}
 use mathlib.Core.Path.{_≡_}
 use mathlib.Core.List.{List, [], _∷_}
 use mathlib.Core.Bool.{Bool, cond}
@@ -7,7 +7,7 @@ use lib.Dec.{eqb}
 use lib.IntN.{ℤ}
 use Rattle.shape.specs.declared.Shape.{Shape}
 use Rattle.shape.specs.Shape.{scalar}
-use Rattle.meaning.specs.Array.{Operand, goodForm}
+use Rattle.meaning.specs.Array.{Operand}
 use Rattle.meaning.specs.Refusal.{Refusal, Rule, winner}
 use Rattle.meaning.specs.Refusal.Refusal.{RANK, AXIS, LENGTH, DOMAIN, INDEX}
 use Rattle.meaning.specs.Reply.{Reply, isOrigin}

@@ -1,18 +1,17 @@
 -- An axis in the flat list of elements: blocks of rows, a row the elements after one position of the axis.
-use mathlib.Core.Path.{_≡_, refl, sym, ap, ap₂, _∙_}
-use mathlib.Core.List.{List, [], _∷_}
-use Prim.Native.Nat.{ℕ, zero, suc, _+_, _*_, _/_, _%_, _≤_, _<_}
-use native.Mathlib.Nat.{div-lt-iff-lt-mul, mod-lt, div-add-mod', mul-le-mul-right, mul-zero, not-suc-le-zero}
+use mathlib.Core.Path.{_≡_, sym, ap, _∙_}
+use mathlib.Core.List.{List}
+use Prim.Native.Nat.{ℕ, zero, suc, _+_, _*_, _/_, _%_, _<_}
+use native.Mathlib.Nat.{div-lt-iff-lt-mul, mod-lt, div-add-mod', mul-zero, not-suc-le-zero}
 use native.Mathlib.Omega.{arith}
-use lib.ListN.{length, getD, set, take, drop, length-set}
-use lib.Seq.{getD-set-same, getD-take}
+use lib.ListN.{getD, set, drop, length-set}
+use lib.Seq.{getD-set-same}
 use lib.Arith.{digits-lt, digits-div, digits-mod}
-use lib.IntN.{ℤ, pos}
+use lib.IntN.{pos}
 use Rattle.shape.specs.Shape.{count}
 use Rattle.shape.specs.Place.{place}
 use Rattle.shape.proofs.Places.{place-in}
-use Rattle.shape.proofs.Axis.{in-at, axis-position, axis-index, count-axis}
-use Rattle.shape.proofs.Surround.{count-set}
+use Rattle.shape.proofs.Axis.{in-at, axis-position, axis-index}
 use Rattle.meaning.specs.Array.{Array, at, tab, build}
 use Rattle.meaning.specs.Terms.{rank, axis, along}
 use Rattle.meaning.proofs.Tab.{tab-ext}

@@ -1,13 +1,12 @@
 -- A run written element by element, from its front.
 use Prim.Native.Nat.{ℕ, suc, _+_, _-_, _≤_, _<_}
 use native.Mathlib.Decide.{decLt}
-use native.Mathlib.Numerals.{add-one}
 use native.Mathlib.Omega.{arith}
 use mathlib.Core.Path.{_≡_, sym, ap, _∙_}
-use mathlib.Core.List.{List, [], _∷_, _++_, append-assoc, append-nil, reverse, reverse-cons}
+use mathlib.Core.List.{List, [], _∷_, _++_, append-nil, reverse, reverse-cons}
 use lib.ListN.{length, getD, take, drop, set, replicate, length-replicate, getD-replicate, length-reverse, List·getD-append, drop-of-length-le}
 use Rattle.shape.proofs.Shifted.{front-step}
-use lib.Seq.{length-take-le, getD-take, take-suc, take-all, drop-cons, set-at, getD-at}
+use lib.Seq.{length-take-le, getD-take, take-all, getD-at}
 
 module _ {A : Type 0} where
   -- All of s over all of d.

@@ -1,16 +1,14 @@
 -- The first axis, and the lengths without it.
-use mathlib.Core.Path.{_≡_, refl, sym, ap, ap₂, _∙_}
-use mathlib.Core.List.{List, [], _∷_, _++_}
-use Prim.Native.Nat.{ℕ, zero, suc, _+_, _-_, _*_, _≤_, _<_}
+use mathlib.Core.Path.{_≡_, refl, ap, _∙_}
+use mathlib.Core.List.{List, [], _∷_}
+use Prim.Native.Nat.{ℕ, _+_, _-_, _*_, _≤_, _<_}
 use native.Mathlib.Omega.{arith}
 use borrow.Author.Tests.{le-leb, lt-ltb}
-use lib.ListN.{length, getD, set, take, drop, replicate, length-drop}
-use lib.Seq.{take-nil, getD-drop, length-take-le}
+use lib.ListN.{length, getD, drop}
 use Rattle.shape.specs.declared.Shape.{Shape}
 use Rattle.shape.specs.declared.Around.{Around}
-use Rattle.shape.specs.Shape.{maxRank, maxCount, counted, count, held, aroundOf, shapeOf, without}
+use Rattle.shape.specs.Shape.{maxRank, maxCount, counted, count, held, aroundOf, without}
 use Rattle.shape.specs.Place.{index, place}
-use Rattle.shape.proofs.Padded.{padded-more}
 use Rattle.shape.proofs.Places.{index-place}
 use Rattle.meaning.specs.Terms.{putIn}
 

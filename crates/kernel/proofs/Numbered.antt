@@ -1,8 +1,8 @@
 -- Calls by number: from a primitive's own contract to the entry point's, and numbers that name none.
 use mathlib.Core.Path.{_≡_, refl, sym, ap, subst₃, _∙_}
-use mathlib.Core.List.{List, [], _∷_}
+use mathlib.Core.List.{List}
 use mathlib.Core.Bool.{true, false}
-use Prim.Native.Nat.{ℕ, suc, _≤_, _<_}
+use Prim.Native.Nat.{ℕ, suc, _≤_}
 use native.Mathlib.Omega.{arith}
 use borrow.Author.Tests.{ltb-true, ltb-false, ne-eqb}
 use lib.Dec.{eqb}

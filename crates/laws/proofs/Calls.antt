@@ -1,15 +1,15 @@
 -- Calls that succeed, and calls that follow them, with the primitive open.
-use mathlib.Core.Path.{_≡_, refl, sym, ap, ap₂, subst₂, _∙_}
-use mathlib.Core.List.{List, [], _∷_, _++_}
-use mathlib.Core.Bool.{Bool, true, false, not, _&&_, _||_}
-use Prim.Native.Nat.{ℕ, suc, _+_, _-_, _≤_}
+use mathlib.Core.Path.{_≡_, sym, ap, ap₂, subst₂, _∙_}
+use mathlib.Core.List.{List, _++_}
+use mathlib.Core.Bool.{true, _||_}
+use Prim.Native.Nat.{ℕ, _+_, _-_, _≤_}
 use native.Mathlib.Omega.{arith}
 use borrow.Author.Tests.{le-leb, leb-true}
-use lib.ListN.{length, take, drop, replicate, length-append, length-replicate, length-drop}
-use lib.Seq.{take-at, length-take-le, length-front}
+use lib.ListN.{length, take, drop, replicate, length-append, length-replicate}
+use lib.Seq.{take-at, length-take-le}
 use lib.Dec.{leb}
 use lib.IntN.{ℤ}
-use Rattle.shape.specs.Shape.{maxRank, maxCount, counted, count, small, shapeRule, goodShape, shapeOf}
+use Rattle.shape.specs.Shape.{maxRank, counted, count, shapeRule, goodShape, shapeOf}
 use Rattle.shape.proofs.Bools.{both}
 use Rattle.shape.proofs.Rule.{rule-rank}
 use Rattle.shape.proofs.Made.{made-counted}
@@ -17,9 +17,9 @@ use Rattle.meaning.specs.Array.{Operand, Array, arrayOf, goodForm, build}
 use Rattle.meaning.specs.Terms.{rank}
 use Rattle.meaning.specs.Primitives.{Meaning}
 use Rattle.meaning.specs.Reply.{Reply, Primitive, primitives, named, isOrigin, meaningOf, settle, reply}
-use Rattle.meaning.proofs.Arrays.{Whole, build-lengths, build-whole}
+use Rattle.meaning.proofs.Arrays.{Whole, build-whole}
 use Rattle.meaning.proofs.Replies.{NoneMet, Fits, success}
-use Rattle.laws.specs.Words.{IsArray, IsOrigin, IsLong, given, Succeeds, Same, Lists, occurs, AsOften}
+use Rattle.laws.specs.Words.{IsArray, IsLong, given, Succeeds, Same, Lists, occurs, AsOften}
 
 -- The result of a meaning.
 abbrev pub result : Meaning → Array

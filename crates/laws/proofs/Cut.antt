@@ -1,17 +1,16 @@
 -- The first n along an axis and what dropping n leaves, at any rank and axis.
-use mathlib.Core.Path.{_≡_, refl, sym, ap, ap₂, _∙_}
+use mathlib.Core.Path.{_≡_, refl, ap, ap₂, _∙_}
 use mathlib.Core.List.{List, [], _∷_, map}
-use mathlib.Core.Bool.{Bool, true, false, not, cond, _&&_}
+use mathlib.Core.Bool.{not}
 use Prim.Native.Nat.{ℕ, zero, suc, _+_, _-_, _≤_, _<_}
 use native.Mathlib.Nat.{add-zero, sub-zero}
 use native.Mathlib.Omega.{arith}
 use lib.ListN.{length, getD, set, length-set, length-map}
 use lib.IntN.{ℤ, pos, natAbs}
-use Rattle.shape.specs.Place.{inside}
 use Rattle.shape.proofs.Places.{In, in-inside}
 use Rattle.shape.proofs.Axis.{in-length}
 use Rattle.meaning.specs.Array.{Array, at, build}
-use Rattle.meaning.specs.Terms.{rank, axis, negative, every}
+use Rattle.meaning.specs.Terms.{rank, axis, negative}
 use Rattle.meaning.specs.Primitives.{takenFrom, takenPlace, atOrZero, takes, droppedLengths, droppedPlace, drops}
 use Rattle.meaning.proofs.Arrays.{build-lengths, build-ext}
 use Rattle.meaning.proofs.Scalars.{array-as}

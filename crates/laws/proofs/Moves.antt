@@ -1,12 +1,11 @@
 -- Moves of the positions along one axis that keep its length, at any rank and axis.
-use mathlib.Core.Path.{_≡_, refl, sym, ap, _∙_}
-use mathlib.Core.List.{List, [], _∷_}
+use mathlib.Core.Path.{_≡_, sym, ap, _∙_}
+use mathlib.Core.List.{List}
 use Prim.Native.Nat.{ℕ, _≤_, _<_}
 use native.Mathlib.Decide.{decLt}
 use native.Mathlib.Omega.{arith}
 use lib.ListN.{length, getD, set}
 use lib.Seq.{set-set, set-getD, set-out, getD-set-same}
-use lib.IntN.{ℤ}
 use Rattle.shape.proofs.Places.{In}
 use Rattle.shape.proofs.Axis.{in-length, in-at, in-set}
 use Rattle.meaning.specs.Array.{Array, at, build}

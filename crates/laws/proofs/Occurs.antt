@@ -1,15 +1,12 @@
 -- How often a number occurs in a list.
-use mathlib.Core.Path.{_≡_, refl, sym, ap, ap₂, _∙_}
-use mathlib.Core.List.{List, [], _∷_}
-use mathlib.Core.Bool.{Bool, true, false, cond}
-use Prim.Native.Nat.{ℕ, zero, suc, _+_, _≤_, _<_}
+use mathlib.Core.Path.{_≡_, sym, ap, _∙_}
+use mathlib.Core.Bool.{cond}
+use Prim.Native.Nat.{ℕ, zero, suc, _+_, _<_}
 use native.Mathlib.Nat.{zero-add, add-comm, add-assoc}
-use lib.ListN.{length, getD}
-use lib.Dec.{eqb}
-use lib.IntN.{ℤ, pos, negsuc}
+use lib.IntN.{ℤ}
 use Rattle.meaning.specs.Array.{tab}
 use Rattle.meaning.specs.Terms.{eqZ}
-use Rattle.meaning.proofs.Tab.{tab-none, tab-suc, tab-getD}
+use Rattle.meaning.proofs.Tab.{tab-none, tab-suc}
 use Rattle.laws.specs.Words.{occurs}
 use Rattle.laws.proofs.Sum.{sum, sum-permuted}
 

@@ -1,7 +1,7 @@
 -- An array whose places are those of another in another order has the same elements, each as often.
-use mathlib.Core.Path.{_≡_, refl, sym, ap, ap₂, _∙_}
-use mathlib.Core.List.{List, [], _∷_}
-use Prim.Native.Nat.{ℕ, zero, suc, _+_, _≤_, _<_}
+use mathlib.Core.Path.{_≡_, refl, sym, ap, _∙_}
+use mathlib.Core.List.{List}
+use Prim.Native.Nat.{ℕ, zero, suc, _+_, _<_}
 use native.Mathlib.Nat.{zero-add, add-comm, add-assoc}
 use native.Mathlib.Numerals.{one-add}
 use native.Mathlib.Decide.{decLt}
@@ -12,10 +12,10 @@ use lib.IntN.{ℤ, pos}
 use Rattle.shape.specs.Shape.{count}
 use Rattle.shape.specs.Place.{index, place}
 use Rattle.shape.proofs.Places.{In, index-lt, place-in, index-place, place-index}
-use Rattle.shape.proofs.Axis.{in-length, in-at, in-set}
+use Rattle.shape.proofs.Axis.{in-length, in-at}
 use Rattle.meaning.specs.Array.{Array, at, tab, build}
 use Rattle.meaning.specs.Terms.{rank, axis, along}
-use Rattle.meaning.proofs.Tab.{tab-ext, tab-getD}
+use Rattle.meaning.proofs.Tab.{tab-getD}
 use Rattle.meaning.proofs.Arrays.{Whole, build-ext, build-at}
 use Rattle.laws.specs.Words.{occurs}
 use Rattle.laws.proofs.Moves.{moved, stays, along-out}

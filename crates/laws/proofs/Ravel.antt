@@ -1,24 +1,22 @@
 -- Law 5: ravelled elements reshaped to the old lengths.
-use mathlib.Core.Path.{_≡_, refl, sym, ap, ap₂, _∙_}
+use mathlib.Core.Path.{_≡_, refl, ap, _∙_}
 use mathlib.Core.List.{List, [], _∷_, map}
-use mathlib.Core.Bool.{Bool, true, false, not}
-use Prim.Native.Nat.{ℕ, zero, suc, _*_, _/_, _%_, _≤_, _<_}
+use mathlib.Core.Bool.{true, not}
+use Prim.Native.Nat.{ℕ, _/_, _%_}
 use native.Mathlib.Nat.{mod-eq-of-lt, div-one, mul-one}
-use native.Mathlib.Omega.{arith}
-use borrow.Author.Tests.{le-leb}
 use lib.ListN.{length, getD}
-use lib.IntN.{ℤ, pos, natAbs}
-use Rattle.shape.specs.Shape.{count, shapeRule}
+use lib.IntN.{pos, natAbs}
+use Rattle.shape.specs.Shape.{count}
 use Rattle.shape.specs.Place.{index, place}
 use Rattle.shape.proofs.Places.{index-lt}
 use Rattle.shape.proofs.Rule.{rule-count, vector-rule}
 use Rattle.meaning.specs.Array.{Operand, Array, arrayOf, at, tab, build}
-use Rattle.meaning.specs.Terms.{rank, eqZ, negative, every}
+use Rattle.meaning.specs.Terms.{eqZ, negative, every}
 use Rattle.meaning.specs.Primitives.{ravel, reshape}
-use Rattle.meaning.specs.Reply.{Reply, primitives, named, reply}
+use Rattle.meaning.specs.Reply.{primitives, named, reply}
 use Rattle.meaning.proofs.Tab.{tab-ext, tab-getD}
 use Rattle.meaning.proofs.Arrays.{Whole, build-ext, build-at}
-use Rattle.laws.specs.Words.{IsArray, IsOrigin, IsLong, given, Lists}
+use Rattle.laws.specs.Words.{given}
 use Rattle.laws.specs.Laws.{RavelledReshaped}
 use Rattle.laws.proofs.Calls.{result, array-rule, form-whole, Gives, gives, same-array, listed, lists-array}
 

@@ -1,24 +1,21 @@
 -- Laws 1, 2 and 6 of rotations and reversals.
-use mathlib.Core.Path.{_≡_, refl, sym, ap, ap₂, _∙_}
+use mathlib.Core.Path.{_≡_, refl, sym, ap, _∙_}
 use mathlib.Core.List.{List, [], _∷_}
-use mathlib.Core.Bool.{Bool, true, false, not}
-use Prim.Native.Nat.{ℕ, _-_, _≤_, _<_, max}
+use mathlib.Core.Bool.{not}
+use Prim.Native.Nat.{ℕ, _-_, _<_, max}
 use native.Mathlib.Omega.{arith}
-use borrow.Author.Tests.{le-leb, eq-eqb}
 use lib.ListN.{length, getD}
-use lib.Dec.{leb}
 use lib.IntN.{ℤ, pos, natAbs, negℤ, _+ℤ_, _-ℤ_, +ℤ-assoc, +ℤ-comm}
-use Rattle.shape.specs.Shape.{count, shapeRule}
-use Rattle.meaning.specs.Array.{Operand, Array, arrayOf, goodForm}
-use Rattle.meaning.specs.Terms.{rank, axis, isList, asVector, eqZ, within, modulo, along}
+use Rattle.meaning.specs.Array.{Operand, Array, arrayOf}
+use Rattle.meaning.specs.Terms.{axis, eqZ, within, modulo}
 use Rattle.meaning.specs.Primitives.{reverse, rotate}
-use Rattle.meaning.specs.Reply.{Reply, primitives, named, meaningOf, reply}
+use Rattle.meaning.specs.Reply.{primitives, named, reply}
 use Rattle.meaning.proofs.Arrays.{Whole}
 use Rattle.meaning.proofs.Scalars.{vector-rank}
 use Rattle.laws.specs.Words.{IsArray, IsOrigin, IsTurnAxis, IsLong, given, IsSingle}
 use Rattle.laws.specs.Laws.{TwoRotations, TwoReversals, RotationKeeps, ReversalKeeps}
-use Rattle.laws.proofs.Calls.{result, array-rule, form-whole, Gives, gives, same-arrays, same-array, as-often, listed, lists-array}
-use Rattle.laws.proofs.Moves.{moved, moved-lengths, moved-whole, moved-ext, moved-id, moved-moved}
+use Rattle.laws.proofs.Calls.{array-rule, form-whole, Gives, gives, same-arrays, same-array, as-often, listed, lists-array}
+use Rattle.laws.proofs.Moves.{moved, moved-lengths, moved-ext, moved-id, moved-moved}
 use Rattle.meaning.proofs.Modulo.{modulo-lt, modulo-sum, modulo-back, modulo-forth}
 use Rattle.laws.proofs.Permuted.{moved-occurs}
 

@@ -1,7 +1,7 @@
 -- The laws of demand 3, of replies: every array, either origin, every axis, every output buffer that is long enough.
 -- A call's K is written K, K₁, .. where it is not looked at, and its L likewise.
 use Prim.Native.Nat.{ℕ, _≤_}
-use mathlib.Core.List.{List, [], _∷_, map}
+use mathlib.Core.List.{List, map}
 use lib.ListN.{set}
 use lib.IntN.{ℤ, pos, natAbs, _+ℤ_, _-ℤ_}
 use Rattle.meaning.specs.Array.{Operand, arrayOf}

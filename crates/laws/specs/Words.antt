@@ -1,5 +1,5 @@
 -- Paper 01, "The words of demand 3".
-use Prim.Native.Nat.{ℕ, zero, suc, _+_, _≤_, _<_}
+use Prim.Native.Nat.{ℕ, _+_, _≤_, _<_}
 use mathlib.Core.Path.{_≡_}
 use mathlib.Core.List.{List, [], _∷_, map}
 use mathlib.Core.Bool.{true, cond}
@@ -8,7 +8,7 @@ use lib.IntN.{ℤ, pos, _+ℤ_, _-ℤ_}
 use Rattle.shape.specs.Shape.{maxRank, counted, count}
 use Rattle.meaning.specs.Array.{Operand, arrayOf, goodForm}
 use Rattle.meaning.specs.Terms.{rank, isList, asVector, eqZ, within}
-use Rattle.meaning.specs.Primitives.{backwards, broughtBack}
+use Rattle.meaning.specs.Primitives.{backwards}
 use Rattle.meaning.specs.Reply.{Reply, isOrigin, meaningOf}
 
 -- An array there is a good shape with a buffer that is not shorter than its count. (A shape has a length for each of maxRank axes.)

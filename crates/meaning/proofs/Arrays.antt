@@ -1,14 +1,13 @@
 -- Arrays that are built place by place.
 use mathlib.Core.Path.{_≡_, refl, sym, ap, _∙_}
 use mathlib.Core.List.{List}
-use Prim.Native.Nat.{ℕ, _≤_}
-use lib.ListN.{length, getD, take}
-use lib.Seq.{length-take-le}
+use Prim.Native.Nat.{ℕ}
+use lib.ListN.{length, getD}
 use lib.IntN.{ℤ, pos}
-use Rattle.shape.specs.Shape.{counted, count}
+use Rattle.shape.specs.Shape.{count}
 use Rattle.shape.specs.Place.{index, place}
 use Rattle.shape.proofs.Places.{In, index-lt, place-in, index-place, place-index}
-use Rattle.meaning.specs.Array.{Operand, Array, arrayOf, at, tab, build}
+use Rattle.meaning.specs.Array.{Array, at, build}
 use Rattle.meaning.proofs.Tab.{length-tab, getD-tab, tab-ext, tab-getD}
 
 -- As many elements as the lengths say.

@@ -1,14 +1,14 @@
 -- When a call succeeds, and what it then gives.
-use mathlib.Core.Path.{_≡_, refl, sym, ap, _∙_}
-use mathlib.Core.List.{List, [], _∷_, _++_}
+use mathlib.Core.Path.{_≡_, refl, ap}
+use mathlib.Core.List.{List, [], _∷_}
 use mathlib.Core.Bool.{Bool, true, false, not, _&&_, _||_}
-use Prim.Native.Nat.{ℕ, suc, _≤_}
+use Prim.Native.Nat.{ℕ}
 use lib.ListN.{length}
 use lib.Dec.{leb, eqb}
 use lib.IntN.{ℤ}
 use Rattle.shape.specs.Shape.{count, shapeRule}
 use Rattle.meaning.specs.Array.{Operand, goodForm}
-use Rattle.meaning.specs.Refusal.{Refusal, Rule, number, meets, winner, precedence}
+use Rattle.meaning.specs.Refusal.{Refusal, Rule, number, meets, winner}
 use Rattle.meaning.specs.Primitives.{Meaning}
 use Rattle.meaning.specs.Reply.{Primitive, primitives, named, isOrigin, refusals, meaningOf, settle, reply}
 

@@ -2,15 +2,14 @@
 use mathlib.Core.Path.{_≡_, refl}
 use mathlib.Core.List.{List, [], _∷_}
 use mathlib.Core.Bool.{Bool, true, false, cond}
-use Prim.Native.Nat.{ℕ, max, _≤_, _<_}
+use Prim.Native.Nat.{ℕ, max, _<_}
 use native.Mathlib.Omega.{arith}
 use borrow.Author.Tests.{eqb-true, eqb-false, eq-eqb, ne-eqb}
-use lib.ListN.{length, replicate, length-replicate}
+use lib.ListN.{length, replicate}
 use lib.Dec.{eqb}
-use lib.IntN.{ℤ}
 use Rattle.shape.specs.Shape.{count}
 use Rattle.meaning.specs.Array.{Array}
-use Rattle.meaning.specs.Terms.{rank, asRank, asVector, isScalar}
+use Rattle.meaning.specs.Terms.{rank, asRank, asVector}
 
 pub scalar-as : (n : ℕ) (a : Array) → rank a ≡ 0 → asRank n a ≡ record { lengths = replicate n 1; elements = a .elements }
 scalar-as n a h = rw (eq-eqb (rank a) 0 h)

@@ -2,11 +2,11 @@
 use mathlib.Core.Path.{_≡_, refl, sym, ap, _∙_}
 use mathlib.Core.List.{List, [], _∷_, _++_}
 use Prim.Native.Nat.{ℕ, zero, suc, _+_, _≤_, _<_}
-use native.Mathlib.Nat.{add-zero, add-suc, zero-add, suc-add, le-of-suc-le-suc, not-suc-le-zero, zero-lt-suc}
+use native.Mathlib.Nat.{zero-add, suc-add, le-of-suc-le-suc, not-suc-le-zero, zero-lt-suc}
 use native.Mathlib.Omega.{arith}
-use lib.ListN.{length, getD, take, drop, length-append, length-take, length-drop}
+use lib.ListN.{length, getD, take, drop, length-take, length-drop}
 use Rattle.meaning.specs.Array.{tabFrom, tab}
-use lib.Seq.{ext-getD, getD-take, getD-drop, getD-append-add}
+use lib.Seq.{ext-getD, getD-take, getD-drop}
 
 module _ {ℓ} {A : Type ℓ} where
   from-suc : (i n : ℕ) (f : ℕ → A) → tabFrom (suc i) n f ≡ tabFrom i n (λ j. f (suc j))

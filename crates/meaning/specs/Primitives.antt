@@ -3,14 +3,14 @@
 -- k means K - G, the axis counted from zero: a difference of whole numbers, which never wraps.
 use Prim.Native.Nat.{ℕ, zero, suc, _+_, _-_, _%_, min, max}
 use mathlib.Core.List.{List, [], _∷_, map}
-use mathlib.Core.Bool.{Bool, true, false, not, cond, _&&_, _||_}
+use mathlib.Core.Bool.{Bool, not, cond, _&&_, _||_}
 use lib.ListN.{length, getD, set, replicate}
 use lib.ListN.{take as front}
-use lib.Dec.{eqb, leb, ltb}
+use lib.Dec.{eqb, ltb}
 use lib.IntN.{ℤ, pos, natAbs, _+ℤ_, _-ℤ_}
 use Rattle.shape.specs.Place.{index, inside}
 use Rattle.meaning.specs.Array.{Array, at, tab}
-use Rattle.meaning.specs.Refusal.{Refusal, Rule, _when_, _unless_}
+use Rattle.meaning.specs.Refusal.{Rule, _when_, _unless_}
 use Rattle.meaning.specs.Refusal.Refusal.{RANK, AXIS, LENGTH, DOMAIN, INDEX}
 use Rattle.shape.specs.Shape.{without}
 use Rattle.meaning.specs.Terms.{rank, axis, isScalar, isList, asRank, asVector, negative, eqZ, within, modulo, every, sameLengths, putIn, along, isBit, ones, firstAt}

@@ -1,14 +1,14 @@
 -- Paper 01: a call by number and its reply. FORM, ORIGIN, LIMIT, SPACE and the reply to a refusal are the same for all primitives.
 use Prim.Native.Nat.{ℕ, zero, suc}
 use mathlib.Core.List.{List, [], _∷_, _++_}
-use mathlib.Core.Bool.{Bool, true, false, cond, _||_}
+use mathlib.Core.Bool.{Bool, true, cond, _||_}
 use lib.ListN.{length, drop}
-use lib.Dec.{eqb, leb}
+use lib.Dec.{leb}
 use lib.IntN.{ℤ, pos}
 use Rattle.shape.specs.declared.Shape.{Shape}
 use Rattle.shape.specs.Shape.{count, shapeRule, shapeOf, scalar}
 use Rattle.meaning.specs.Array.{Operand, Array, arrayOf, goodForm, build}
-use Rattle.meaning.specs.Refusal.{Refusal, Rule, _when_, _unless_, precedence, winner}
+use Rattle.meaning.specs.Refusal.{Rule, _when_, _unless_, precedence, winner}
 use Rattle.meaning.specs.Refusal.Refusal.{NUMBER, FORM, ORIGIN, LIMIT, SPACE}
 use Rattle.meaning.specs.Terms.{eqZ}
 use Rattle.meaning.specs.Primitives.{Meaning, lengthsOf, ravel, interval, reverse, transpose, reshape, catenate, takes, drops, rotate, transposeBy, compress, expand, indexOf, member, select}

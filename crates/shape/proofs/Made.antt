@@ -2,11 +2,10 @@
 use mathlib.Core.Path.{_≡_, refl, sym, ap, _∙_}
 use mathlib.Core.List.{List}
 use Prim.Native.Nat.{ℕ, _≤_, _<_}
-use mathlib.Core.Bool.{true, false, _&&_, cond}
+use mathlib.Core.Bool.{true, false}
 use borrow.Author.Tests.{le-leb, lt-leb, lt-ltb, le-ltb}
 use lib.ListN.{length, take, set}
 use lib.Seq.{take-at}
-use lib.Dec.{leb, ltb}
 use Rattle.shape.specs.declared.Shape.{Shape}
 use Rattle.shape.specs.Shape.{maxRank, maxCount, counted, count, countOf, goodShape, scalar, shapeOf, shapeRule, madeOf, withLength, without, withoutAxis}
 use Rattle.shape.proofs.Counts.{good-count, bad-count, count-of}

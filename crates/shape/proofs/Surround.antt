@@ -1,15 +1,13 @@
 -- What stands around an axis, with rank and axis open.
 use mathlib.Core.Path.{_≡_, refl, sym, ap, ap₂, _∙_}
-use mathlib.Core.List.{List, [], _∷_}
-use mathlib.Core.Bool.{true, false, _&&_, cond}
-use Prim.Native.Nat.{ℕ, zero, suc, _+_, _*_, _≤_, _<_, min}
+use mathlib.Core.List.{List}
+use Prim.Native.Nat.{ℕ, zero, suc, _+_, _*_, _≤_, _<_}
 use native.Mathlib.Nat.{le-mul-of-pos-right, zero-mul, mul-zero, mul-comm}
 use native.Mathlib.Numerals.{add-one}
 use native.Mathlib.Omega.{arith}
 use borrow.Author.Tests.{le-leb, lt-leb, lt-ltb, le-ltb}
 use lib.ListN.{length, getD, take, drop, set, length-set}
-use lib.Seq.{slice, take-take, getD-take, length-take-le, take-set-le, drop-set-lt, getD-set-same, set-getD}
-use lib.Dec.{leb, ltb}
+use lib.Seq.{slice, take-take, getD-take, length-take-le, take-set-le, drop-set-lt, getD-set-same}
 use Rattle.shape.specs.declared.Shape.{Shape}
 use Rattle.shape.specs.declared.Around.{Around}
 use Rattle.shape.specs.Shape.{maxRank, maxCount, counted, count, held, aroundOf}

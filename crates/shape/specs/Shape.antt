@@ -1,7 +1,7 @@
 -- Paper 01, "The array": the shape.
 use Prim.Native.Nat.{ℕ, zero, suc, _*_, _-_, min}
 use mathlib.Core.List.{List, [], _∷_, _++_}
-use mathlib.Core.Bool.{Bool, true, false, cond, _&&_}
+use mathlib.Core.Bool.{Bool, true, cond, _&&_}
 use lib.ListN.{length, take, drop, getD, set, replicate}
 use lib.Dec.{leb, ltb}
 use Rattle.shape.specs.declared.Shape.{Shape}

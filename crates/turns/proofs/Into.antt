@@ -1,8 +1,7 @@
 -- From what the code leaves in the output buffer to the meaning of a turn, with the move of the positions open.
-use mathlib.Core.Path.{_≡_, refl, sym, ap, ap₂, subst, _∙_}
-use mathlib.Core.List.{List, [], _∷_, _++_}
-use mathlib.Core.Bool.{true}
-use Prim.Native.Nat.{ℕ, suc, _*_, _-_, _≤_, _<_, max}
+use mathlib.Core.Path.{_≡_, sym, ap, ap₂, subst, _∙_}
+use mathlib.Core.List.{List, _++_}
+use Prim.Native.Nat.{ℕ, _*_, _-_, _≤_, _<_}
 use native.Mathlib.Nat.{sub-zero}
 use native.Mathlib.Omega.{arith}
 use lib.ListN.{length, getD, take, drop, set}
@@ -10,7 +9,7 @@ use lib.Seq.{length-take-le, set-getD, set-out}
 use lib.IntN.{ℤ, pos}
 use Rattle.shape.specs.declared.Shape.{Shape}
 use Rattle.shape.specs.declared.Around.{Around}
-use Rattle.shape.specs.Shape.{maxRank, counted, count, countOf, aroundOf}
+use Rattle.shape.specs.Shape.{counted, count, countOf, aroundOf}
 use Rattle.shape.specs.Place.{place}
 use Rattle.shape.proofs.Axis.{in-length}
 use Rattle.shape.proofs.Surround.{Parts, parts}

@@ -1,18 +1,17 @@
 -- 14: its refusals in their order, and what it gives.
-use mathlib.Core.Path.{_≡_, refl, sym, ap, _∙_}
-use mathlib.Core.List.{List, [], _∷_, _++_}
+use mathlib.Core.Path.{_≡_, refl, ap, _∙_}
+use mathlib.Core.List.{List, _++_}
 use mathlib.Core.Bool.{true, false}
-use Prim.Native.Nat.{ℕ, _-_, _≤_, _<_}
+use Prim.Native.Nat.{ℕ, _-_}
 use lib.ListN.{length, drop}
 use lib.IntN.{ℤ, pos, natAbs, _-ℤ_}
-use Rattle.shape.specs.declared.Shape.{Shape}
-use Rattle.shape.specs.Shape.{counted, count, shapeRule}
+use Rattle.shape.specs.Shape.{count, shapeRule}
 use Rattle.meaning.specs.Array.{Operand, Array, arrayOf, build}
 use Rattle.meaning.specs.Refusal.{number, meets, winner}
 use Rattle.meaning.specs.Terms.{rank, axis, asVector, eqZ, within, along}
 use Rattle.meaning.specs.Primitives.{reverse}
 use Rattle.meaning.specs.Reply.{Primitive, primitives, named}
-use Rattle.answer.specs.Answer.{lent, ownOrder, own}
+use Rattle.answer.specs.Answer.{ownOrder, own}
 use Rattle.answer.proofs.Order.{Names}
 use Rattle.turns.specs.Rows.{turnPosition}
 

@@ -1,6 +1,6 @@
 -- The rows of a block, turned.
 use mathlib.Core.Path.{_≡_, refl, sym, ap, ap₂, _∙_}
-use mathlib.Core.List.{List, [], _∷_}
+use mathlib.Core.List.{List}
 use mathlib.Core.Bool.{Bool, true, false, cond}
 use Prim.Native.Nat.{ℕ, zero, suc, _+_, _*_, _-_, _/_, _%_, _≤_, _<_}
 use native.Mathlib.Nat.{mul-le-mul-right, mul-one, mul-zero, div-one, mod-one, mod-lt, mod-eq-of-lt, add-mod-right, div-add-mod', div-lt-iff-lt-mul, not-suc-le-zero, zero-add}

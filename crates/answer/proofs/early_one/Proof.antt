@@ -1,5 +1,5 @@
 use Rattle.signed.proofs.Reading.{read32}
-use mathlib.Core.Path.{sym, ap, _∙_}
+use mathlib.Core.Path.{sym, _∙_}
 use Rattle.answer.proofs.Lent.{early-form, early-origin, early-none}
 use borrow.Author.Needs.{needs}
 use Rattle.answer.proofs.early_one.Statement.{statement}

@@ -1,5 +1,5 @@
 use native.Mathlib.Omega.{arith}
-use mathlib.Core.Path.{sym, ap, _∙_}
+use mathlib.Core.Path.{sym}
 use Rattle.answer.proofs.Lent.{form-bad, form-by}
 use borrow.Author.Needs.{needs}
 use Rattle.answer.proofs.good_form.Statement.{statement}

@@ -1,5 +1,5 @@
 use native.Mathlib.Omega.{arith}
-use mathlib.Core.Path.{_≡_, sym, _∙_}
+use mathlib.Core.Path.{sym, _∙_}
 use Rattle.turns.proofs.Rows.{block-back, block-cut, cut-le}
 use borrow.Author.Needs.{needs}
 use Rattle.turns.proofs.turn_block.Statement.{statement}

@@ -11,7 +11,7 @@ use Rattle.turns.proofs.Rows.{turn-amount, amount-lt, turn-position-lt}
 use Prim.Native.Nat.{_*_, _<_}
 use native.Mathlib.Omega.{arith}
 use lib.ListN.{length, getD}
-use Rattle.shape.specs.Shape.{maxRank, countOf, aroundOf}
+use Rattle.shape.specs.Shape.{maxRank, countOf}
 use Rattle.answer.proofs.Lent.{Lent, lent-good}
 use Rattle.turns.proofs.Into.{into-scalar, into-none, turn-room, turn-some, into-blocks}
 use borrow.Author.Needs.{needs}
