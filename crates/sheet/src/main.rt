@@ -1,10 +1,11 @@
 // The sheet program: reads lines from standard input and answers each on standard output.
 use libc::STDIN_FILENO;
 use libc::STDOUT_FILENO;
+use sheet_line::MAX_LINE;
 ghost use Prim.Native.Nat.{_+_, _≤_, _<_};
 ghost use lib.ListN.{length};
 
-// What is held between bytes: the length of the line so far and whether it was too long, its number, and how much text waits to be written.
+// What is held between chunks: the length of the line so far and whether it was too long, its number, and how much text waits to be written.
 struct Held {
     len: usize,
     over: bool,
@@ -41,17 +42,36 @@ fn answer_line(line: &[u8], over: bool, number: u64, text: &mut [u8]) -> usize {
     sheet_answer::print_reply(number, a.number, shape, &out, text)
 }
 
-// A line is at its end. The text is written where it may not hold another answer.
+// Where the text ends after n bytes more.
+fn ended(start: usize, n: usize, room: usize) -> usize
+    requires { ⌜ start ≤ room ⌝ }
+    ensures { λ e. ⌜ e ≤ room ⌝ }
+{
+    if n <= room - start { start + n } else { start }
+}
+
+// Writes what waits, unless there is still room for the longest answer, which is no longer than the longest line; what then waits.
+fn flushed(text: &[u8], waiting: usize) -> usize
+    requires { ⌜ waiting ≤ length (now text) ⌝ }
+    ensures { λ n. ⌜ n ≤ waiting ⌝ }
+{
+    if MAX_LINE <= text.len() - waiting {
+        return waiting;
+    }
+    io::write_all(STDOUT_FILENO, &text[0..waiting]);
+    0
+}
+
+// A line is at its end: its answer follows the text that waits.
 fn end_line(line: &[u8], held: Held, text: &mut [u8]) -> Held
-    requires { ⌜ (held .len ≤ length (now line)) × (held .waiting ≤ length (now text)) ⌝ }
+    requires { ⌜ held .waiting ≤ length (now text) ⌝ }
     ensures { λ h. ⌜ (h .len ≤ 0) × (h .waiting ≤ length (now (text .entry))) ⌝ }
 {
     let number = held.number;
-    let len = held.len;
     let over = held.over;
     let start = flushed(text, held.waiting);
     let room = text.len();
-    let n = answer_line(&line[0..len], over, number, &mut text[start..room]);
+    let n = answer_line(line, over, number, &mut text[start..room]);
     let end = ended(start, n, room);
     Held {
         len: 0,
@@ -61,73 +81,91 @@ fn end_line(line: &[u8], held: Held, text: &mut [u8]) -> Held
     }
 }
 
-// Where the text ends after n bytes more.
-fn ended(start: usize, n: usize, room: usize) -> usize
-    requires { ⌜ start ≤ room ⌝ }
-    ensures { λ e. ⌜ e ≤ room ⌝ }
+fn copy_bytes(run: &[u8], out: &mut [u8])
+    requires { ⌜ length (now run) ≤ length (now out) ⌝ }
 {
-    if n <= room - start { start + n } else { start }
+    let mut i = 0;
+    while i < run.len() {
+        out[i] = run[i];
+        i += 1;
+    }
 }
 
-// Writes what waits, unless there is still room for the longest answer; what then waits.
-fn flushed(text: &[u8], waiting: usize) -> usize
-    requires { ⌜ waiting ≤ length (now text) ⌝ }
-    ensures { λ n. ⌜ n ≤ waiting ⌝ }
+// The line so far with a run of bytes more, or too long.
+fn hold_run(run: &[u8], held: Held, line: &mut [u8]) -> Held
+    requires { ⌜ held .len ≤ length (now line) ⌝ }
+    ensures { λ h. ⌜ (h .len ≤ length (now (line .entry))) × (h .waiting ≤ held .waiting) ⌝ }
 {
-    if 16384 <= text.len() - waiting {
-        return waiting;
-    }
-    io::write_all(STDOUT_FILENO, &text[0..waiting]);
-    0
-}
-
-// One byte more.
-fn take_byte(b: u8, held: Held, line: &mut [u8], text: &mut [u8]) -> Held
-    requires { ⌜ (held .len ≤ length (now line)) × (held .waiting ≤ length (now text)) ⌝ }
-    ensures { λ h. ⌜ (h .len ≤ length (now (line .entry))) × (h .waiting ≤ length (now (text .entry))) ⌝ }
-{
-    if b == b'\n' {
-        return end_line(line, held, text);
-    }
     let len = held.len;
     let over = held.over;
     let number = held.number;
     let waiting = held.waiting;
-    if len < line.len() {
-        line[len] = b;
-        Held {
-            len: len + 1,
-            over,
-            number,
-            waiting,
-        }
-    } else {
-        Held {
-            len,
+    let room = line.len();
+    if room - len < run.len() {
+        return Held {
+            len: room,
             over: true,
             number,
             waiting,
-        }
+        };
+    }
+    copy_bytes(run, &mut line[len..room]);
+    Held {
+        len: len + run.len(),
+        over,
+        number,
+        waiting,
     }
 }
 
-fn take_bytes(chunk: &[u8], start: Held, line: &mut [u8], text: &mut [u8]) -> Held
+// The last run of a line. Where nothing is held of the line, it is answered where it lies.
+fn take_line(run: &[u8], held: Held, line: &mut [u8], text: &mut [u8]) -> Held
+    requires { ⌜ (held .len ≤ length (now line)) × (held .waiting ≤ length (now text)) ⌝ }
+    ensures { λ h. ⌜ (h .len ≤ length (now (line .entry))) × (h .waiting ≤ length (now (text .entry))) ⌝ }
+{
+    if held.len == 0 {
+        return end_line(run, held, text);
+    }
+    let whole = hold_run(run, held, line);
+    let len = whole.len;
+    end_line(&line[0..len], whole, text)
+}
+
+// The place of the first newline from `at` on, or the chunk's end.
+fn newline_from(chunk: &[u8], at: usize) -> usize
+    requires { ⌜ at ≤ length (now chunk) ⌝ }
+    ensures { λ r. ⌜ (at ≤ r) × (r ≤ length (now (chunk .entry))) ⌝ }
+{
+    let mut i = at;
+    while i < chunk.len() {
+        if chunk[i] == b'\n' {
+            return i;
+        }
+        i += 1;
+    }
+    i
+}
+
+// Answers each line that ends in the chunk, and holds the bytes after the last newline.
+fn take_chunk(chunk: &[u8], start: Held, line: &mut [u8], text: &mut [u8]) -> Held
     requires { ⌜ (start .len ≤ length (now line)) × (start .waiting ≤ length (now text)) ⌝ }
     ensures { λ h. ⌜ (h .len ≤ length (now (line .entry))) × (h .waiting ≤ length (now (text .entry))) ⌝ }
 {
     let mut held = start;
-    let mut i = 0;
-    while i < chunk.len() {
-        held = take_byte(chunk[i], held, line, text);
-        i += 1;
+    let mut at = 0;
+    let mut end = newline_from(chunk, at);
+    while end < chunk.len() {
+        held = take_line(&chunk[at..end], held, line, text);
+        at = end + 1;
+        end = newline_from(chunk, at);
     }
-    held
+    hold_run(&chunk[at..end], held, line)
 }
 
 // What waits is written after each chunk, so that a person at a terminal sees each answer at once.
 fn main() {
     let mut chunk = [0u8; 65536];
-    let mut line = [0u8; 16384];
+    let mut line = [0u8; MAX_LINE];
     let mut text = [0u8; 65536];
     let mut held = Held {
         len: 0,
@@ -142,7 +180,7 @@ fn main() {
         if n == 0 {
             break;
         }
-        held = take_bytes(&chunk[0..n], held, &mut line, &mut text);
+        held = take_chunk(&chunk[0..n], held, &mut line, &mut text);
         let waiting = held.waiting;
         if !io::write_all(STDOUT_FILENO, &text[0..waiting]) {
             return;
@@ -150,8 +188,9 @@ fn main() {
         held.waiting = 0;
         turns -= 1;
     }
-    if 0 < held.len {
-        held = end_line(&line, held, &mut text);
+    let len = held.len;
+    if 0 < len {
+        held = end_line(&line[0..len], held, &mut text);
         let waiting = held.waiting;
         io::write_all(STDOUT_FILENO, &text[0..waiting]);
     }
