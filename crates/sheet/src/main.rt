@@ -131,12 +131,41 @@ fn take_line(run: &[u8], held: Held, line: &mut [u8], text: &mut [u8]) -> Held
     end_line(&line[0..len], whole, text)
 }
 
+// Whether there is a newline among the bytes. Each byte is looked at, so that the compiler tests many at a time.
+fn has_newline(bytes: &[u8]) -> bool {
+    let mut found = false;
+    let mut i = 0;
+    while i < bytes.len() {
+        if bytes[i] == b'\n' {
+            found = true;
+        }
+        i += 1;
+    }
+    found
+}
+
+// The block with the first newline from `at` on, or the last bytes, of which there are fewer than a block.
+fn block_from(chunk: &[u8], at: usize) -> usize
+    requires { ⌜ at ≤ length (now chunk) ⌝ }
+    ensures { λ r. ⌜ (at ≤ r) × (r ≤ length (now (chunk .entry))) ⌝ }
+{
+    let mut i = at;
+    while 64 <= chunk.len() - i {
+        let end = i + 64;
+        if has_newline(&chunk[i..end]) {
+            return i;
+        }
+        i = end;
+    }
+    i
+}
+
 // The place of the first newline from `at` on, or the chunk's end.
 fn newline_from(chunk: &[u8], at: usize) -> usize
     requires { ⌜ at ≤ length (now chunk) ⌝ }
     ensures { λ r. ⌜ (at ≤ r) × (r ≤ length (now (chunk .entry))) ⌝ }
 {
-    let mut i = at;
+    let mut i = block_from(chunk, at);
     while i < chunk.len() {
         if chunk[i] == b'\n' {
             return i;

@@ -10,6 +10,9 @@ Inv-loop chunk at i₀ i = (at ≤ i) × (i ≤ length chunk)
 abbrev μ-loop : tie.MeasureT-loop
 μ-loop chunk at i₀ i = length chunk - i
 
+block-from-requires : tie.Need-block-from-requires Inv-loop μ-loop
+block-from-requires c κs = search needs
+
 loop-holds : tie.Need-loop-holds Inv-loop μ-loop
 loop-holds c = search needs
 
@@ -37,6 +40,7 @@ newline-from-spec =
     (tie.spec
     Inv-loop
     μ-loop
+    block-from-requires
     loop-holds
     shared-slice-read-if1
     returns
