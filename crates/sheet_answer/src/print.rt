@@ -1,7 +1,9 @@
 // Text written from its end to its start, so that a digit is written as soon as it is known. Each function gives the place where its bytes start.
 ghost use mathlib.Core.Path.{_≡_};
-ghost use Prim.Native.Nat.{suc, _+_, _*_, _≤_, _<_};
+ghost use Prim.Native.Nat.{suc, _+_, _*_, _^_, _≤_, _<_};
+ghost use mathlib.Core.Bool.{cond};
 ghost use mathlib.Core.List.{[], _∷_, _++_, map};
+ghost use lib.Dec.{leb};
 ghost use lib.ListN.{length};
 ghost use Rattle.shape.specs.Shape.{maxRank, maxCount};
 ghost use Rattle.sheet_line.specs.Text.{blank, digits, decimal, following};
@@ -16,18 +18,44 @@ pub fn put_byte(text: &mut [u8], end: usize, b: u8) -> usize
     at
 }
 
+// 1 if n reaches p, else 0.
+fn reaches(n: usize, p: usize) -> usize
+    ensures test { λ r. ⌜ r ≡ cond (leb p n) 1 0 ⌝ }
+    ensures bound { λ r. ⌜ r ≤ 1 ⌝ }
+{
+    if p <= n { 1 } else { 0 }
+}
+
+// The least number of eleven digits.
+const ELEVEN_DIGITS: usize = 10000000000;
+
+// How many digits a number of at most ten digits has, without a division and without a branch.
+fn short_width(n: usize) -> usize
+    requires { ⌜ n < 10 ^ 10 ⌝ }
+    ensures digits { λ r. ⌜ r ≡ length (digits n) ⌝ }
+    ensures bound { λ r. ⌜ r ≤ 10 ⌝ }
+{
+    1
+        + reaches(n, 10)
+        + reaches(n, 100)
+        + reaches(n, 1000)
+        + reaches(n, 10000)
+        + reaches(n, 100000)
+        + reaches(n, 1000000)
+        + reaches(n, 10000000)
+        + reaches(n, 100000000)
+        + reaches(n, 1000000000)
+}
+
 // How many digits a number has.
 pub fn width(n: usize) -> usize
     ensures digits { λ r. ⌜ r ≡ length (digits n) ⌝ }
     ensures bound { λ r. ⌜ r ≤ 20 ⌝ }
 {
-    let mut k = 1;
-    let mut rest = n;
-    while 10 <= rest {
-        rest /= 10;
-        k += 1;
+    if n < ELEVEN_DIGITS {
+        return short_width(n);
     }
-    k
+    10 + short_width(n / ELEVEN_DIGITS)
 }
 
 pub fn put_digits(text: &mut [u8], end: usize, n: usize) -> usize
