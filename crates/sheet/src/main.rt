@@ -13,33 +13,43 @@ struct Held {
     waiting: usize,
 }
 
+impl Held {
+    // Before the first line.
+    fn none() -> Held
+        ensures { λ h. ⌜ (h .len ≤ 0) × (h .waiting ≤ 0) ⌝ }
+    {
+        Held {
+            len: 0,
+            over: false,
+            number: 1,
+            waiting: 0,
+        }
+    }
+}
+
 // The answer to a line, at the front of `text`; its length. A line that was too long is bad.
-fn answer_line(line: &[u8], over: bool, number: u64, text: &mut [u8]) -> usize {
+fn answer_line(
+    line: &[u8],
+    over: bool,
+    number: u64,
+    l: &mut [i32],
+    r: &mut [i32],
+    out: &mut [i32],
+    text: &mut [u8],
+) -> usize {
     if over {
         return sheet_answer::print_bad(number, text);
     }
-    let mut l = [0i32; 1024];
-    let mut r = [0i32; 1024];
-    let mut out = [0i32; 1024];
-    let read = sheet_line::read_line(line, &mut l, &mut r);
+    let read = sheet_line::read_line(line, l, r);
     let good = read.good;
     if !good {
         return sheet_answer::print_bad(number, text);
     }
     let left = read.left;
     let right = read.right;
-    let a = kernel::call(
-        read.number,
-        read.origin,
-        read.axis,
-        left,
-        &l,
-        right,
-        &r,
-        &mut out,
-    );
+    let a = kernel::call(read.number, read.origin, read.axis, left, l, right, r, out);
     let shape = a.shape;
-    sheet_answer::print_reply(number, a.number, shape, &out, text)
+    sheet_answer::print_reply(number, a.number, shape, out, text)
 }
 
 // Where the text ends after n bytes more.
@@ -63,7 +73,14 @@ fn flushed(text: &[u8], waiting: usize) -> usize
 }
 
 // A line is at its end: its answer follows the text that waits.
-fn end_line(line: &[u8], held: Held, text: &mut [u8]) -> Held
+fn end_line(
+    line: &[u8],
+    held: Held,
+    l: &mut [i32],
+    r: &mut [i32],
+    out: &mut [i32],
+    text: &mut [u8],
+) -> Held
     requires { ⌜ held .waiting ≤ length (now text) ⌝ }
     ensures { λ h. ⌜ (h .len ≤ 0) × (h .waiting ≤ length (now (text .entry))) ⌝ }
 {
@@ -71,7 +88,7 @@ fn end_line(line: &[u8], held: Held, text: &mut [u8]) -> Held
     let over = held.over;
     let start = flushed(text, held.waiting);
     let room = text.len();
-    let n = answer_line(line, over, number, &mut text[start..room]);
+    let n = answer_line(line, over, number, l, r, out, &mut text[start..room]);
     let end = ended(start, n, room);
     Held {
         len: 0,
@@ -119,16 +136,24 @@ fn hold_run(run: &[u8], held: Held, line: &mut [u8]) -> Held
 }
 
 // The last run of a line. Where nothing is held of the line, it is answered where it lies.
-fn take_line(run: &[u8], held: Held, line: &mut [u8], text: &mut [u8]) -> Held
+fn take_line(
+    run: &[u8],
+    held: Held,
+    line: &mut [u8],
+    l: &mut [i32],
+    r: &mut [i32],
+    out: &mut [i32],
+    text: &mut [u8],
+) -> Held
     requires { ⌜ (held .len ≤ length (now line)) × (held .waiting ≤ length (now text)) ⌝ }
     ensures { λ h. ⌜ (h .len ≤ length (now (line .entry))) × (h .waiting ≤ length (now (text .entry))) ⌝ }
 {
     if held.len == 0 {
-        return end_line(run, held, text);
+        return end_line(run, held, l, r, out, text);
     }
     let whole = hold_run(run, held, line);
     let len = whole.len;
-    end_line(&line[0..len], whole, text)
+    end_line(&line[0..len], whole, l, r, out, text)
 }
 
 // Whether there is a newline among the bytes. Each byte is looked at, so that the compiler tests many at a time.
@@ -176,7 +201,15 @@ fn newline_from(chunk: &[u8], at: usize) -> usize
 }
 
 // Answers each line that ends in the chunk, and holds the bytes after the last newline.
-fn take_chunk(chunk: &[u8], start: Held, line: &mut [u8], text: &mut [u8]) -> Held
+fn take_chunk(
+    chunk: &[u8],
+    start: Held,
+    line: &mut [u8],
+    l: &mut [i32],
+    r: &mut [i32],
+    out: &mut [i32],
+    text: &mut [u8],
+) -> Held
     requires { ⌜ (start .len ≤ length (now line)) × (start .waiting ≤ length (now text)) ⌝ }
     ensures { λ h. ⌜ (h .len ≤ length (now (line .entry))) × (h .waiting ≤ length (now (text .entry))) ⌝ }
 {
@@ -184,7 +217,7 @@ fn take_chunk(chunk: &[u8], start: Held, line: &mut [u8], text: &mut [u8]) -> He
     let mut at = 0;
     let mut end = newline_from(chunk, at);
     while end < chunk.len() {
-        held = take_line(&chunk[at..end], held, line, text);
+        held = take_line(&chunk[at..end], held, line, l, r, out, text);
         at = end + 1;
         end = newline_from(chunk, at);
     }
@@ -195,13 +228,11 @@ fn take_chunk(chunk: &[u8], start: Held, line: &mut [u8], text: &mut [u8]) -> He
 fn main() {
     let mut chunk = [0u8; 65536];
     let mut line = [0u8; MAX_LINE];
+    let mut l = [0i32; 1024];
+    let mut r = [0i32; 1024];
+    let mut out = [0i32; 1024];
     let mut text = [0u8; 65536];
-    let mut held = Held {
-        len: 0,
-        over: false,
-        number: 1,
-        waiting: 0,
-    };
+    let mut held = Held::none();
     let mut turns = u64::MAX;
     while turns > 0 {
         let got = libc::read(STDIN_FILENO, &mut chunk);
@@ -209,7 +240,15 @@ fn main() {
         if n == 0 {
             break;
         }
-        held = take_chunk(&chunk[0..n], held, &mut line, &mut text);
+        held = take_chunk(
+            &chunk[0..n],
+            held,
+            &mut line,
+            &mut l,
+            &mut r,
+            &mut out,
+            &mut text,
+        );
         let waiting = held.waiting;
         if !io::write_all(STDOUT_FILENO, &text[0..waiting]) {
             return;
@@ -219,7 +258,7 @@ fn main() {
     }
     let len = held.len;
     if 0 < len {
-        held = end_line(&line[0..len], held, &mut text);
+        held = end_line(&line[0..len], held, &mut l, &mut r, &mut out, &mut text);
         let waiting = held.waiting;
         io::write_all(STDOUT_FILENO, &text[0..waiting]);
     }

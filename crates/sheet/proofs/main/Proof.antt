@@ -2,15 +2,18 @@ use Prim.Native.Nat.{_≤_}
 use mathlib.Core.Path.{_≡_}
 use lib.ListN.{length}
 use borrow.Author.Needs.{needs}
-use Rattle.sheet_line.specs.Call.{maxLine}
+use Rattle.sheet_line.specs.Call.{maxLine, maxHeld}
 use Rattle.sheet.proofs.main.Statement.{statement}
 use Rattle.sheet.proofs.main.Tie as tie
 
 abbrev Inv-loop : tie.InvT-loop
-Inv-loop chunk₀ line₀ text₀ held₀ turns₀ chunk line text held turns = (length chunk ≡ 65536) × ((length line ≡ maxLine) × ((length text ≡ 65536) × ((held .len ≤ maxLine) × (held .waiting ≤ 65536))))
+Inv-loop chunk₀ line₀ l₀ r₀ out₀ text₀ held₀ turns₀ chunk line l r out text held turns = (length chunk ≡ 65536) × ((length line ≡ maxLine) × ((length l ≡ maxHeld) × ((length r ≡ maxHeld) × ((length out ≡ maxHeld) × ((length text ≡ 65536) × ((held .len ≤ maxLine) × (held .waiting ≤ 65536)))))))
 
 abbrev μ-loop : tie.MeasureT-loop
-μ-loop chunk₀ line₀ text₀ held₀ turns₀ chunk line text held turns = turns
+μ-loop chunk₀ line₀ l₀ r₀ out₀ text₀ held₀ turns₀ chunk line l r out text held turns = turns
+
+none-requires : tie.Need-none-requires Inv-loop μ-loop
+none-requires c κs = search needs
 
 loop-holds : tie.Need-loop-holds Inv-loop μ-loop
 loop-holds c = search needs
@@ -41,6 +44,15 @@ slice-aggregate-take-chunk c = search needs
 
 slice-aggregate-take-chunk-2 : tie.Need-slice-aggregate-take-chunk-2 Inv-loop μ-loop
 slice-aggregate-take-chunk-2 c = search needs
+
+slice-aggregate-take-chunk-3 : tie.Need-slice-aggregate-take-chunk-3 Inv-loop μ-loop
+slice-aggregate-take-chunk-3 c = search needs
+
+slice-aggregate-take-chunk-4 : tie.Need-slice-aggregate-take-chunk-4 Inv-loop μ-loop
+slice-aggregate-take-chunk-4 c = search needs
+
+slice-aggregate-take-chunk-5 : tie.Need-slice-aggregate-take-chunk-5 Inv-loop μ-loop
+slice-aggregate-take-chunk-5 c = search needs
 
 take-chunk-requires : tie.Need-take-chunk-requires Inv-loop μ-loop
 take-chunk-requires c κs = search needs
@@ -81,6 +93,15 @@ part-end-line-end c = search needs
 slice-aggregate-end-line : tie.Need-slice-aggregate-end-line Inv-loop μ-loop
 slice-aggregate-end-line c = search needs
 
+slice-aggregate-end-line-2 : tie.Need-slice-aggregate-end-line-2 Inv-loop μ-loop
+slice-aggregate-end-line-2 c = search needs
+
+slice-aggregate-end-line-3 : tie.Need-slice-aggregate-end-line-3 Inv-loop μ-loop
+slice-aggregate-end-line-3 c = search needs
+
+slice-aggregate-end-line-4 : tie.Need-slice-aggregate-end-line-4 Inv-loop μ-loop
+slice-aggregate-end-line-4 c = search needs
+
 end-line-requires : tie.Need-end-line-requires Inv-loop μ-loop
 end-line-requires c κs = search needs
 
@@ -108,6 +129,7 @@ main-spec =
     (tie.spec
     Inv-loop
     μ-loop
+    none-requires
     loop-holds
     slice-aggregate-read
     read-requires
@@ -118,6 +140,9 @@ main-spec =
     part-take-chunk-end
     slice-aggregate-take-chunk
     slice-aggregate-take-chunk-2
+    slice-aggregate-take-chunk-3
+    slice-aggregate-take-chunk-4
+    slice-aggregate-take-chunk-5
     take-chunk-requires
     sub-write-all
     part-write-all-start
@@ -131,6 +156,9 @@ main-spec =
     part-end-line-start
     part-end-line-end
     slice-aggregate-end-line
+    slice-aggregate-end-line-2
+    slice-aggregate-end-line-3
+    slice-aggregate-end-line-4
     end-line-requires
     sub-write-all-2
     part-write-all-start-2

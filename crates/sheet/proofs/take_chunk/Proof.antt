@@ -6,10 +6,10 @@ use Rattle.sheet.proofs.take_chunk.Statement.{statement}
 use Rattle.sheet.proofs.take_chunk.Tie as tie
 
 abbrev Inv-loop : tie.InvT-loop
-Inv-loop chunk line₀ text₀ held₀ at₀ end₀ line text held at end = (at ≤ end) × ((end ≤ length chunk) × ((length line ≡ length line₀) × ((length text ≡ length text₀) × ((held .len ≤ length line₀) × (held .waiting ≤ length text₀)))))
+Inv-loop chunk line₀ l₀ r₀ out₀ text₀ held₀ at₀ end₀ line l r out text held at end = (at ≤ end) × ((end ≤ length chunk) × ((length line ≡ length line₀) × ((length l ≡ length l₀) × ((length r ≡ length r₀) × ((length out ≡ length out₀) × ((length text ≡ length text₀) × ((held .len ≤ length line₀) × (held .waiting ≤ length text₀))))))))
 
 abbrev μ-loop : tie.MeasureT-loop
-μ-loop chunk line₀ text₀ held₀ at₀ end₀ line text held at end = length chunk - end
+μ-loop chunk line₀ l₀ r₀ out₀ text₀ held₀ at₀ end₀ line l r out text held at end = length chunk - end
 
 newline-from-requires : tie.Need-newline-from-requires Inv-loop μ-loop
 newline-from-requires c κs = search needs
@@ -59,6 +59,15 @@ same-length c = search needs
 same-length-2 : tie.Need-same-length-2 Inv-loop μ-loop
 same-length-2 c = search needs
 
+same-length-3 : tie.Need-same-length-3 Inv-loop μ-loop
+same-length-3 c = search needs
+
+same-length-4 : tie.Need-same-length-4 Inv-loop μ-loop
+same-length-4 c = search needs
+
+same-length-5 : tie.Need-same-length-5 Inv-loop μ-loop
+same-length-5 c = search needs
+
 returns : tie.Need-returns Inv-loop μ-loop
 returns c = search needs
 
@@ -84,4 +93,7 @@ take-chunk-spec =
     hold-run-requires
     same-length
     same-length-2
+    same-length-3
+    same-length-4
+    same-length-5
     returns)
