@@ -105,6 +105,13 @@ module _ (before text : List ℕ) (i end n rest : ℕ) (s : Spelt before text i 
       let q = digits-some rest in
       omega arith
 
+  pub spell-room-two : length (digits n) ≤ end → 10 ≤ rest → 1 < i
+  spell-room-two h k =
+      let l : length (digits rest) + length (s .tail) ≡ length (digits n) = sym (length-append (digits rest) (s .tail)) ∙ ap length (s .spelt) in
+      let p = s .written .place in
+      let q = digits-some (rest / 10) in
+      omega (arith, width-more rest k)
+
   module _ (after : List ℕ) (j : ℕ) (h : end ≤ length before) where
     pub spell-more : 10 ≤ rest → Written text after j i (digit (rest % 10) ∷ []) → length after ≡ length text → Spelt before after j end n (rest / 10)
     spell-more k w l = record {
@@ -116,3 +123,20 @@ module _ (before text : List ℕ) (i end n rest : ℕ) (s : Spelt before text i 
 
     pub spell-last : rest < 10 → Written text after j i (digit rest ∷ []) → Written before after j end (digits n)
     spell-last k w = rw (← s .spelt, digits-one rest k) (write-more before text after j i end (digit rest ∷ []) (s .tail) h (s .written) w)
+
+    -- Two digits at a time.
+    pub spell-two : 100 ≤ rest → Written text after j i (digit (rest % 100 / 10) ∷ digit (rest % 100 % 10) ∷ []) → length after ≡ length text → Spelt before after j end n (rest / 100)
+    spell-two k w l =
+        let tens : rest % 100 / 10 ≡ rest / 10 % 10 = omega arith in
+        let ones : rest % 100 % 10 ≡ rest % 10 = omega arith in
+        let above : rest / 10 / 10 ≡ rest / 100 = omega arith in
+        let two : digits rest ≡ (digits (rest / 100) ++ digit (rest % 100 / 10) ∷ []) ++ digit (rest % 100 % 10) ∷ [] = digits-more rest (omega arith) ∙ rw (digits-more (rest / 10) (omega arith), above, tens, ones) in
+        record {
+          tail = digit (rest % 100 / 10) ∷ digit (rest % 100 % 10) ∷ s .tail;
+          spelt = sym (append-snoc (digits (rest / 100)) (digit (rest % 100 / 10)) (digit (rest % 100 % 10) ∷ s .tail)) ∙ sym (append-snoc (digits (rest / 100) ++ digit (rest % 100 / 10) ∷ []) (digit (rest % 100 % 10)) (s .tail)) ∙ rw (← two) (s .spelt);
+          written = write-more before text after j i end (digit (rest % 100 / 10) ∷ digit (rest % 100 % 10) ∷ []) (s .tail) h (s .written) w;
+          kept = l ∙ s .kept;
+        }
+
+    pub spell-last-two : 10 ≤ rest → rest < 100 → Written text after j i (digit (rest / 10) ∷ digit (rest % 10) ∷ []) → Written before after j end (digits n)
+    spell-last-two k m w = rw (← s .spelt, digits-more rest k, digits-one (rest / 10) (omega arith)) (write-more before text after j i end (digit (rest / 10) ∷ digit (rest % 10) ∷ []) (s .tail) h (s .written) w)
