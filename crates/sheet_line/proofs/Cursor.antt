@@ -169,8 +169,6 @@ pub minus-on : (line : List ℕ) (at : ℕ) → at < length line → getD line a
 unfolding more
 minus-on line at h e = scan-at line at h (λ q. omega arith) nothing ∙ rw (e, add-one)
 
--- Nothing after a sign, or at the start.
-pub sign-alone : (negative : Bool) (line : List ℕ) (at : ℕ) → length line ≤ at → scan (sign negative) (drop at line) ≡ none
+pub minus-alone : (line : List ℕ) (at : ℕ) → length line ≤ at → scan minus (drop at line) ≡ none
 unfolding scan ended
-sign-alone true line at h = rw (drop-of-length-le line {i = at} h)
-sign-alone false line at h = rw (drop-of-length-le line {i = at} h)
+minus-alone line at h = rw (drop-of-length-le line {i = at} h)

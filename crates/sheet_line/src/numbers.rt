@@ -126,11 +126,15 @@ pub fn number_at(line: &[u8], at: usize) -> Number
     if line.len() <= at {
         return no_number();
     }
-    let negative = line[at] == b'-';
-    let from = if negative { at + 1 } else { at };
-    if line.len() <= from {
-        return no_number();
+    let mut b = line[at];
+    let mut next = at + 1;
+    let negative = b == b'-';
+    if negative {
+        if line.len() <= next {
+            return no_number();
+        }
+        b = line[next];
+        next += 1;
     }
-    let b = line[from];
-    from_digit(line, from + 1, negative, b)
+    from_digit(line, next, negative, b)
 }
