@@ -129,7 +129,7 @@ pub fn number_at(line: &[u8], at: usize) -> Number
     let mut b = line[at];
     let mut next = at + 1;
     let negative = b == b'-';
-    if negative {
+    if b == b'-' {
         if line.len() <= next {
             return no_number();
         }

@@ -6,7 +6,7 @@ use mathlib.Core.Bool.{true, false}
 use lib.Dec.{eqb}
 use lib.ListN.{getD, drop}
 use borrow.Author.Needs.{needs}
-use borrow.Author.Tests.{eqb-true, eqb-false}
+use borrow.Author.Tests.{eq-eqb, ne-eqb}
 use Rattle.shape.proofs.Bools.{no-way}
 use Rattle.sheet_line.specs.Text.{minus}
 use Rattle.sheet_line.specs.Numbers.{andThen, first, scan}
@@ -23,8 +23,8 @@ after-sign c =
     let at = st .args .at in
     rw (left-here line at (omega arith))
     (⊎-elim
-    (λ w. rw (w .3, w .4, w .0 .taken, minus-on line at (omega arith) (eqb-true (getD line at 0) minus (w .0 .taken))) (first-byte true line (at + 1) (w .1 .left) (λ t. no-way (sym t))))
-    (λ w. rw (w .1, w .2, w .0 .left) (first-byte false line at (omega arith) (λ t. eqb-false (getD line at 0) minus (w .0 .left))))
+    (λ w. rw (w .3, w .4, eq-eqb (getD line at 0) minus (w .0 .taken), minus-on line at (omega arith) (w .0 .taken)) (first-byte true line (at + 1) (w .1 .left) (λ t. no-way (sym t))))
+    (λ w. rw (w .1, w .2, ne-eqb (getD line at 0) minus (w .0 .left)) (first-byte false line at (omega arith) (λ t. w .0 .left)))
     (c .if2 .came))
 
 no-number-requires : tie.Need-no-number-requires
@@ -50,7 +50,7 @@ returns-2 c =
     rw (
       c .no-number2 .ensures,
       left-here line at (omega arith),
-      minus-on line at (omega arith) (eqb-true (getD line at 0) minus (c .before .before .if2 .taken)),
+      minus-on line at (omega arith) (c .before .before .if2 .taken),
       minus-alone line (at + 1) (c .before .if3 .taken),
     )
 
