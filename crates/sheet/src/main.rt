@@ -2,8 +2,11 @@
 use libc::STDIN_FILENO;
 use libc::STDOUT_FILENO;
 use sheet_line::MAX_LINE;
-ghost use Prim.Native.Nat.{_+_, _≤_, _<_};
-ghost use lib.ListN.{length};
+ghost use mathlib.Core.Path.{_≡_};
+ghost use mathlib.Core.Bool.{false};
+ghost use Prim.Native.Nat.{ℕ, _≤_, _<_};
+ghost use lib.ListN.{length, getD};
+ghost use Rattle.sheet_line.specs.Text.{newline};
 
 // What is held between chunks: the length of the line so far and whether it was too long, its number, and how much text waits to be written.
 struct Held {
@@ -157,7 +160,9 @@ fn take_line(
 }
 
 // Whether there is a newline among the bytes. Each byte is looked at, so that the compiler tests many at a time.
-fn has_newline(bytes: &[u8]) -> bool {
+fn has_newline(bytes: &[u8]) -> bool
+    ensures { λ r. ⌜ (r ≡ false → (k : ℕ) → k < length (now (bytes .entry)) → getD (now (bytes .entry)) k 0 ≡ newline → ⊥) ⌝ }
+{
     let mut found = false;
     let mut i = 0;
     while i < bytes.len() {
@@ -172,7 +177,8 @@ fn has_newline(bytes: &[u8]) -> bool {
 // The block with the first newline from `at` on, or the last bytes, of which there are fewer than a block.
 fn block_from(chunk: &[u8], at: usize) -> usize
     requires { ⌜ at ≤ length (now chunk) ⌝ }
-    ensures { λ r. ⌜ (at ≤ r) × (r ≤ length (now (chunk .entry))) ⌝ }
+    ensures within { λ r. ⌜ (at ≤ r) × (r ≤ length (now (chunk .entry))) ⌝ }
+    ensures before { λ r. ⌜ ((k : ℕ) → at ≤ k → k < r → getD (now (chunk .entry)) k 0 ≡ newline → ⊥) ⌝ }
 {
     let mut i = at;
     while 64 <= chunk.len() - i {
@@ -188,7 +194,9 @@ fn block_from(chunk: &[u8], at: usize) -> usize
 // The place of the first newline from `at` on, or the chunk's end.
 fn newline_from(chunk: &[u8], at: usize) -> usize
     requires { ⌜ at ≤ length (now chunk) ⌝ }
-    ensures { λ r. ⌜ (at ≤ r) × (r ≤ length (now (chunk .entry))) ⌝ }
+    ensures within { λ r. ⌜ (at ≤ r) × (r ≤ length (now (chunk .entry))) ⌝ }
+    ensures before { λ r. ⌜ ((k : ℕ) → at ≤ k → k < r → getD (now (chunk .entry)) k 0 ≡ newline → ⊥) ⌝ }
+    ensures found { λ r. ⌜ (r < length (now (chunk .entry)) → getD (now (chunk .entry)) r 0 ≡ newline) ⌝ }
 {
     let mut i = block_from(chunk, at);
     while i < chunk.len() {
