@@ -3,3 +3,4 @@ pub mod Parts
 pub mod Answers
 pub mod Room
 pub mod Paper
+pub mod Pairs

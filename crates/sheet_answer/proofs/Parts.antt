@@ -24,6 +24,11 @@ unfolding negative decimal
 decimal-negative (pos n) h = no-way h
 decimal-negative (negsuc m) h = refl
 
+pub decimal-longer : (z : ℤ) → length (digits (natAbs z)) ≤ length (decimal z)
+unfolding decimal
+decimal-longer (pos n) = omega arith
+decimal-longer (negsuc m) = omega arith
+
 drop-shorter : {A : Type 0} (f : A → List ℕ) (ys : List A) (k : ℕ) → length (following (map f (drop k ys))) ≤ length (following (map f ys))
 unfolding following
 drop-shorter f ys zero = omega arith

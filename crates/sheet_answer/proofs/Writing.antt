@@ -1,12 +1,15 @@
 -- Text written from its end to its start.
-use Prim.Native.Nat.{ℕ, zero, suc, _+_, _/_, _%_, _≤_, _<_, _^_}
+use Prim.Native.Nat.{ℕ, zero, suc, _+_, _*_, _/_, _%_, _≤_, _<_, _^_}
 use native.Mathlib.Omega.{arith}
-use native.Mathlib.Nat.{pow-succ'}
-use native.Mathlib.Decide.{decLt}
+use native.Mathlib.Nat.{pow-succ', one-le-pow, div-one, div-div-eq-div-mul}
+use native.Mathlib.Decide.{decLe, decLt}
 use mathlib.Core.Path.{_≡_, refl, sym, ap, _∙_}
 use mathlib.Core.List.{List, [], _∷_, _++_, append-assoc, append-nil}
+use mathlib.Core.Bool.{cond}
+use lib.Dec.{leb}
 use lib.ListN.{length, take, drop, set, length-append, take-append-drop}
 use lib.Seq.{set-split, take-append-le, take-take, drop-at, length-take-le, append-snoc}
+use borrow.Author.Tests.{le-leb, lt-leb}
 use Rattle.sheet_line.specs.Text.{digit, digits}
 use Rattle.sheet_answer.specs.Steps.{Written}
 use Rattle.sheet_line.proofs.Digits.{digits-one, digits-more}
@@ -52,6 +55,38 @@ pub width-most : (k n : ℕ) → n < 10 ^ suc k → length (digits n) ≤ suc k
 width-most zero n h = omega (arith, width-one n h)
 width-most (suc k) n h = width-case k n h (width-most k (n / 10)) (decLt n 10)
 
+-- How many of k powers of ten n reaches; the first of them is p.
+abbrev pub reached : ℕ → ℕ → ℕ → ℕ
+reached zero p n = 0
+reached (suc k) p n = cond (leb p n) 1 0 + reached k (p * 10) n
+
+reach-case : (p n : ℕ) → Dec (p * 10 ≤ n) → leb (p * 10) n ≡ leb p (n / 10)
+reach-case p n (yes h) = rw (le-leb (p * 10) n h, le-leb p (n / 10) (omega arith))
+reach-case p n (no h) = rw (lt-leb (p * 10) n (omega arith), lt-leb p (n / 10) (omega arith))
+
+reach-tenth : (k p n : ℕ) → reached k (p * 10) n ≡ reached k p (n / 10)
+reach-tenth zero p n = refl
+reach-tenth (suc k) p n = rw (reach-case p n (decLe (p * 10) n), reach-tenth k (p * 10) n)
+
+reached-case : (k n : ℕ) → length (digits (n / 10)) ≡ 1 + reached k 10 (n / 10) → Dec (n < 10) → length (digits n) ≡ 1 + reached (suc k) 10 n
+reached-case k n shorter (yes q) = rw (lt-leb 10 n q, reach-tenth k 10 n) (omega (arith, width-one n q, width-one (n / 10) (omega arith)))
+reached-case k n shorter (no q) = rw (le-leb 10 n (omega arith), reach-tenth k 10 n) (omega (arith, width-more n (omega arith)))
+
+-- A number has one digit more than there are powers of ten that it reaches.
+pub width-reached : (k n : ℕ) → n < 10 ^ suc k → length (digits n) ≡ 1 + reached k 10 n
+width-reached zero n h = omega (arith, width-one n h)
+width-reached (suc k) n h = reached-case k n (width-reached k (n / 10) (omega (arith, pow-succ' 10 (suc k)))) (decLt n 10)
+
+-- The digits before the last k.
+pub width-above : (k n : ℕ) → 10 ^ k ≤ n → length (digits n) ≡ k + length (digits (n / 10 ^ k))
+width-above zero n h = rw (div-one n) (omega arith)
+width-above (suc k) n h =
+    let p = pow-succ' 10 k in
+    let q = one-le-pow k 10 (omega arith) in
+    let rest = width-above k (n / 10) (omega arith) in
+    let same : n / 10 / 10 ^ k ≡ n / 10 ^ suc k = div-div-eq-div-mul n 10 (10 ^ k) ∙ rw p in
+    omega (arith, width-more n (omega arith), rw same at rest)
+
 -- The digits of n, of which those of `rest` are still to be written.
 pub record Spelt (before text : List ℕ) (i end n rest : ℕ) : Type 0 where
   pub tail : List ℕ
@@ -70,6 +105,13 @@ module _ (before text : List ℕ) (i end n rest : ℕ) (s : Spelt before text i 
       let q = digits-some rest in
       omega arith
 
+  pub spell-room-two : length (digits n) ≤ end → 10 ≤ rest → 1 < i
+  spell-room-two h k =
+      let l : length (digits rest) + length (s .tail) ≡ length (digits n) = sym (length-append (digits rest) (s .tail)) ∙ ap length (s .spelt) in
+      let p = s .written .place in
+      let q = digits-some (rest / 10) in
+      omega (arith, width-more rest k)
+
   module _ (after : List ℕ) (j : ℕ) (h : end ≤ length before) where
     pub spell-more : 10 ≤ rest → Written text after j i (digit (rest % 10) ∷ []) → length after ≡ length text → Spelt before after j end n (rest / 10)
     spell-more k w l = record {
@@ -81,3 +123,20 @@ module _ (before text : List ℕ) (i end n rest : ℕ) (s : Spelt before text i 
 
     pub spell-last : rest < 10 → Written text after j i (digit rest ∷ []) → Written before after j end (digits n)
     spell-last k w = rw (← s .spelt, digits-one rest k) (write-more before text after j i end (digit rest ∷ []) (s .tail) h (s .written) w)
+
+    -- Two digits at a time.
+    pub spell-two : 100 ≤ rest → Written text after j i (digit (rest % 100 / 10) ∷ digit (rest % 100 % 10) ∷ []) → length after ≡ length text → Spelt before after j end n (rest / 100)
+    spell-two k w l =
+        let tens : rest % 100 / 10 ≡ rest / 10 % 10 = omega arith in
+        let ones : rest % 100 % 10 ≡ rest % 10 = omega arith in
+        let above : rest / 10 / 10 ≡ rest / 100 = omega arith in
+        let two : digits rest ≡ (digits (rest / 100) ++ digit (rest % 100 / 10) ∷ []) ++ digit (rest % 100 % 10) ∷ [] = digits-more rest (omega arith) ∙ rw (digits-more (rest / 10) (omega arith), above, tens, ones) in
+        record {
+          tail = digit (rest % 100 / 10) ∷ digit (rest % 100 % 10) ∷ s .tail;
+          spelt = sym (append-snoc (digits (rest / 100)) (digit (rest % 100 / 10)) (digit (rest % 100 % 10) ∷ s .tail)) ∙ sym (append-snoc (digits (rest / 100) ++ digit (rest % 100 / 10) ∷ []) (digit (rest % 100 % 10)) (s .tail)) ∙ rw (← two) (s .spelt);
+          written = write-more before text after j i end (digit (rest % 100 / 10) ∷ digit (rest % 100 % 10) ∷ []) (s .tail) h (s .written) w;
+          kept = l ∙ s .kept;
+        }
+
+    pub spell-last-two : 10 ≤ rest → rest < 100 → Written text after j i (digit (rest / 10) ∷ digit (rest % 10) ∷ []) → Written before after j end (digits n)
+    spell-last-two k m w = rw (← s .spelt, digits-more rest k, digits-one (rest / 10) (omega arith)) (write-more before text after j i end (digit (rest / 10) ∷ digit (rest % 10) ∷ []) (s .tail) h (s .written) w)

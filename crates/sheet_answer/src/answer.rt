@@ -5,6 +5,7 @@ ghost use lib.ListN.{length};
 ghost use Rattle.shape.specs.Shape.{maxRank, maxCount};
 ghost use Rattle.sheet_line.specs.Call.{front};
 ghost use Rattle.sheet_answer.specs.Answer.{okLine, noLine, replyLine, fitted};
+use crate::print::digit_pairs;
 use crate::print::elements_width;
 use crate::print::lengths_width;
 use crate::print::put_byte;
@@ -41,7 +42,8 @@ fn print_array(line: usize, lens: &[usize], out: &[i32], text: &mut [u8]) -> usi
         return 0;
     }
     let end = put_byte(text, need, b'\n');
-    let elements = put_elements(text, end, out);
+    let pairs = digit_pairs();
+    let elements = put_elements(text, end, out, &pairs);
     let lengths = put_lengths(text, elements, lens);
     let head = put_part(text, lengths, rank);
     put_head(text, head, line, b'o', b'k');

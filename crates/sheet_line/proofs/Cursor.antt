@@ -1,6 +1,7 @@
 -- Reading at a place of a line.
-use Prim.Native.Nat.{ℕ, suc, _+_, _*_, _≤_, _<_, _^_}
+use Prim.Native.Nat.{ℕ, suc, _+_, _*_, _%_, _≤_, _<_, _^_}
 use native.Mathlib.Omega.{arith}
+use native.Mathlib.Decide.{decLe, decLt}
 use native.Mathlib.Numerals.{add-one}
 use mathlib.Core.Path.{_≡_, refl, _∙_}
 use mathlib.Core.List.{List, [], _∷_}
@@ -16,7 +17,26 @@ use Rattle.sheet_line.specs.Numbers.{andThen, Begun, nothing, minus, siz
 use Rattle.sheet_line.specs.Call.{number}
 use Rattle.sheet_line.specs.Steps.{left, got, numberOf}
 use Rattle.sheet_line.proofs.Sizes.{size-over}
-use Rattle.sheet_line.proofs.Scan.{scan-on, scan-blank, sign}
+use Rattle.sheet_line.proofs.Options.{none-some}
+use Rattle.sheet_line.proofs.Scan.{digit-of, scan-on, scan-blank, sign}
+
+-- A byte less `0`, where the bytes below `0` wrap around.
+module _ (b r : ℕ) (h : r < 256) (e : (r + 48) % 2 ^ 8 ≡ b) where
+  not-below : 9 < r → Dec (b < 48) → digitOf b ≡ none
+  unfolding digitOf
+  not-below k (yes q) = rw (lt-leb 48 b q)
+  not-below k (no q) = rw (le-leb 48 b (omega arith), lt-leb b 57 (omega arith))
+
+  by-value : Dec (r ≤ 9) → digitOf b ≡ cond (leb r 9) (some r) none
+  by-value (yes q) = let d : b ≡ 48 + r = omega arith in rw (le-leb r 9 q, d) (digit-of r (omega arith))
+  by-value (no q) = rw (lt-leb r 9 (omega arith)) (not-below (omega arith) (decLt b 48))
+
+  pub wrapped-digit : digitOf b ≡ cond (leb r 9) (some r) none
+  wrapped-digit = by-value (decLe r 9)
+
+pub digit-not-blank : (b d : ℕ) → digitOf b ≡ some d → b ≡ Text.blank → ⊥
+unfolding digitOf
+digit-not-blank b d e q = none-some (rw q at e)
 
 -- A test of a digit's value, and the digit.
 module _ (b r : ℕ) (e : digitOf b ≡ cond (leb r 9) (some r) none) where

@@ -55,17 +55,11 @@ fn whole(negative: bool, size: usize, next: usize) -> Number
     }
 }
 
-// What a byte says as a digit, and 10 for a byte that is none.
+// What a byte says as a digit, and more than 9 for a byte that is none: one below `0` wraps around.
 fn digit_value(b: u8) -> usize
     ensures { λ r. ⌜ digitOf b ≡ cond (leb r 9) (some r) none ⌝ }
 {
-    if b < b'0' {
-        return 10;
-    }
-    if b'9' < b {
-        return 10;
-    }
-    (b - b'0') as usize
+    std::num::wrapping_sub_u8(b, b'0') as usize
 }
 
 // What follows a 0: the number ends here.
@@ -91,12 +85,12 @@ fn after_digit(line: &[u8], at: usize, negative: bool, first: usize) -> Number
     let mut i = at;
     while i < line.len() {
         let b = line[i];
-        if b == b' ' {
-            return whole(negative, n, i + 1);
-        }
         let d = digit_value(b);
         if 9 < d {
-            return no_number();
+            if b != b' ' {
+                return no_number();
+            }
+            break;
         }
         if MAX_SIZE < n {
             return no_number();
@@ -132,14 +126,15 @@ pub fn number_at(line: &[u8], at: usize) -> Number
     if line.len() <= at {
         return no_number();
     }
-    let b = line[at];
-    let next = at + 1;
-    if b != b'-' {
-        return from_digit(line, next, false, b);
+    let mut b = line[at];
+    let mut next = at + 1;
+    let negative = b == b'-';
+    if b == b'-' {
+        if line.len() <= next {
+            return no_number();
+        }
+        b = line[next];
+        next += 1;
     }
-    if line.len() <= next {
-        return no_number();
-    }
-    let d = line[next];
-    from_digit(line, next + 1, true, d)
+    from_digit(line, next, negative, b)
 }

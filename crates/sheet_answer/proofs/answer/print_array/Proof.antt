@@ -46,8 +46,13 @@ returns c =
 put-byte-requires : tie.Need-put-byte-requires
 put-byte-requires c κs = search needs
 
+digit-pairs-requires : tie.Need-digit-pairs-requires
+digit-pairs-requires c κs = search needs
+
 put-elements-requires : tie.Need-put-elements-requires
-put-elements-requires c κs = search needs
+put-elements-requires c κs =
+    let e = c .before .before .before .before .before .put-byte in
+    (omega (arith, e .ensures .place, c .before .before .before .before .before .before .before .before .elements-width .ensures .0), (omega (arith, e .ensures .place, e .kept .0, c .before .before .before .before .before .before .before .if1 .left), c .before .before .digit-pairs .ensures))
 
 put-lengths-requires : tie.Need-put-lengths-requires
 put-lengths-requires c κs = search needs
@@ -63,16 +68,21 @@ same-length c = search needs
 
 returns-2 : tie.Need-returns-2
 returns-2 c =
-    let st = c .before .before .before .before .before .before .before .before .before .before .before .before .before .before .before .before .before .before .before .before .before .before .before .before .before .before .before in
+    let test = c .before .before .before .before .before .before .before .before .before .before .before .before .before .before .before .before .before .before .before .before .before .before in
+    let st = test .before .before .before .before .before .before .before in
     let t = st .args .text .now in
     let line = st .args .line in
     let ns = st .args .lens .now in
     let zs = st .args .out .now in
-    let need = c .before .before .before .before .before .before .before .before .before .before .before .before .before .before .before .before .before .before .before .before .before .before .before .before .width .result + c .before .before .before .before .before .before .before .before .before .before .before .before .before .before .before .before .before .before .before .before .before .before .before .width2 .result + c .before .before .before .before .before .before .before .before .before .before .before .before .before .before .before .before .before .before .before .before .before .before .lengths-width .result + c .before .before .before .before .before .before .before .before .before .before .before .before .before .before .before .before .before .before .before .before .before .elements-width .result + 5 in
+    let elements = test .before .elements-width in
+    let lengths = test .before .before .lengths-width in
+    let rank = test .before .before .before .width2 in
+    let number = test .before .before .before .before .width in
+    let need = number .result + rank .result + lengths .result + elements .result + 5 in
     let bytes = okLine line (record { lengths = ns; elements = zs }) in
-    let long : need ≡ length bytes = omega (arith, ok-length line ns zs, c .before .before .before .before .before .before .before .before .before .before .before .before .before .before .before .before .before .before .before .before .before .before .before .before .width .ensures .0, c .before .before .before .before .before .before .before .before .before .before .before .before .before .before .before .before .before .before .before .before .before .before .before .width2 .ensures .0, c .before .before .before .before .before .before .before .before .before .before .before .before .before .before .before .before .before .before .before .before .before .before .lengths-width .ensures .0, c .before .before .before .before .before .before .before .before .before .before .before .before .before .before .before .before .before .before .before .before .before .elements-width .ensures .0) in
-    let room : need ≤ length t = c .before .before .before .before .before .before .before .before .before .before .before .before .before .before .before .before .before .before .before .before .if1 .left in
-    let e = c .before .before .before .before .before .before .before .before .before .before .before .before .before .before .before .before .before .before .put-byte in
+    let long : need ≡ length bytes = omega (arith, ok-length line ns zs, number .ensures .0, rank .ensures .0, lengths .ensures .0, elements .ensures .0) in
+    let room : need ≤ length t = test .if1 .left in
+    let e = c .before .before .before .before .before .before .before .before .before .before .before .before .before .before .before .before .before .before .before .before .put-byte in
     let pe = c .before .before .before .before .before .before .before .before .before .before .before .before .before .before .put-elements in
     let pl = c .before .before .before .before .before .before .before .before .before .before .put-lengths in
     let p = c .before .before .before .before .before .before .put-part in
@@ -97,6 +107,7 @@ print-array-spec =
     add-need-4
     returns
     put-byte-requires
+    digit-pairs-requires
     put-elements-requires
     put-lengths-requires
     put-part-requires

@@ -1,51 +1,54 @@
+use native.Mathlib.Omega.{arith}
 use mathlib.Core.Path.{_≡_, sym, ap, _∙_}
 use mathlib.Core.List.{[], _∷_}
-use native.Mathlib.Omega.{arith}
 use lib.ListN.{length}
 use lib.IntN.{natAbs}
 use mir.Facts.{toZ-ofZ}
 use Rattle.meaning.specs.Terms.{negative}
 use Rattle.sheet_line.specs.Text.{blank, minus, digits, decimal}
 use Rattle.sheet_answer.proofs.Writing.{write-more}
-use Rattle.sheet_answer.proofs.Parts.{decimal-natural, decimal-negative}
+use Rattle.sheet_answer.proofs.Parts.{decimal-natural, decimal-negative, decimal-longer}
 use borrow.Author.Needs.{needs}
 use Rattle.sheet_answer.proofs.print.put_element.Statement.{statement}
 use Rattle.sheet_answer.proofs.print.put_element.Tie as tie
 
-size-is : (c : tie.After-negative) → c .before .size .result ≡ natAbs (c .before .before .before .args .z)
-size-is c = rw (toZ-ofZ (c .before .before .before .fits .z)) at (c .before .size .ensures)
+size-is : (c : tie.After-size) → c .size .result ≡ natAbs (c .before .before .args .z)
+size-is c = rw (toZ-ofZ (c .before .before .fits .z)) at (c .size .ensures)
 
-sign-is : (c : tie.After-negative) → c .negative .result ≡ negative (c .before .before .before .args .z)
-sign-is c = rw (toZ-ofZ (c .before .before .before .fits .z)) at (c .negative .ensures)
+sign-is : (c : tie.After-negative) → c .negative .result ≡ negative (c .before .before .before .before .before .before .before .args .z)
+sign-is c = rw (toZ-ofZ (c .before .before .before .before .before .before .before .fits .z)) at (c .negative .ensures)
 
 -- The element's text, of each sign.
-below : (c : tie.Then1) → decimal (c .before .before .before .before .args .z) ≡ minus ∷ digits (c .before .before .size .result)
-below c = decimal-negative (c .before .before .before .before .args .z) (sym (sign-is (c .before)) ∙ c .if1 .taken) ∙ rw (size-is (c .before))
+below : (c : tie.Then1) → decimal (c .before .before .before .before .before .before .before .before .args .z) ≡ minus ∷ digits (c .before .before .before .before .before .before .size .result)
+below c = decimal-negative (c .before .before .before .before .before .before .before .before .args .z) (sym (sign-is (c .before)) ∙ c .if1 .taken) ∙ rw (size-is (c .before .before .before .before .before .before))
 
-above : (c : tie.Else1) → decimal (c .before .before .before .before .args .z) ≡ digits (c .before .before .size .result)
-above c = decimal-natural (c .before .before .before .before .args .z) (sym (sign-is (c .before)) ∙ c .if1 .left) ∙ rw (size-is (c .before))
+above : (c : tie.Else1) → decimal (c .before .before .before .before .before .before .before .before .args .z) ≡ digits (c .before .before .before .before .before .before .size .result)
+above c = decimal-natural (c .before .before .before .before .before .before .before .before .args .z) (sym (sign-is (c .before)) ∙ c .if1 .left) ∙ rw (size-is (c .before .before .before .before .before .before))
 
 size-requires : tie.Need-size-requires
 size-requires c κs = search needs
 
+put-pairs-requires : tie.Need-put-pairs-requires
+put-pairs-requires c κs =
+    let st = c .before .before .before in
+    let e = ap (λ n. length (digits n)) (size-is (c .before)) in
+    (omega (arith, decimal-longer (st .args .z)), st .pre .1)
+
 negative-requires : tie.Need-negative-requires
 negative-requires c κs = search needs
 
-put-digits-requires : tie.Need-put-digits-requires
-put-digits-requires c κs = let e = ap length (below (c .before)) in omega arith
-
 put-byte-requires : tie.Need-put-byte-requires
 put-byte-requires c κs =
-    let e = ap length (below (c .before .before .before .before .before)) in
-    let p = c .before .before .before .put-digits .ensures .place in
-    omega (arith, c .before .before .before .put-digits .kept .0)
+    let e = ap length (below (c .before)) in
+    let d = c .before .before .before .before .before .put-pairs in
+    omega (arith, d .ensures .place, d .kept .0, c .before .before .before .before .before .before .before .before .before .pre)
 
 put-byte-requires-2 : tie.Need-put-byte-requires-2
 put-byte-requires-2 c κs =
-    let e = ap length (below (c .before .before .before .before .before .before .before .before .before)) in
-    let p = c .before .before .before .before .before .before .before .put-digits .ensures .place in
-    let q = c .before .before .before .put-byte .ensures .place in
-    omega (arith, c .before .before .before .before .before .before .before .put-digits .kept .0, c .before .before .before .put-byte .kept .0)
+    let e = ap length (below (c .before .before .before .before .before)) in
+    let d = c .before .before .before .before .before .before .before .before .before .put-pairs in
+    let m = c .before .before .before .put-byte in
+    omega (arith, d .ensures .place, d .kept .0, m .ensures .place, m .kept .0, c .before .before .before .before .before .before .before .before .before .before .before .before .before .pre)
 
 same-length : tie.Need-same-length
 same-length c = search needs
@@ -54,32 +57,40 @@ returns : tie.Need-returns
 returns c =
     let st = c .before .before .before .before .before .before .before .before .before .before .before .before .before .before .before .before in
     let t = st .args .text .now in
-    let d = c .before .before .before .before .before .before .before .before .before .before .put-digits in
+    let size = c .before .before .before .before .before .before .before .before .before .before .before .before .before .before .size .result in
+    let d = c .before .before .before .before .before .before .before .before .before .before .before .before .put-pairs in
     let m = c .before .before .before .before .before .before .put-byte in
     let p = c .before .before .put-byte2 in
-    let signed = write-more t (d .last .0) (m .last .0) (m .result) (d .result) (st .args .end) (minus ∷ []) (digits (c .before .before .before .before .before .before .before .before .before .before .before .before .before .before .size .result)) (st .pre .1) (d .ensures) (m .ensures) in
-    rw (below (c .before .before .before .before .before .before .before .before .before .before .before .before)) (write-more t (m .last .0) (p .last .0) (p .result) (m .result) (st .args .end) (blank ∷ []) (minus ∷ digits (c .before .before .before .before .before .before .before .before .before .before .before .before .before .before .size .result)) (st .pre .1) signed (p .ensures))
+    let signed = write-more t (d .last .0) (m .last .0) (m .result) (d .result) (st .args .end) (minus ∷ []) (digits size) (st .pre .1 .0) (d .ensures) (m .ensures) in
+    rw (below (c .before .before .before .before .before .before .before .before)) (write-more t (m .last .0) (p .last .0) (p .result) (m .result) (st .args .end) (blank ∷ []) (minus ∷ digits size) (st .pre .1 .0) signed (p .ensures))
 
-put-part-requires : tie.Need-put-part-requires
-put-part-requires c κs = let e = ap length (above (c .before)) in omega arith
+put-byte-requires-3 : tie.Need-put-byte-requires-3
+put-byte-requires-3 c κs =
+    let e = ap length (above (c .before)) in
+    let d = c .before .before .before .before .before .put-pairs in
+    omega (arith, d .ensures .place, d .kept .0, c .before .before .before .before .before .before .before .before .before .pre)
 
 same-length-2 : tie.Need-same-length-2
 same-length-2 c = search needs
 
 returns-2 : tie.Need-returns-2
-returns-2 c = rw (above (c .before .before .before .before)) (c .before .before .put-part .ensures)
+returns-2 c =
+    let st = c .before .before .before .before .before .before .before .before .before .before .before .before in
+    let d = c .before .before .before .before .before .before .before .before .put-pairs in
+    let p = c .before .before .put-byte3 in
+    rw (above (c .before .before .before .before)) (write-more (st .args .text .now) (d .last .0) (p .last .0) (p .result) (d .result) (st .args .end) (blank ∷ []) (digits (c .before .before .before .before .before .before .before .before .before .before .size .result)) (st .pre .1 .0) (d .ensures) (p .ensures))
 
 pub put-element-spec : {M : Type 1} → statement M
 put-element-spec =
     tie.close
     (tie.spec
     size-requires
+    put-pairs-requires
     negative-requires
-    put-digits-requires
     put-byte-requires
     put-byte-requires-2
     same-length
     returns
-    put-part-requires
+    put-byte-requires-3
     same-length-2
     returns-2)

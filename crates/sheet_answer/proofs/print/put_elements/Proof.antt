@@ -14,10 +14,10 @@ use Rattle.sheet_answer.proofs.print.put_elements.Statement.{statement}
 use Rattle.sheet_answer.proofs.print.put_elements.Tie as tie
 
 abbrev Inv-loop : tie.InvT-loop
-Inv-loop text₀ end out at₀ i₀ text at i = (i ≤ length out) × (Written text₀ text at end (partsFrom decimal out i) × (length text ≡ length text₀))
+Inv-loop text₀ end out pairs at₀ i₀ text at i = (i ≤ length out) × (Written text₀ text at end (partsFrom decimal out i) × (length text ≡ length text₀))
 
 abbrev μ-loop : tie.MeasureT-loop
-μ-loop text₀ end out at₀ i₀ text at i = i
+μ-loop text₀ end out pairs at₀ i₀ text at i = i
 
 loop-holds : tie.Need-loop-holds Inv-loop μ-loop
 loop-holds c =
@@ -41,7 +41,7 @@ put-element-requires c κs =
     let z : toZ w32 (ofZ w32 (getD xs (lp .i - 1) (pos 0))) ≡ getD xs (lp .i - 1) (pos 0) = toZ-ofZ (sfits-of (c .before .z .given)) in
     let p = lp .inv .1 .0 .place in
     let room = part-room decimal xs (pos 0) (lp .i) (lp .i - 1) (omega arith) (omega arith) (lp .at) (st .args .end) (st .pre .0) p in
-    rw z (room, omega (arith, lp .inv .1 .1))
+    rw z (room, (omega (arith, lp .inv .1 .1), st .pre .1 .1))
 
 loop-less : tie.Need-loop-less Inv-loop μ-loop
 loop-less c = search needs
@@ -55,7 +55,7 @@ loop-again c =
     let z : toZ w32 (ofZ w32 (getD xs (lp .i - 1) (pos 0))) ≡ getD xs (lp .i - 1) (pos 0) = toZ-ofZ (sfits-of (c .before .before .before .before .z .given)) in (
       omega arith,
       (
-        part-put decimal xs (pos 0) (lp .i) (lp .i - 1) (omega arith) (omega arith) (st .args .text .now) (lp .text) (put .last .0) (put .result) (lp .at) (st .args .end) (st .pre .1) (lp .inv .1 .0) (rw z at (put .ensures)),
+        part-put decimal xs (pos 0) (lp .i) (lp .i - 1) (omega arith) (omega arith) (st .args .text .now) (lp .text) (put .last .0) (put .result) (lp .at) (st .args .end) (st .pre .1 .0) (lp .inv .1 .0) (rw z at (put .ensures)),
         put .kept .0 ∙ lp .inv .1 .1,
       ),
     )

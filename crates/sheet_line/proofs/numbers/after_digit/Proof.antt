@@ -1,10 +1,11 @@
 use Prim.Native.Nat.{_≤_, _<_, _-_}
 use native.Mathlib.Omega.{arith}
 use mathlib.Core.Path.{_≡_, _∙_}
+use mathlib.Core.Logic.{⊎-elim}
 use lib.ListN.{length, getD, drop}
 use borrow.Author.Needs.{needs}
 use Rattle.sheet_line.specs.Numbers.{size, scan}
-use Rattle.sheet_line.proofs.Cursor.{is-digit, no-digit, line-ends, blank-ends, number-ends, stops, goes-on, over}
+use Rattle.sheet_line.proofs.Cursor.{is-digit, no-digit, digit-not-blank, line-ends, blank-ends, number-ends, stops, goes-on, over}
 use Rattle.sheet_line.proofs.numbers.after_digit.Statement.{statement}
 use Rattle.sheet_line.proofs.numbers.after_digit.Tie as tie
 
@@ -20,39 +21,26 @@ loop-holds c = search needs
 shared-slice-read-b : tie.Need-shared-slice-read-b Inv-loop μ-loop
 shared-slice-read-b c = search needs
 
-add-whole : tie.Need-add-whole Inv-loop μ-loop
-add-whole c = search needs
-
-whole-requires : tie.Need-whole-requires Inv-loop μ-loop
-whole-requires c κs = search needs
-
-returns : tie.Need-returns Inv-loop μ-loop
-returns c =
-    let st = c .before .before .before .before .before .before in
-    let lp = c .before .before .before .before .loop in
-    rw (lp .inv .1 .1, c .whole .ensures)
-    (number-ends (st .args .line .now) (lp .i) (size (st .args .negative) (lp .n)) (blank-ends (st .args .line .now) (lp .i) (omega arith) (c .before .if1 .taken)))
-
 digit-value-requires : tie.Need-digit-value-requires Inv-loop μ-loop
 digit-value-requires c κs = search needs
 
 no-number-requires : tie.Need-no-number-requires Inv-loop μ-loop
 no-number-requires c κs = search needs
 
-returns-2 : tie.Need-returns-2 Inv-loop μ-loop
-returns-2 c =
+returns : tie.Need-returns Inv-loop μ-loop
+returns c =
     let st = c .before .before .before .before .before .before .before .before in
     let lp = c .before .before .before .before .before .before .loop in
-    let e = c .before .before .digit-value in
-    rw (lp .inv .1 .1, c .no-number .ensures, stops (st .args .line .now) (lp .i) (omega arith) (c .before .before .before .if1 .left) (st .args .negative) (lp .n) (no-digit (getD (st .args .line .now) (lp .i) 0) (e .result) (e .ensures) (c .before .if2 .taken)))
+    let e = c .before .before .before .digit-value in
+    rw (lp .inv .1 .1, c .no-number .ensures, stops (st .args .line .now) (lp .i) (omega arith) (c .before .if2 .taken) (st .args .negative) (lp .n) (no-digit (getD (st .args .line .now) (lp .i) 0) (e .result) (e .ensures) (c .before .before .if1 .taken)))
 
 no-number-requires-2 : tie.Need-no-number-requires-2 Inv-loop μ-loop
 no-number-requires-2 c κs = search needs
 
-returns-3 : tie.Need-returns-3 Inv-loop μ-loop
-returns-3 c =
-    let st = c .before .before .before .before .before .before .before .before .before in
-    let lp = c .before .before .before .before .before .before .before .loop in
+returns-2 : tie.Need-returns-2 Inv-loop μ-loop
+returns-2 c =
+    let st = c .before .before .before .before .before .before .before .before in
+    let lp = c .before .before .before .before .before .before .loop in
     rw (lp .inv .1 .1, c .no-number2 .ensures, over (st .args .negative) (lp .n) (drop (lp .i) (st .args .line .now)) (c .before .if3 .taken))
 
 mul-n : tie.Need-mul-n Inv-loop μ-loop
@@ -69,30 +57,31 @@ loop-less c = search needs
 
 loop-again : tie.Need-loop-again Inv-loop μ-loop
 loop-again c =
-    let st = c .before .before .before .before .before .before .before .before in
-    let lp = c .before .before .before .before .before .before .loop in
-    let e = c .before .before .digit-value in (
+    let st = c .before .before .before .before .before .before .before in
+    let lp = c .before .before .before .before .before .loop in
+    let e = c .before .before .digit-value in
+    let d = is-digit (getD (st .args .line .now) (lp .i) 0) (e .result) (e .ensures) (c .before .if1 .left) in (
       omega arith,
       (
         omega arith,
         lp .inv .1 .1
-            ∙ goes-on (st .args .line .now) (lp .i) (omega arith) (c .before .before .before .if1 .left) (st .args .negative) (lp .n) (e .result) (omega arith)
-            (is-digit (getD (st .args .line .now) (lp .i) 0) (e .result) (e .ensures) (c .before .if2 .left)),
+            ∙ goes-on (st .args .line .now) (lp .i) (omega arith) (digit-not-blank (getD (st .args .line .now) (lp .i) 0) (e .result) d) (st .args .negative) (lp .n) (e .result) (omega arith) d,
       ),
     )
 
-add-whole-2 : tie.Need-add-whole-2 Inv-loop μ-loop
-add-whole-2 c = search needs
+add-whole : tie.Need-add-whole Inv-loop μ-loop
+add-whole c = search needs
 
-whole-requires-2 : tie.Need-whole-requires-2 Inv-loop μ-loop
-whole-requires-2 c κs = search needs
+whole-requires : tie.Need-whole-requires Inv-loop μ-loop
+whole-requires c κs = search needs
 
-returns-4 : tie.Need-returns-4 Inv-loop μ-loop
-returns-4 c =
+returns-3 : tie.Need-returns-3 Inv-loop μ-loop
+returns-3 c =
     let st = c .before .before .before .before in
     let lp = c .before .before .loop in
-    rw (lp .inv .1 .1, c .whole2 .ensures)
-    (number-ends (st .args .line .now) (lp .i) (size (st .args .negative) (lp .n)) (line-ends (st .args .line .now) (lp .i) (omega arith)))
+    rw (lp .inv .1 .1, c .whole .ensures)
+    (number-ends (st .args .line .now) (lp .i) (size (st .args .negative) (lp .n))
+    (⊎-elim (λ w. line-ends (st .args .line .now) (lp .i) (omega arith)) (λ w. blank-ends (st .args .line .now) (lp .i) (w .0 .taken) (w .4 .left)) (c .before .loop-test .came)))
 
 pub after-digit-spec : {M : Type 1} → statement M
 after-digit-spec =
@@ -102,19 +91,16 @@ after-digit-spec =
     μ-loop
     loop-holds
     shared-slice-read-b
-    add-whole
-    whole-requires
-    returns
     digit-value-requires
     no-number-requires
-    returns-2
+    returns
     no-number-requires-2
-    returns-3
+    returns-2
     mul-n
     add-n
     add-i
     loop-less
     loop-again
-    add-whole-2
-    whole-requires-2
-    returns-4)
+    add-whole
+    whole-requires
+    returns-3)

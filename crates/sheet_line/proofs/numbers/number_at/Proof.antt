@@ -1,12 +1,31 @@
 use Prim.Native.Nat.{_+_}
 use native.Mathlib.Omega.{arith}
-use mathlib.Core.Path.{sym}
+use mathlib.Core.Path.{_≡_, sym}
+use mathlib.Core.Logic.{⊎-elim}
 use mathlib.Core.Bool.{true, false}
-use Rattle.shape.proofs.Bools.{no-way}
-use Rattle.sheet_line.proofs.Cursor.{none-left, left-here, first-byte, minus-on, minus-alone}
+use lib.Dec.{eqb}
+use lib.ListN.{getD, drop}
 use borrow.Author.Needs.{needs}
+use borrow.Author.Tests.{eq-eqb, ne-eqb}
+use Rattle.shape.proofs.Bools.{no-way}
+use Rattle.sheet_line.specs.Text.{minus}
+use Rattle.sheet_line.specs.Numbers.{andThen, first, scan}
+use Rattle.sheet_line.specs.Steps.{left}
+use Rattle.sheet_line.proofs.Cursor.{none-left, left-here, first-byte, minus-on, minus-alone}
 use Rattle.sheet_line.proofs.numbers.number_at.Statement.{statement}
 use Rattle.sheet_line.proofs.numbers.number_at.Tie as tie
+
+-- The number from its first digit on.
+after-sign : (c : tie.Joined2) → let st = c .before .before .before .before in left (st .args .line .now) (st .args .at) ≡ andThen (first (eqb (getD (st .args .line .now) (st .args .at) 0) minus) (c .if2 .b)) (λ t. scan t (drop (c .if2 .next) (st .args .line .now)))
+after-sign c =
+    let st = c .before .before .before .before in
+    let line = st .args .line .now in
+    let at = st .args .at in
+    rw (left-here line at (omega arith))
+    (⊎-elim
+    (λ w. rw (w .3, w .4, eq-eqb (getD line at 0) minus (w .0 .taken), minus-on line at (omega arith) (w .0 .taken)) (first-byte true line (at + 1) (w .1 .left) (λ t. no-way (sym t))))
+    (λ w. rw (w .1, w .2, ne-eqb (getD line at 0) minus (w .0 .left)) (first-byte false line at (omega arith) (λ t. w .0 .left)))
+    (c .if2 .came))
 
 no-number-requires : tie.Need-no-number-requires
 no-number-requires c κs = search needs
@@ -20,43 +39,34 @@ shared-slice-read-b c = search needs
 add-next : tie.Need-add-next
 add-next c = search needs
 
-from-digit-requires : tie.Need-from-digit-requires
-from-digit-requires c κs = search needs
-
-returns-2 : tie.Need-returns-2
-returns-2 c =
-    let st = c .before .before .before .before .before in
-    let line = st .args .line .now in
-    rw (left-here line (st .args .at) (omega arith), first-byte false line (st .args .at) (omega arith) (λ t. c .before .if2 .taken)) (c .from-digit .ensures)
-
 no-number-requires-2 : tie.Need-no-number-requires-2
 no-number-requires-2 c κs = search needs
 
-returns-3 : tie.Need-returns-3
-returns-3 c =
+returns-2 : tie.Need-returns-2
+returns-2 c =
     let st = c .before .before .before .before .before .before in
     let line = st .args .line .now in
-    rw (c .no-number2 .ensures, left-here line (st .args .at) (omega arith), minus-on line (st .args .at) (omega arith) (c .before .before .if2 .left), minus-alone line (st .args .at + 1) (c .before .if3 .taken))
-
-shared-slice-read-d : tie.Need-shared-slice-read-d
-shared-slice-read-d c = search needs
-
-add-from-digit : tie.Need-add-from-digit
-add-from-digit c = search needs
-
-from-digit-requires-2 : tie.Need-from-digit-requires-2
-from-digit-requires-2 c κs = search needs
-
-returns-4 : tie.Need-returns-4
-returns-4 c =
-    let st = c .before .before .before .before .before .before .before in
-    let line = st .args .line .now in
+    let at = st .args .at in
     rw (
-      left-here line (st .args .at) (omega arith),
-      minus-on line (st .args .at) (omega arith) (c .before .before .before .if2 .left),
-      first-byte true line (st .args .at + 1) (omega arith) (λ t. no-way (sym t)),
+      c .no-number2 .ensures,
+      left-here line at (omega arith),
+      minus-on line at (omega arith) (c .before .before .if2 .taken),
+      minus-alone line (at + 1) (c .before .if3 .taken),
     )
-    (c .from-digit2 .ensures)
+
+shared-slice-read-b-2 : tie.Need-shared-slice-read-b-2
+shared-slice-read-b-2 c = search needs
+
+add-next-2 : tie.Need-add-next-2
+add-next-2 c = search needs
+
+from-digit-requires : tie.Need-from-digit-requires
+from-digit-requires c κs =
+    let st = c .before .before .before .before in
+    ⊎-elim (λ w. omega (arith, w .1 .left, w .4)) (λ w. omega (arith, w .2)) (c .if2 .came)
+
+returns-3 : tie.Need-returns-3
+returns-3 c = rw (after-sign (c .before)) (c .from-digit .ensures)
 
 pub number-at-spec : {M : Type 1} → statement M
 number-at-spec =
@@ -66,11 +76,9 @@ number-at-spec =
     returns
     shared-slice-read-b
     add-next
-    from-digit-requires
-    returns-2
     no-number-requires-2
-    returns-3
-    shared-slice-read-d
-    add-from-digit
-    from-digit-requires-2
-    returns-4)
+    returns-2
+    shared-slice-read-b-2
+    add-next-2
+    from-digit-requires
+    returns-3)

@@ -1,0 +1,55 @@
+use Prim.Native.Nat.{_-_, _≤_}
+use native.Mathlib.Omega.{arith}
+use lib.ListN.{length}
+use borrow.Author.Needs.{needs}
+use Rattle.sheet.proofs.Search.{Free, free-more}
+use Rattle.sheet.proofs.newline_from.Statement.{statement}
+use Rattle.sheet.proofs.newline_from.Tie as tie
+
+abbrev Inv-loop : tie.InvT-loop
+Inv-loop chunk at i₀ i = (at ≤ i) × ((i ≤ length chunk) × Free chunk at i)
+
+abbrev μ-loop : tie.MeasureT-loop
+μ-loop chunk at i₀ i = length chunk - i
+
+block-from-requires : tie.Need-block-from-requires Inv-loop μ-loop
+block-from-requires c κs = search needs
+
+loop-holds : tie.Need-loop-holds Inv-loop μ-loop
+loop-holds c = (omega arith, (omega arith, c .block-from .ensures .1))
+
+shared-slice-read-if1 : tie.Need-shared-slice-read-if1 Inv-loop μ-loop
+shared-slice-read-if1 c = search needs
+
+returns : tie.Need-returns Inv-loop μ-loop
+returns c = let inv = c .before .before .before .loop .inv in ((inv .0, inv .1 .0), (inv .1 .1, λ h. c .if1 .taken))
+
+add-i : tie.Need-add-i Inv-loop μ-loop
+add-i c = search needs
+
+loop-less : tie.Need-loop-less Inv-loop μ-loop
+loop-less c = search needs
+
+loop-again : tie.Need-loop-again Inv-loop μ-loop
+loop-again c =
+    let st = c .before .before .before .before .before .before in
+    let lp = c .before .before .before .loop in
+    (omega arith, (omega arith, free-more (st .args .chunk .now) (st .args .at) (lp .i) (lp .inv .1 .1) (c .if1 .left)))
+
+returns-2 : tie.Need-returns-2 Inv-loop μ-loop
+returns-2 c = let inv = c .before .loop .inv in ((inv .0, inv .1 .0), (inv .1 .1, λ h. absurd (omega arith)))
+
+pub newline-from-spec : {M : Type 1} → statement M
+newline-from-spec =
+    tie.close
+    (tie.spec
+    Inv-loop
+    μ-loop
+    block-from-requires
+    loop-holds
+    shared-slice-read-if1
+    returns
+    add-i
+    loop-less
+    loop-again
+    returns-2)
