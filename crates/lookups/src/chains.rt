@@ -58,7 +58,7 @@ pub fn look(l: &[i32], heads: &[u16; CHAINS], links: &[u16; Shape::MAX_COUNT], x
             return p;
         }
         if left == 0 {
-            return crate::first_at(l, x);
+            return crate::position_from(l, 0, x);
         }
         left -= 1;
         p = wide(links[p]);

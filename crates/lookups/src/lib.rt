@@ -1,7 +1,8 @@
 // Elements that are looked for among others: index of and member.
 ghost use mathlib.Core.Path.{_≡_};
-ghost use Prim.Native.Nat.{_*_, _≤_};
-ghost use lib.ListN.{length};
+ghost use Prim.Native.Nat.{_+_, _*_, _≤_};
+ghost use mathlib.Core.Bool.{false};
+ghost use lib.ListN.{length, drop};
 ghost use lib.IntN.{ℤ, pos};
 ghost use Rattle.shape.specs.Shape.{maxCount};
 ghost use Rattle.meaning.specs.Terms.{firstAt};
@@ -85,23 +86,21 @@ fn put_each(bits: bool, first: usize, l: &[i32], r: &[i32], out: &mut [i32])
     }
 }
 
-// A search passes over this many elements in about the time that it takes to clear the chains.
-const TESTS: usize = 4096;
-
 // So few elements never pay for chains.
-const FEW: usize = 4;
+const FEW: usize = 16;
 
+// Elements that a search may pass over before chains are made. To pass over as many as a list can have takes about as long as clearing the chains.
 fn tests_allowed(m: usize) -> usize
-    ensures { λ n. ⌜ n ≤ 4 * maxCount ⌝ }
+    ensures { λ n. ⌜ n ≤ 16 * maxCount ⌝ }
 {
     if m <= FEW {
         FEW * Shape::MAX_COUNT
     } else {
-        TESTS
+        Shape::MAX_COUNT
     }
 }
 
-// The first elements of r are searched for one by one, until as much was tested as chains cost. How many they are.
+// The first elements of r, each searched for by itself, until chains would have paid. How many they are.
 fn put_searched(bits: bool, first: usize, l: &[i32], r: &[i32], out: &mut [i32]) -> usize
     requires { ⌜ (first ≤ 1) × ((length (now l) ≤ maxCount) × (length (now r) ≤ length (now out))) ⌝ }
     ensures { λ n. ⌜ (n ≤ length (now (r .entry))) × (now (out .exit) ≡ filled (entries bits first (now (l .entry)) (now (r .entry))) n (now (out .entry))) ⌝ }
@@ -114,7 +113,7 @@ fn put_searched(bits: bool, first: usize, l: &[i32], r: &[i32], out: &mut [i32])
         if allowed < tests {
             return j;
         }
-        let at = first_at(l, r[j]);
+        let at = position(l, r[j]);
         out[j] = entry(bits, first, l, at);
         tests += at;
         j += 1;
@@ -122,6 +121,7 @@ fn put_searched(bits: bool, first: usize, l: &[i32], r: &[i32], out: &mut [i32])
     m
 }
 
+// Every element of r, looked for along the chain of its value.
 fn put_chained(bits: bool, first: usize, l: &[i32], r: &[i32], out: &mut [i32])
     requires { ⌜ (first ≤ 1) × ((length (now l) ≤ maxCount) × (length (now r) ≤ length (now out))) ⌝ }
     ensures { λ _. ⌜ now (out .exit) ≡ filled (entries bits first (now (l .entry)) (now (r .entry))) (length (now (r .entry))) (now (out .entry)) ⌝ }
@@ -164,7 +164,37 @@ fn entry(bits: bool, first: usize, l: &[i32], at: usize) -> i32
     (first + at) as i32
 }
 
+// Elements at the front that are tested one by one, and elements of a block of those after them.
+const NEAR: usize = 8;
+
+const BLOCK: usize = 16;
+
 // The first position that holds x, the length where none does.
+fn position(l: &[i32], x: i32) -> usize
+    ensures { λ n. ⌜ n ≡ firstAt x (now (l .entry)) ⌝ }
+{
+    if l.len() <= NEAR {
+        return first_at(l, x);
+    }
+    let near = NEAR;
+    let at = first_at(&l[0..near], x);
+    if at < near {
+        return at;
+    }
+    position_from(l, near, x)
+}
+
+// The same of the elements from `from` on.
+fn position_from(l: &[i32], from: usize, x: i32) -> usize
+    requires { ⌜ from ≤ length (now l) ⌝ }
+    ensures { λ n. ⌜ n ≡ from + firstAt x (drop from (now (l .entry))) ⌝ }
+{
+    let n = l.len();
+    let k = passed(l, from, x);
+    k + first_at(&l[k..n], x)
+}
+
+// The first position that holds x, the length where none does, element by element.
 fn first_at(l: &[i32], x: i32) -> usize
     ensures { λ n. ⌜ n ≡ firstAt x (now (l .entry)) ⌝ }
 {
@@ -177,4 +207,37 @@ fn first_at(l: &[i32], x: i32) -> usize
         i += 1;
     }
     n
+}
+
+// Blocks from `from` on that do not have x are passed over.
+fn passed(l: &[i32], from: usize, x: i32) -> usize
+    requires { ⌜ from ≤ length (now l) ⌝ }
+    ensures { λ n. ⌜ (from ≤ n) × ((n ≤ length (now (l .entry))) × (from + firstAt x (drop from (now (l .entry))) ≡ n + firstAt x (drop n (now (l .entry))))) ⌝ }
+{
+    let n = l.len();
+    let mut k = from;
+    while BLOCK <= n - k {
+        let end = k + BLOCK;
+        if may_have(&l[k..end], x) {
+            return k;
+        }
+        k = end;
+    }
+    k
+}
+
+// False only where l does not have x. Nothing leaves the loop early, so that many elements are tested at once.
+fn may_have(l: &[i32], x: i32) -> bool
+    ensures { λ b. ⌜ (b ≡ false → firstAt x (now (l .entry)) ≡ length (now (l .entry))) ⌝ }
+{
+    let n = l.len();
+    let mut has = false;
+    let mut i = 0;
+    while i < n {
+        if signed::same(x, l[i]) {
+            has = true;
+        }
+        i += 1;
+    }
+    has
 }

@@ -20,14 +20,14 @@ abbrev μ-loop : tie.MeasureT-loop
 μ-loop bits first l r out₀ m allowed tests₀ j₀ out tests j = m - j
 
 -- The position of an element, which is at most the length.
-at-is : (c : tie.After-first-at Inv-loop μ-loop)
-    → c .first-at .result ≡ firstAt (getD (c .before .before .before .before .before .before .args .r .now) (c .before .before .before .before .loop .j) (pos 0)) (c .before .before .before .before .before .before .args .l .now)
+at-is : (c : tie.After-position Inv-loop μ-loop)
+    → c .position .result ≡ firstAt (getD (c .before .before .before .before .before .before .args .r .now) (c .before .before .before .before .loop .j) (pos 0)) (c .before .before .before .before .before .before .args .l .now)
 at-is c =
     let lp = c .before .before .before .before in
     let st = lp .before .before in
-    c .first-at .ensures ∙ ap (λ z. firstAt z (st .args .l .now)) (read32 (getD (st .args .r .now) (lp .loop .j) (pos 0)) (sfits-of (c .before .first-at-arg .given)))
+    c .position .ensures ∙ ap (λ z. firstAt z (st .args .l .now)) (read32 (getD (st .args .r .now) (lp .loop .j) (pos 0)) (sfits-of (c .before .position-arg .given)))
 
-at-small : (c : tie.After-first-at Inv-loop μ-loop) → c .first-at .result ≤ maxCount
+at-small : (c : tie.After-position Inv-loop μ-loop) → c .position .result ≤ maxCount
 at-small c =
     let lp = c .before .before .before .before in
     let st = lp .before .before in
@@ -45,14 +45,14 @@ same-length c = search needs
 returns : tie.Need-returns Inv-loop μ-loop
 returns c = let v = c .before .before .loop .inv in (v .0, v .1 .1)
 
-mul-first-at : tie.Need-mul-first-at Inv-loop μ-loop
-mul-first-at c = search needs
+mul-position : tie.Need-mul-position Inv-loop μ-loop
+mul-position c = search needs
 
-shared-slice-copy-out-first-at : tie.Need-shared-slice-copy-out-first-at Inv-loop μ-loop
-shared-slice-copy-out-first-at c = search needs
+shared-slice-copy-out-position : tie.Need-shared-slice-copy-out-position Inv-loop μ-loop
+shared-slice-copy-out-position c = search needs
 
-first-at-requires : tie.Need-first-at-requires Inv-loop μ-loop
-first-at-requires c κs = search needs
+position-requires : tie.Need-position-requires Inv-loop μ-loop
+position-requires c κs = search needs
 
 entry-requires : tie.Need-entry-requires Inv-loop μ-loop
 entry-requires c κs = (c .before .before .before .before .before .before .pre .0, at-small c)
@@ -99,9 +99,9 @@ put-searched-spec =
     loop-holds
     same-length
     returns
-    mul-first-at
-    shared-slice-copy-out-first-at
-    first-at-requires
+    mul-position
+    shared-slice-copy-out-position
+    position-requires
     entry-requires
     mul-t12
     slice-set-from-out

@@ -64,11 +64,11 @@ returns c =
     let st = lp .before .before .before .before in
     found st (lp .loop .p) (come-here (st .args .l .now) (sought st) (lp .loop .p) (lp .loop .inv) (omega arith) (sym (same-is (c .before)) ∙ c .if1 .taken))
 
-first-at-requires : tie.Need-first-at-requires Inv-loop μ-loop
-first-at-requires c κs = search needs
+position-from-requires : tie.Need-position-from-requires Inv-loop μ-loop
+position-from-requires c κs = search needs
 
 returns-2 : tie.Need-returns-2 Inv-loop μ-loop
-returns-2 c = let st = c .before .before .before .before .before .before .before .before .before .before in found st (c .first-at .result) (c .first-at .ensures)
+returns-2 c = let st = c .before .before .before .before .before .before .before .before .before .before in found st (c .position-from .result) (omega (arith, c .position-from .ensures))
 
 sub-left : tie.Need-sub-left Inv-loop μ-loop
 sub-left c = search needs
@@ -117,7 +117,7 @@ look-spec =
     shared-slice-copy-out-same
     same-requires
     returns
-    first-at-requires
+    position-from-requires
     returns-2
     sub-left
     mul-wide-2
