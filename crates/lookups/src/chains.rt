@@ -13,8 +13,8 @@ pub const CHAINS: usize = 32768;
 // After the last position of a chain.
 pub const NONE: u16 = 65535;
 
-// Steps in a chain after which the whole list is searched instead.
-const STEPS: usize = 64;
+// A chain is followed for one step to so many elements of the list, which takes less time than to search the list.
+const ELEMENTS_TO_A_STEP: usize = 64;
 
 // The chain of a value: fifteen bits from the middle of a product.
 fn chain(x: i32) -> usize
@@ -44,7 +44,7 @@ fn wide(p: u16) -> usize
     p as usize
 }
 
-// The first position that holds x, the length where none does.
+// The first position that holds x, the length where none does. Where the chain is long the list is searched instead.
 pub fn look(l: &[i32], heads: &[u16; CHAINS], links: &[u16; Shape::MAX_COUNT], x: i32) -> usize
     requires { ⌜ (length (now l) ≤ maxCount) × Linked (now l) (now heads) (now links) 0 ⌝ }
     ensures { λ n. ⌜ n ≡ firstAt x (now (l .entry)) ⌝ }
@@ -52,7 +52,7 @@ pub fn look(l: &[i32], heads: &[u16; CHAINS], links: &[u16; Shape::MAX_COUNT], x
     let n = l.len();
     let h = chain(x);
     let mut p = wide(heads[h]);
-    let mut left = STEPS;
+    let mut left = n / ELEMENTS_TO_A_STEP;
     while p < n {
         if signed::same(x, l[p]) {
             return p;
