@@ -1,10 +1,13 @@
 -- What 29 and 30 give, as their code finds it.
 use mathlib.Core.Path.{_≡_, refl, sym, ap, _∙_}
 use mathlib.Core.List.{List, _++_}
-use mathlib.Core.Bool.{true, cond}
-use Prim.Native.Nat.{_≤_}
+use mathlib.Core.Bool.{Bool, true, cond}
+use Prim.Native.Nat.{ℕ, _+_, _-_, _≤_}
+use native.Mathlib.Omega.{arith}
 use borrow.Author.Tests.{le-leb, eq-eqb, ne-eqb}
-use lib.ListN.{length, drop, getD}
+use lib.ListN.{length, take, drop, getD, length-drop}
+use lib.Seq.{length-take-le, getD-take, getD-drop}
+use borrow.Rule.Slice.PartMut.{putMid}
 use lib.IntN.{ℤ, pos, natAbs, _+ℤ_}
 use Rattle.shape.specs.declared.Shape.{Shape}
 use Rattle.shape.specs.Shape.{maxRank, counted, count, shapeOf, shapeRule, madeOf, scalar}
@@ -14,13 +17,13 @@ use Rattle.meaning.specs.Refusal.{number, meets, winner}
 use Rattle.meaning.specs.Terms.{eqZ, rank, firstAt}
 use Rattle.meaning.specs.Primitives.{indexOf, member}
 use Rattle.meaning.specs.Reply.{Primitive, primitives, named, isOrigin}
-use Rattle.meaning.proofs.Tab.{tab-ext}
+use Rattle.meaning.proofs.Tab.{tab-ext, length-tab, getD-tab}
 use Rattle.meaning.proofs.Arrays.{Whole}
 use Rattle.signed.proofs.Equal.{origin-is}
-use Rattle.copying.proofs.Runs.{filled}
+use Rattle.copying.proofs.Runs.{filled, filled-whole, part-length, put-list}
 use Rattle.answer.specs.Answer.{ownOrder, own}
 use Rattle.answer.proofs.Order.{Names}
-use Rattle.lookups.specs.Found.{positions, bit, members}
+use Rattle.lookups.specs.Found.{positions, bit, members, entry, entries}
 
 -- A result of the operand's lengths, each element from the one at its place.
 pub each-element : (a : Array) (f : ℤ → ℤ) → build (a .lengths) (λ p. f (at a p)) .elements ≡ tab (count (a .lengths)) (λ j. f (getD (a .elements) j (pos 0)))
@@ -108,3 +111,21 @@ module _ (L R : Array) where
       ≡ build (member L R .lengths) (member L R .element) .elements ++ drop (count (member L R .lengths)) out
   unfolding member
   member-out out w = each-filled L (bit (R .elements)) out w
+
+-- The first n elements of r are done, and the rest is put into the part of the buffer after them.
+module _ (bits : Bool) (first : ℕ) (l r out₀ : List ℤ) where
+  pub put-rest : (n m : ℕ) (out last : List ℤ) → n ≤ m → m ≡ length r → length r ≤ length out₀ → out ≡ filled (entries bits first l r) n out₀
+      → last ≡ filled (entries bits first l (take (m - n) (drop n r))) (length (take (m - n) (drop n r))) (take (m - n) (drop n out))
+      → putMid n (m - n) out last ≡ filled (entries bits first l r) m out₀
+  put-rest n m out last le e room o q =
+      let g = entries bits first l r in
+      let rest = entries bits first l (take (m - n) (drop n r)) in
+      let end : n + (m - n) ≡ m = omega arith in
+      let long = length-take-le (m - n) (drop n r) (rw length-drop (omega arith)) in
+      let part = part-length out (tab n g) out₀ n m o (length-tab n g) le (omega arith) in
+      let whole : last ≡ tab (m - n) rest =
+      q ∙ ap (λ k. filled rest k (take (m - n) (drop n out))) long ∙ filled-whole rest (m - n) (take (m - n) (drop n out)) (omega arith) in
+      put-list g (pos 0) n (m - n) m out out₀ last o (sym end) (ap length whole ∙ length-tab (m - n) rest)
+      (λ i b. sym (ap (λ ys. getD ys i (pos 0)) whole ∙ getD-tab (m - n) rest i (pos 0) b
+      ∙ ap (λ z. entry bits first (length l) (firstAt z l)) (getD-take (m - n) (drop n r) i (pos 0) b ∙ getD-drop n r i (pos 0))))
+      ∙ ap (λ k. filled g k out₀) end

@@ -85,7 +85,16 @@ part-put-found-end-2 : tie.Need-part-put-found-end-2
 part-put-found-end-2 c = let g = fine (c .before .before .before .before) .right in omega (arith, g .room, g .count-is, c .before .before .count2 .ensures)
 
 put-found-requires : tie.Need-put-found-requires
-put-found-requires c κs = search needs
+put-found-requires c κs =
+    let z = c .before .before .before in
+    let m = z .before in
+    let e = m .before .before in
+    let st = e .before .before in
+    let gl = fine e .left in
+    let gr = fine e .right in
+    let a = ap length (lent-part (st .args .ls) (st .args .l .now) gl _ (m .before .count .ensures)) ∙ gl .whole in
+    let b = ap length (lent-part (st .args .rs) (st .args .r .now) gr _ (m .count2 .ensures)) ∙ gr .whole in
+    (omega (arith, b, gr .count-small), omega (arith, a, gl .count-is, m .before .count .ensures, z .if2 .left))
 
 of-lengths-requires : tie.Need-of-lengths-requires
 of-lengths-requires c κs = search needs

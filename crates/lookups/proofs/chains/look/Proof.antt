@@ -1,0 +1,128 @@
+use Prim.Native.Nat.{ℕ, _-_}
+use native.Mathlib.Omega.{arith}
+use mathlib.Core.Path.{_≡_, sym, ap, _∙_}
+use lib.IntN.{ℤ, pos}
+use lib.ListN.{length, getD}
+use mir.Syntax.{w32}
+use mir.Val.{toZ, ofZ}
+use borrow.Author.Needs.{needs, sfits-of}
+use Rattle.meaning.specs.Terms.{eqZ, firstAt}
+use Rattle.signed.proofs.Reading.{read32}
+use Rattle.lookups.proofs.Chaining.{Come, come-first, come-on, come-here, come-past}
+use Rattle.lookups.proofs.chains.look.Statement.{statement}
+use Rattle.lookups.proofs.chains.look.Tie as tie
+
+abbrev Inv-loop : tie.InvT-loop
+Inv-loop l heads links x n h p₀ left₀ p left = Come l (toZ w32 x) p
+
+abbrev μ-loop : tie.MeasureT-loop
+μ-loop l heads links x n h p₀ left₀ p left = n - p
+
+-- What x is read as, and the test as one of it and the element.
+abbrev sought : tie.Start Inv-loop μ-loop → ℤ
+sought st = toZ w32 (ofZ w32 (st .args .x))
+
+same-is : (c : tie.After-same Inv-loop μ-loop)
+    → c .same .result ≡ eqZ (sought (c .before .before .before .before .before .before .before)) (getD (c .before .before .before .before .before .before .before .args .l .now) (c .before .before .before .loop .p) (pos 0))
+same-is c =
+    c .same .ensures ∙ ap (eqZ (sought (c .before .before .before .before .before .before .before))) (read32 _ (sfits-of (c .before .same-arg .given)))
+
+-- The position, as that of x itself.
+found : (st : tie.Start Inv-loop μ-loop) (n : ℕ) → n ≡ firstAt (sought st) (st .args .l .now) → n ≡ firstAt (st .args .x) (st .args .l .now)
+found st n e = e ∙ ap (λ z. firstAt z (st .args .l .now)) (read32 (st .args .x) (st .fits .x))
+
+chain-requires : tie.Need-chain-requires Inv-loop μ-loop
+chain-requires c κs = search needs
+
+mul-wide : tie.Need-mul-wide Inv-loop μ-loop
+mul-wide c = search needs
+
+element-copy-out-wide : tie.Need-element-copy-out-wide Inv-loop μ-loop
+element-copy-out-wide c = search needs
+
+wide-requires : tie.Need-wide-requires Inv-loop μ-loop
+wide-requires c κs = search needs
+
+loop-holds : tie.Need-loop-holds Inv-loop μ-loop
+loop-holds c =
+    let st = c .before .before .before in
+    rw (c .wide .ensures ∙ ap (λ h. getD (st .args .heads .now) h 0) (c .before .before .chain .ensures .0))
+    (come-first (st .args .l .now) (sought st) (st .args .heads .now) (st .args .links .now) (st .pre .1))
+
+mul-same : tie.Need-mul-same Inv-loop μ-loop
+mul-same c = search needs
+
+shared-slice-copy-out-same : tie.Need-shared-slice-copy-out-same Inv-loop μ-loop
+shared-slice-copy-out-same c = search needs
+
+same-requires : tie.Need-same-requires Inv-loop μ-loop
+same-requires c κs = search needs
+
+returns : tie.Need-returns Inv-loop μ-loop
+returns c =
+    let lp = c .before .before .before .before in
+    let st = lp .before .before .before .before in
+    found st (lp .loop .p) (come-here (st .args .l .now) (sought st) (lp .loop .p) (lp .loop .inv) (omega arith) (sym (same-is (c .before)) ∙ c .if1 .taken))
+
+position-from-requires : tie.Need-position-from-requires Inv-loop μ-loop
+position-from-requires c κs = search needs
+
+returns-2 : tie.Need-returns-2 Inv-loop μ-loop
+returns-2 c = let st = c .before .before .before .before .before .before .before .before .before .before in found st (c .position-from .result) (omega (arith, c .position-from .ensures))
+
+sub-left : tie.Need-sub-left Inv-loop μ-loop
+sub-left c = search needs
+
+mul-wide-2 : tie.Need-mul-wide-2 Inv-loop μ-loop
+mul-wide-2 c = search needs
+
+element-copy-out-wide-2 : tie.Need-element-copy-out-wide-2 Inv-loop μ-loop
+element-copy-out-wide-2 c = search needs
+
+wide-requires-2 : tie.Need-wide-requires-2 Inv-loop μ-loop
+wide-requires-2 c κs = search needs
+
+loop-less : tie.Need-loop-less Inv-loop μ-loop
+loop-less c =
+    let lp = c .before .before .before .before .before .before .before in
+    let st = lp .before .before .before .before in
+    omega (arith, c .wide2 .ensures, st .pre .1 .link (lp .loop .p) (omega arith) (omega arith) .after)
+
+loop-again : tie.Need-loop-again Inv-loop μ-loop
+loop-again c =
+    let lp = c .before .before .before .before .before .before .before in
+    let st = lp .before .before .before .before in
+    let e = c .before .before .before in
+    rw (c .wide2 .ensures)
+    (come-on (st .args .l .now) (sought st) (lp .loop .p) (lp .loop .inv) (st .args .heads .now) (st .args .links .now) (st .pre .1) (omega arith) (sym (same-is (e .before)) ∙ e .if1 .left))
+
+returns-3 : tie.Need-returns-3 Inv-loop μ-loop
+returns-3 c =
+    let lp = c .before in
+    let st = lp .before .before .before .before in
+    found st (length (st .args .l .now)) (come-past (st .args .l .now) (sought st) (lp .loop .p) (lp .loop .inv) (omega arith))
+
+pub look-spec : {M : Type 1} → statement M
+look-spec =
+    tie.close
+    (tie.spec
+    Inv-loop
+    μ-loop
+    chain-requires
+    mul-wide
+    element-copy-out-wide
+    wide-requires
+    loop-holds
+    mul-same
+    shared-slice-copy-out-same
+    same-requires
+    returns
+    position-from-requires
+    returns-2
+    sub-left
+    mul-wide-2
+    element-copy-out-wide-2
+    wide-requires-2
+    loop-less
+    loop-again
+    returns-3)

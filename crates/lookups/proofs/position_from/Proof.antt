@@ -1,0 +1,63 @@
+use Prim.Native.Nat.{_+_}
+use native.Mathlib.Omega.{arith}
+use mathlib.Core.Path.{ap, _∙_}
+use lib.IntN.{ℤ}
+use lib.ListN.{length, drop}
+use mir.Syntax.{w32}
+use mir.Val.{toZ, ofZ}
+use borrow.Author.Needs.{needs}
+use Rattle.meaning.specs.Terms.{firstAt}
+use Rattle.signed.proofs.Reading.{read32}
+use Rattle.lookups.proofs.Finding.{first-whole, first-part-le}
+use Rattle.lookups.proofs.position_from.Statement.{statement}
+use Rattle.lookups.proofs.position_from.Tie as tie
+
+-- What x is read as.
+abbrev sought : tie.Start → ℤ
+sought st = toZ w32 (ofZ w32 (st .args .x))
+
+passed-requires : tie.Need-passed-requires
+passed-requires c κs = search needs
+
+mul-first-at : tie.Need-mul-first-at
+mul-first-at c = search needs
+
+sub-first-at : tie.Need-sub-first-at
+sub-first-at c = search needs
+
+part-first-at-start : tie.Need-part-first-at-start
+part-first-at-start c = search needs
+
+part-first-at-end : tie.Need-part-first-at-end
+part-first-at-end c = search needs
+
+first-at-requires : tie.Need-first-at-requires
+first-at-requires c κs = search needs
+
+add-result : tie.Need-add-result
+add-result c =
+    let p = c .before .before in
+    let st = p .before in
+    let l = st .args .l .now in
+    omega (arith, c .first-at .ensures, first-part-le (sought st) l (p .passed .result) (length l) (omega arith) (omega arith))
+
+returns : tie.Need-returns
+returns c =
+    let p = c .before .before in
+    let st = p .before in
+    let l = st .args .l .now in
+    omega (arith, c .first-at .ensures, p .passed .ensures .1 .1, first-whole (sought st) l (p .passed .result) (length l) (omega arith) (omega arith) (omega arith))
+    ∙ ap (λ z. st .args .from + firstAt z (drop (st .args .from) l)) (read32 (st .args .x) (st .fits .x))
+
+pub position-from-spec : {M : Type 1} → statement M
+position-from-spec =
+    tie.close
+    (tie.spec
+    passed-requires
+    mul-first-at
+    sub-first-at
+    part-first-at-start
+    part-first-at-end
+    first-at-requires
+    add-result
+    returns)

@@ -1,0 +1,67 @@
+// The positions of a list in chains, so that an element is looked for among a few. Each value belongs to one chain, by arithmetic on its bits,
+// and the positions of a chain rise: the first that holds a value is the value's first position.
+ghost use mathlib.Core.Path.{_≡_};
+ghost use Prim.Native.Nat.{ℕ, _≤_, _<_};
+ghost use lib.ListN.{length, getD};
+ghost use Rattle.shape.specs.Shape.{maxCount};
+ghost use Rattle.meaning.specs.Terms.{firstAt};
+ghost use Rattle.lookups.specs.Chains.{chains, chainOf, Linked};
+use shape::Shape;
+
+pub const CHAINS: usize = 32768;
+
+// After the last position of a chain.
+pub const NONE: u16 = 65535;
+
+// A chain is followed for one step to so many elements of the list, which takes less time than to search the list.
+const ELEMENTS_TO_A_STEP: usize = 64;
+
+// The chain of a value: fifteen bits from the middle of a product.
+fn chain(x: i32) -> usize
+    ensures { λ h. ⌜ (h ≡ chainOf x) × (h < chains) ⌝ }
+{
+    let k = signed::position(x, -2147483648, 4294967296);
+    k * 2654435769 / 131072 % CHAINS
+}
+
+// Every position of l is put in front of its chain, the last position first.
+pub fn link(l: &[i32], heads: &mut [u16; CHAINS], links: &mut [u16; Shape::MAX_COUNT])
+    requires { ⌜ (length (now l) ≤ maxCount) × ((length (now heads) ≡ chains) × ((length (now links) ≡ maxCount) × ((h : ℕ) → h < chains → length (now l) ≤ getD (now heads) h 0))) ⌝ }
+    ensures { λ _. ⌜ Linked (now (l .entry)) (now (heads .exit)) (now (links .exit)) 0 ⌝ }
+{
+    let mut i = l.len();
+    while 0 < i {
+        i -= 1;
+        let h = chain(l[i]);
+        links[i] = heads[h];
+        heads[h] = i as u16;
+    }
+}
+
+fn wide(p: u16) -> usize
+    ensures { λ r. ⌜ r ≡ p ⌝ }
+{
+    p as usize
+}
+
+// The first position that holds x, the length where none does. Where the chain is long the list is searched instead.
+pub fn look(l: &[i32], heads: &[u16; CHAINS], links: &[u16; Shape::MAX_COUNT], x: i32) -> usize
+    requires { ⌜ (length (now l) ≤ maxCount) × Linked (now l) (now heads) (now links) 0 ⌝ }
+    ensures { λ n. ⌜ n ≡ firstAt x (now (l .entry)) ⌝ }
+{
+    let n = l.len();
+    let h = chain(x);
+    let mut p = wide(heads[h]);
+    let mut left = n / ELEMENTS_TO_A_STEP;
+    while p < n {
+        if signed::same(x, l[p]) {
+            return p;
+        }
+        if left == 0 {
+            return crate::position_from(l, 0, x);
+        }
+        left -= 1;
+        p = wide(links[p]);
+    }
+    n
+}
