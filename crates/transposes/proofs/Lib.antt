@@ -3,4 +3,7 @@ pub mod Sending
 pub mod Choosing
 pub mod Shortest
 pub mod Offsets
+pub mod Placing
+pub mod Reaching
+pub mod Blocking
 pub mod Transposing

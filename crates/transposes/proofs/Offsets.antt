@@ -27,7 +27,7 @@ use Rattle.transposes.specs.Sent.{Positive, Moves, sentReply}
 use Rattle.transposes.proofs.Sending.{length-sent}
 use Rattle.transposes.proofs.Shortest.{lengths-pos}
 
-index-dot : (ns p : List ℕ) → length p ≡ length ns → index ns p ≡ dot p (strides ns)
+pub index-dot : (ns p : List ℕ) → length p ≡ length ns → index ns p ≡ dot p (strides ns)
 unfolding index dot strides
 index-dot [] [] e = refl
 index-dot [] (i ∷ p) e = refl

@@ -44,7 +44,7 @@ run-spaced r out last at w e one end room q =
 abbrev pub others : ℕ → List ℕ → List ℕ
 others k ns = take (k - 1) (drop 1 ns)
 
-others-is : (k n : ℕ) (ns : List ℕ) → k ≡ suc (length ns) → others k (n ∷ ns) ≡ ns
+pub others-is : (k n : ℕ) (ns : List ℕ) → k ≡ suc (length ns) → others k (n ∷ ns) ≡ ns
 others-is k n ns h = take-all (k - 1) ns (omega arith)
 
 pub others-fewer : (ns : List ℕ) → 0 < length ns → length (others (length ns) ns) < length ns
@@ -80,7 +80,7 @@ walked-line (n ∷ (o ∷ ns)) ws r at m room k e = absurd (omega arith)
 walked-line (n ∷ []) [] r at m room k e = absurd (omega (arith, k .axes))
 walked-line (n ∷ []) (w ∷ (v ∷ ws)) r at m room k e = absurd (omega (arith, k .axes))
 
-both-pos : (n c x : ℕ) → 0 < x → x ≡ n * c → (0 < n) × (0 < c)
+pub both-pos : (n c x : ℕ) → 0 < x → x ≡ n * c → (0 < n) × (0 < c)
 both-pos zero c x h e = absurd (omega (arith, zero-mul c))
 both-pos (suc n) zero x h e = absurd (omega (arith, mul-zero (suc n)))
 both-pos (suc n) (suc c) x h e = (omega arith, omega arith)

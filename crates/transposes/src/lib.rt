@@ -1,6 +1,6 @@
 // Transpositions: 15 and 26. R's axis i goes to result axis t, and axes sent together give the diagonal.
 ghost use mathlib.Core.Path.{_≡_};
-ghost use mathlib.Core.List.{map};
+ghost use mathlib.Core.List.{[], _∷_, map};
 ghost use Prim.Native.Nat.{ℕ, _+_, _*_, _-_, _≤_, _<_};
 ghost use lib.ListN.{length, take};
 ghost use lib.IntN.{ℤ, pos};
@@ -10,6 +10,7 @@ ghost use Rattle.meaning.specs.Primitives.{backwards};
 ghost use Rattle.meaning.specs.Reply.{reply};
 ghost use Rattle.answer.specs.Answer.{lent, Replied};
 ghost use Rattle.transposes.specs.Strides.{strides, sentStrides, shortest, spaced, walked, Walk};
+ghost use Rattle.transposes.specs.Placed.{ReachAlong, PlacedAlong, PlacedRows, Blocks};
 ghost use Rattle.transposes.specs.Sent.{padded, axisOf, Chosen, Sends, Positive, Moves, sentReply};
 use answer::Answer;
 use shape::Shape;
@@ -88,6 +89,167 @@ fn line(stride: usize, r: &[i32], at: usize, out: &mut [i32])
     spread(stride, r, at, out);
 }
 
+// A strip's width: as many lines of R are read side by side. They are few enough to stay in the cache until they are read to their end.
+const TILE: usize = 8;
+
+// An axis: its length, and how far apart its neighbours stand in R and in the result.
+struct Axis {
+    length: usize,
+    stride: usize,
+    step: usize,
+}
+
+// The elements of r along an axis, from the one at `at` on, each to its place from `to` on.
+fn put_line(axis: Axis, r: &[i32], at: usize, to: usize, out: &mut [i32])
+    requires { ⌜ ReachAlong (axis ∷ []) at (length (now r)) to (length (now out)) ⌝ }
+    ensures { λ _. ⌜ PlacedAlong (axis ∷ []) (now (r .entry)) at to (now (out .entry)) (now (out .exit)) ⌝ }
+{
+    let n = axis.length;
+    let stride = axis.stride;
+    let step = axis.step;
+    let mut i = 0;
+    while i < n {
+        let from = at + i * stride;
+        let place = to + i * step;
+        out[place] = r[from];
+        i += 1;
+    }
+}
+
+// The same along two axes, line by line.
+fn put_plane(axis: Axis, line: Axis, r: &[i32], at: usize, to: usize, out: &mut [i32])
+    requires { ⌜ ReachAlong (axis ∷ (line ∷ [])) at (length (now r)) to (length (now out)) ⌝ }
+    ensures { λ _. ⌜ PlacedAlong (axis ∷ (line ∷ [])) (now (r .entry)) at to (now (out .entry)) (now (out .exit)) ⌝ }
+{
+    let n = axis.length;
+    let stride = axis.stride;
+    let step = axis.step;
+    let mut i = 0;
+    while i < n {
+        let from = at + i * stride;
+        let place = to + i * step;
+        put_line(line, r, from, place, out);
+        i += 1;
+    }
+}
+
+// The same along the last axis and another, strip by strip of the last. The last strip may overlap the one before it.
+fn put_strips(last: Axis, near: Axis, r: &[i32], at: usize, to: usize, out: &mut [i32])
+    requires { do ⌜ ((← ⟦TILE⟧) ≤ last .length) × ReachAlong (last ∷ (near ∷ [])) at (length (now r)) to (length (now out)) ⌝ }
+    ensures { λ _. ⌜ PlacedAlong (last ∷ (near ∷ [])) (now (r .entry)) at to (now (out .entry)) (now (out .exit)) ⌝ }
+{
+    let stride = last.stride;
+    let step = last.step;
+    let strip = Axis {
+        length: TILE,
+        stride,
+        step,
+    };
+    let end = last.length - TILE;
+    let mut i = 0;
+    while i < end {
+        let from = at + i * stride;
+        let place = to + i * step;
+        put_plane(near, strip, r, from, place, out);
+        i += TILE;
+    }
+    let from = at + end * stride;
+    let place = to + end * step;
+    put_plane(near, strip, r, from, place, out);
+}
+
+// The same, however long the last axis is. A short one is done line by line of the other. One with a short stride in R needs no strips.
+fn put_block(near: Axis, last: Axis, r: &[i32], at: usize, to: usize, out: &mut [i32])
+    requires { ⌜ ReachAlong (near ∷ (last ∷ [])) at (length (now r)) to (length (now out)) ⌝ }
+    ensures { λ _. ⌜ PlacedAlong (near ∷ (last ∷ [])) (now (r .entry)) at to (now (out .entry)) (now (out .exit)) ⌝ }
+{
+    if last.length < TILE {
+        put_plane(last, near, r, at, to, out);
+        return;
+    }
+    if last.stride < TILE {
+        put_plane(near, last, r, at, to, out);
+        return;
+    }
+    put_strips(last, near, r, at, to, out);
+}
+
+// The same along an axis and those in `lens`, which have `size` places and stand row by row in the result.
+fn put_blocks(
+    near: Axis,
+    lens: &[usize],
+    strides: &[usize],
+    size: usize,
+    r: &[i32],
+    at: usize,
+    to: usize,
+    out: &mut [i32],
+)
+    requires { ⌜ Blocks near (now lens) (now strides) size at (length (now r)) to (length (now out)) ⌝ }
+    ensures { λ _. ⌜ PlacedRows near (now (lens .entry)) (now (strides .entry)) (now (r .entry)) at to (now (out .entry)) (now (out .exit)) ⌝ }
+{
+    let rank = lens.len();
+    let n = lens[0];
+    let apart = strides[0];
+    if rank == 1 {
+        let last = Axis {
+            length: n,
+            stride: apart,
+            step: 1,
+        };
+        put_block(near, last, r, at, to, out);
+        return;
+    }
+    let step = size / n;
+    let mut i = 0;
+    while i < n {
+        let from = at + i * apart;
+        let place = to + i * step;
+        put_blocks(
+            near,
+            &lens[1..rank],
+            &strides[1..rank],
+            step,
+            r,
+            from,
+            place,
+            out,
+        );
+        i += 1;
+    }
+}
+
+// Whether neighbours on the first axis are neighbours in R and those on the last are not, so that a line reads its elements from far apart.
+fn blocks_pay(lens: &[usize], strides: &[usize]) -> bool
+    requires { ⌜ (0 < length (now lens)) × (length (now strides) ≡ length (now lens)) ⌝ }
+{
+    let last = lens.len() - 1;
+    if strides[last] < 2 {
+        return false;
+    }
+    if lens[0] < 2 {
+        return false;
+    }
+    strides[0] == 1
+}
+
+// What `walk` gives of two axes or more, by blocks along the first and the last.
+fn walk_blocks(lens: &[usize], strides: &[usize], r: &[i32], at: usize, out: &mut [i32])
+    requires { ⌜ (1 < length (now lens)) × Walk (now lens) (now strides) at (length (now r)) (length (now out)) ⌝ }
+    ensures { λ _. ⌜ now (out .exit) ≡ walked (now (lens .entry)) (now (strides .entry)) (now (r .entry)) at ⌝ }
+{
+    let rank = lens.len();
+    let length = lens[0];
+    let apart = strides[0];
+    let step = out.len() / length;
+    let near = Axis {
+        length,
+        stride: apart,
+        step,
+    };
+    put_blocks(near, &lens[1..rank], &strides[1..rank], step, r, at, 0, out);
+}
+
 // The part of the result for the axes in `lens`, whose first element is r's element `at`.
 fn walk(lens: &[usize], strides: &[usize], r: &[i32], at: usize, out: &mut [i32])
     requires { ⌜ Walk (now lens) (now strides) at (length (now r)) (length (now out)) ⌝ }
@@ -102,6 +264,10 @@ fn walk(lens: &[usize], strides: &[usize], r: &[i32], at: usize, out: &mut [i32]
     let stride = strides[0];
     if rank == 1 {
         line(stride, r, at, out);
+        return;
+    }
+    if blocks_pay(lens, strides) {
+        walk_blocks(lens, strides, r, at, out);
         return;
     }
     let size = out.len() / n;
