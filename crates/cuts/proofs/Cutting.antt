@@ -41,6 +41,7 @@ pub record Fits (t : List ℕ) (at n m : ℕ) : Type 0 where
   pub inner : at + (from t + len t) * step t ≤ n
   pub last : length t ≡ 5 → step t ≡ block t
   pub rest : 5 < length t → (i : ℕ) → i < len t → Fitting (drop 5 t) (at + (from t + i) * step t) n (block t)
+  pub more : 0 < len t
 
 -- Position i of the window lies in both buffers.
 abbrev pub Turn : List ℕ → ℕ → ℕ → ℕ → ℕ → Type 0
@@ -58,7 +59,8 @@ fits (a ∷ b ∷ c ∷ d ∷ e ∷ ws) at n m h = record {
   room = h .1 .0;
   inner = h .1 .1 .0;
   last = λ l. h .1 .1 .1 .0 (omega arith);
-  rest = λ l i k. h .1 .1 .1 .1 (omega arith) i k;
+  rest = λ l i k. h .1 .1 .1 .1 .0 (omega arith) i k;
+  more = h .1 .1 .1 .1 .1;
 }
 
 pub div-below : (j a b : ℕ) → 0 < b → j < a * b → j / b < a

@@ -63,13 +63,13 @@ module _ (d : Bool) (rank : ℕ) (lens sizes : List ℕ) (l r out : List ℤ) (p
       front : take (u * 5 - 0) table ≡ take (u * 5) (tableOf d zs ns)
       front = ap (λ k. take k table) (sub-zero (u * 5)) ∙ sym (take-take (u * 5) (rank * 5) table (omega arith)) ∙ ap (take (u * 5)) t
 
-      pub fill-fits : 0 < u → 0 < length out → Fitting (take (u * 5 - 0) table) 0 (length r) (length out)
-      fill-fits b o = by u (omega arith) (omega (arith, length-take-le rank lens (omega (arith, p .high, long)))) tail-is front
+      pub fill-fits : 0 < u → 0 < length r → 0 < length out → Fitting (take (u * 5 - 0) table) 0 (length r) (length out)
+      fill-fits b n o = by u (omega arith) (omega (arith, length-take-le rank lens (omega (arith, p .high, long)))) tail-is front
         where
           by : (v : ℕ) → 0 < v → v ≤ length ns → drop v ns ≡ drop v (sizesOf d zs ns) → take (u * 5 - 0) table ≡ take (v * 5) (tableOf d zs ns)
               → Fitting (take (u * 5 - 0) table) 0 (length r) (length out)
           by zero v w x y = absurd (omega arith)
-          by (suc v) z w x y = rw (y, p .result) (table-fits d v zs ns 0 (length r) same w (omega (arith, p .result)) (omega (arith, p .source)) x)
+          by (suc v) z w x y = rw (y, p .result) (table-fits d v zs ns 0 (length r) same w (omega (arith, p .result)) (omega (arith, p .source)) (omega (arith, p .source)) x)
 
       pub fill-cut : (last : List ℤ) → last ≡ tab (length out) (cutAt (take (u * 5 - 0) table) r 0) → last ≡ tab (length out) (cutAt (tableOf d zs ns) r 0)
       fill-cut last q =

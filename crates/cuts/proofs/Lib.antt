@@ -1,5 +1,6 @@
 pub mod Clearing
 pub mod Cutting
+pub mod Rows
 pub mod Tables
 pub mod Bridges
 pub mod Building

@@ -1,6 +1,6 @@
 -- The table of windows, with its flag open.
 use Prim.Native.Nat.{ℕ, zero, suc, _+_, _*_, _-_, _/_, _%_, _≤_, _<_, min}
-use native.Mathlib.Nat.{mod-lt, div-add-mod', mul-le-mul-right, mul-zero}
+use native.Mathlib.Nat.{mod-lt, div-add-mod', mul-le-mul-right, mul-zero, zero-mul}
 use native.Mathlib.Omega.{arith}
 use mathlib.Core.Path.{_≡_, refl, sym, ap, _∙_}
 use mathlib.Core.List.{List, [], _∷_}
@@ -26,6 +26,10 @@ window-whole false m n h = (refl, (refl, omega arith))
 pub factor-pos : (m c : ℕ) → 0 < m * c → 0 < c
 factor-pos m zero h = absurd (omega (arith, mul-zero m))
 factor-pos m (suc c) h = omega arith
+
+factor-pos-first : (m c : ℕ) → 0 < m * c → 0 < m
+factor-pos-first zero c h = absurd (omega (arith, zero-mul c))
+factor-pos-first (suc m) c h = omega arith
 
 -- Five numbers more.
 five-more : (u : ℕ) → suc u * 5 ≡ suc (suc (suc (suc (suc (u * 5)))))
@@ -91,25 +95,27 @@ module _ (d : Bool) where
       (cut-front u zs ns xs (at + (cond (endOf d z) (n - m) 0 + (i - lead)) * count ns) (j % count ms) (omega arith) e (mod-lt j c)))
 
   pub table-fits : (u : ℕ) (zs : List ℤ) (ns : List ℕ) (at N : ℕ) → length zs ≡ length ns → suc u ≤ length ns → 0 < count (sizesOf d zs ns)
-      → at + count ns ≤ N → drop (suc u) ns ≡ drop (suc u) (sizesOf d zs ns)
+      → 0 < count ns → at + count ns ≤ N → drop (suc u) ns ≡ drop (suc u) (sizesOf d zs ns)
       → Fitting (take (suc u * 5) (tableOf d zs ns)) at N (count (sizesOf d zs ns))
   unfolding tableOf sizesOf count
-  table-fits u [] [] at N l k p h e = absurd (omega arith)
-  table-fits u [] (n ∷ ns) at N l k p h e = absurd (omega arith)
-  table-fits u (z ∷ zs) [] at N l k p h e = absurd (omega arith)
-  table-fits zero (z ∷ zs) (n ∷ ns) at N l k p h e =
+  table-fits u [] [] at N l k p o h e = absurd (omega arith)
+  table-fits u [] (n ∷ ns) at N l k p o h e = absurd (omega arith)
+  table-fits u (z ∷ zs) [] at N l k p o h e = absurd (omega arith)
+  table-fits zero (z ∷ zs) (n ∷ ns) at N l k p o h e =
       let m : ℕ = sizeOf d z n in
-      let w = window-room (endOf d z) m n in (
+      let w = window-room (endOf d z) m n in
+      let taken-some : 0 < min m n = omega (arith, factor-pos-first m (count (sizesOf d zs ns)) p, factor-pos-first n (count ns) o) in (
         factor-pos m (count (sizesOf d zs ns)) p,
         (
           mul-le-mul-right (count (sizesOf d zs ns)) (w .0),
-          (omega (arith, mul-le-mul-right (count ns) (w .1)), ((λ q. ap count e), λ q. absurd (omega (arith, q)))),
+          (omega (arith, mul-le-mul-right (count ns) (w .1)), ((λ q. ap count e), ((λ q. absurd (omega (arith, q))), taken-some))),
         ),
       )
-  table-fits (suc u) (z ∷ zs) (n ∷ ns) at N l k p h e =
+  table-fits (suc u) (z ∷ zs) (n ∷ ns) at N l k p o h e =
       let m : ℕ = sizeOf d z n in
       let w = window-room (endOf d z) m n in
       let from : ℕ = cond (endOf d z) (n - m) 0 in
+      let taken-some : 0 < min m n = omega (arith, factor-pos-first m (count (sizesOf d zs ns)) p, factor-pos-first n (count ns) o) in
       let some : 0 < count (sizesOf d zs ns) = factor-pos m (count (sizesOf d zs ns)) p in
       rw (five-more (suc u)) (
         some,
@@ -119,10 +125,13 @@ module _ (d : Bool) where
             omega (arith, mul-le-mul-right (count ns) (w .1)),
             (
               (λ q. absurd (none zs ns (omega arith) (omega arith) q)),
-              λ q i s.
-                  table-fits u zs ns (at + (from + i) * count ns) N (omega arith) (omega arith) some
-                  (omega (arith, mul-le-mul-right {m = from + i + 1} {n = n} (count ns) (omega (arith, w .1))))
-                  e,
+              (
+                (λ q i s.
+                    table-fits u zs ns (at + (from + i) * count ns) N (omega arith) (omega arith) some (factor-pos n (count ns) o)
+                    (omega (arith, mul-le-mul-right {m = from + i + 1} {n = n} (count ns) (omega (arith, w .1))))
+                    e),
+                taken-some,
+              ),
             ),
           ),
         ),

@@ -2,7 +2,7 @@
 use Prim.Native.Nat.{ℕ, _+_, _*_, _-_, _/_, _%_, _<_, _≤_, min}
 use mathlib.Core.Path.{_≡_}
 use mathlib.Core.List.{List, [], _∷_}
-use mathlib.Core.Bool.{Bool, not, cond, _&&_}
+use mathlib.Core.Bool.{Bool, false, not, cond, _&&_}
 use lib.ListN.{length, getD, take, drop, replicate}
 use lib.Dec.{eqb, leb, ltb}
 use lib.IntN.{ℤ, pos, natAbs}
@@ -83,13 +83,21 @@ Fitting (lead ∷ from ∷ len ∷ step ∷ block ∷ rest) at n m =
     × (((lead + len) * block ≤ m)
     × ((at + (from + len) * step ≤ n)
     × ((length rest ≡ 0 → step ≡ block)
-    × (0 < length rest → (i : ℕ) → i < len → Fitting rest (at + (from + i) * step) n block))))
+    × ((0 < length rest → (i : ℕ) → i < len → Fitting rest (at + (from + i) * step) n block)
+    × (0 < len)))))
 
 -- A buffer of n elements with zeros before `start` and from `stop` on.
 pub record Cleared (start stop n : ℕ) (out : List ℤ) : Type 0 where
   pub long : length out ≡ n
   pub before : take start out ≡ replicate start (pos 0)
   pub after : drop stop out ≡ replicate (n - stop) (pos 0)
+
+-- The same, with zeros between as well unless whole rows come there.
+pub record Blank (whole : Bool) (start stop n : ℕ) (out : List ℤ) : Type 0 where
+  pub long : length out ≡ n
+  pub before : (j : ℕ) → j < start → getD out j (pos 0) ≡ pos 0
+  pub after : (j : ℕ) → stop ≤ j → j < n → getD out j (pos 0) ≡ pos 0
+  pub between : whole ≡ false → (j : ℕ) → j < n → getD out j (pos 0) ≡ pos 0
 
 -- What is known of a cut with elements: one number in l for each of the first `rank` lengths, and neither R nor the result is empty.
 pub record Cut (dropping : Bool) (rank : ℕ) (lens : List ℕ) (l : List ℤ) : Type 0 where

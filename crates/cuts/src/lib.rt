@@ -7,7 +7,7 @@ ghost use Rattle.shape.specs.Shape.{maxRank, count};
 ghost use Rattle.meaning.specs.Array.{tab};
 ghost use Rattle.meaning.specs.Reply.{reply};
 ghost use Rattle.answer.specs.Answer.{lent, Replied};
-ghost use Rattle.cuts.specs.Windows.{numberOf, refusalOf, lengthsOf, sizeOf, endOf, windowOf, sizesOf, tableOf, cutAt, Fitting, Cleared, Cut, Parts};
+ghost use Rattle.cuts.specs.Windows.{numberOf, refusalOf, lengthsOf, sizeOf, endOf, windowOf, sizesOf, tableOf, cutAt, Fitting, Cleared, Blank, Cut, Parts};
 use answer::Answer;
 use shape::Shape;
 
@@ -242,11 +242,16 @@ fn keeps_end(dropping: bool, z: i32) -> bool
     if dropping { !negative } else { negative }
 }
 
-// Fills `out` with what the table's windows leave of `r` from `at` on: the last window is one run, one before it a part for each position.
+// Fills `out` with what the table's windows leave of `r` from `at` on: the last window is one run, the last two are rows, one before them a
+// part for each position.
 fn cut(table: &[usize], at: usize, r: &[i32], out: &mut [i32])
     requires { ⌜ Fitting (now table) at (length (now r)) (length (now out)) ⌝ }
     ensures { λ _. ⌜ now (out .exit) ≡ tab (length (now (out .entry))) (cutAt (now (table .entry)) (now (r .entry)) at) ⌝ }
 {
+    if table.len() == WIDTH + WIDTH {
+        cut_rows(table, at, r, out);
+        return;
+    }
     let block = table[4];
     let step = table[3];
     let len = table[2];
@@ -266,6 +271,44 @@ fn cut(table: &[usize], at: usize, r: &[i32], out: &mut [i32])
         let b = a + block;
         cut(&table[WIDTH..rest], first + i * step, r, &mut out[a..b]);
         i += 1;
+    }
+}
+
+// Two windows: a run of the same length from each row of `r`, all in one loop.
+fn cut_rows(table: &[usize], at: usize, r: &[i32], out: &mut [i32])
+    requires { ⌜ (length (now table) ≡ 10) × Fitting (now table) at (length (now r)) (length (now out)) ⌝ }
+    ensures { λ _. ⌜ now (out .exit) ≡ tab (length (now (out .entry))) (cutAt (now (table .entry)) (now (r .entry)) at) ⌝ }
+{
+    let block = table[4];
+    let step = table[3];
+    let len = table[2];
+    let small = table[9];
+    let width = table[7] * small;
+    let start = table[0] * block;
+    let stop = start + len * block;
+    clear_rows(width == block, start, stop, out);
+    let front = start + table[5] * small;
+    let first = at + table[1] * step + table[6] * small;
+    let mut i = 0;
+    while i < len {
+        let a = first + i * step;
+        let b = a + width;
+        let c = front + i * block;
+        let d = c + width;
+        copying::copy_run(&r[a..b], &mut out[c..d]);
+        i += 1;
+    }
+}
+
+// Zeros wherever no run goes: everywhere, unless each run is a whole row.
+fn clear_rows(whole: bool, start: usize, stop: usize, out: &mut [i32])
+    requires { ⌜ (start ≤ stop) × (stop ≤ length (now out)) ⌝ }
+    ensures { λ _. ⌜ Blank whole start stop (length (now (out .entry))) (now (out .exit)) ⌝ }
+{
+    if whole {
+        clear_outside(start, stop, out);
+    } else {
+        copying::fill_run(0, out);
     }
 }
 

@@ -1,27 +1,36 @@
 -- Rows of a block that are chosen by position, and blocks of them.
-use mathlib.Core.Path.{_≡_, sym, ap, _∙_}
+use mathlib.Core.Path.{_≡_, refl, sym, ap, _∙_}
 use mathlib.Core.List.{List, _++_}
+use mathlib.Core.Bool.{true, false}
 use Prim.Native.Nat.{ℕ, zero, suc, _+_, _-_, _*_, _/_, _%_, _≤_, _<_}
 use native.Mathlib.Nat.{mul-one, div-one, mod-one, add-zero, mod-lt, div-lt-iff-lt-mul, not-suc-le-zero, mul-zero}
 use native.Mathlib.Omega.{arith}
 use lib.Arith.{digits-div, digits-mod, digits-lt}
 use lib.ListN.{length, getD, take, drop}
 use lib.Seq.{getD-take, getD-drop}
-use lib.IntN.{ℤ, pos, _-ℤ_}
+use lib.IntN.{ℤ, pos, negsuc, _-ℤ_}
 use borrow.Rule.Slice.PartMut.{putMid}
 use Rattle.meaning.proofs.Tab.{tab-ext}
-use Rattle.meaning.proofs.Positions.{positionOf, within-lt}
+use Rattle.shape.proofs.Bools.{no-way}
+use Rattle.meaning.specs.Terms.{negative, within}
+use Rattle.meaning.proofs.Positions.{within-lt}
 use Rattle.copying.specs.Runs.{copied}
 use Rattle.copying.proofs.Runs.{filled, put-copied}
 use Rattle.copying.proofs.Parts.{part-filled}
 use Rattle.copying.proofs.Blocks.{source, source-in}
 use Rattle.selects.specs.Chosen.{chosen, Chosen, inBlock}
 
--- The position that is found for a chosen number.
-pub chosen-found : (g : ℤ) (l : List ℤ) (n i x : ℕ) → Chosen g l n → i < length l → x ≡ positionOf (getD l i (pos 0) -ℤ g) n → (x ≡ chosen g l i) × (x < n)
-chosen-found g l n i x h k e =
-    let found : x ≡ chosen g l i = e ∙ rw (h i k) in
-    (found, rw found (within-lt (getD l i (pos 0) -ℤ g) n (h i k)))
+-- A chosen number is a position: from 0 up, and below n.
+pub chosen-up : (g : ℤ) (l : List ℤ) (n i : ℕ) → Chosen g l n → i < length l → negative (getD l i (pos 0) -ℤ g) ≡ false
+unfolding within negative
+chosen-up g l n i h k = up (getD l i (pos 0) -ℤ g) (h i k)
+  where
+    up : (z : ℤ) → within z n ≡ true → negative z ≡ false
+    up (pos m) e = refl
+    up (negsuc m) e = no-way e
+
+pub chosen-found : (g : ℤ) (l : List ℤ) (n i x : ℕ) → Chosen g l n → i < length l → x ≡ chosen g l i → x < n
+chosen-found g l n i x h k e = rw e (within-lt (getD l i (pos 0) -ℤ g) n (h i k))
 
 -- Where rows have one element.
 pub one-row : (r : List ℤ) (φ : ℕ → ℕ) (m : ℕ) (out : List ℤ)

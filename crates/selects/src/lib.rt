@@ -1,13 +1,13 @@
 // Select: chosen positions of one axis.
 ghost use mathlib.Core.Path.{_≡_};
 ghost use mathlib.Core.List.{List, _++_};
-ghost use mathlib.Core.Bool.{true};
+ghost use mathlib.Core.Bool.{true, false};
 ghost use Prim.Native.Nat.{_*_, _≤_, _<_};
 ghost use lib.ListN.{length, getD, set, drop};
-ghost use lib.IntN.{ℤ, pos, _-ℤ_};
-ghost use Rattle.shape.specs.Shape.{maxCount, maxRank, counted, count, goodShape, shapeOf, without};
+ghost use lib.IntN.{ℤ, pos, natAbs, _-ℤ_};
+ghost use Rattle.shape.specs.Shape.{maxCount, maxRank, counted, count, goodShape, shapeOf};
 ghost use Rattle.meaning.specs.Array.{arrayOf, goodForm, build};
-ghost use Rattle.meaning.specs.Terms.{within, every, along};
+ghost use Rattle.meaning.specs.Terms.{negative, within, every, along};
 ghost use Rattle.meaning.specs.Primitives.{select};
 ghost use Rattle.meaning.specs.Reply.{reply};
 ghost use Rattle.copying.proofs.Runs.{filled};
@@ -158,19 +158,29 @@ fn select_block(g: i32, l: &[i32], n: usize, inner: usize, r: &[i32], out: &mut 
     }
 }
 
+// Only the contract speaks of n.
 fn select_line(g: i32, l: &[i32], n: usize, r: &[i32], out: &mut [i32])
     requires { ⌜ Chosen g (now l) n × ((n ≤ length (now r)) × (length (now l) ≤ length (now out))) ⌝ }
     ensures { λ _. ⌜ now (out .exit) ≡ filled (λ i. getD (now (r .entry)) (chosen g (now (l .entry)) i) (pos 0)) (length (now (l .entry))) (now (out .entry)) ⌝ }
 {
     let mut i = 0;
     while i < l.len() {
-        let x = signed::position(l[i], g, n);
+        let x = chosen_at(l[i], g);
         out[i] = r[x];
         i += 1;
     }
 }
 
-// Each row is a run from the middle of R.
+// z less g where that is known to be a position, so that nothing is tested for each element.
+fn chosen_at(z: i32, g: i32) -> usize
+    requires { ⌜ negative (z -ℤ g) ≡ false ⌝ }
+    ensures { λ x. ⌜ x ≡ natAbs (z -ℤ g) ⌝ }
+{
+    let d = z as i64 - g as i64;
+    d as usize
+}
+
+// Each row is a run from the middle of R. Only the contract speaks of n.
 fn select_rows(g: i32, l: &[i32], n: usize, inner: usize, r: &[i32], out: &mut [i32])
     requires { ⌜ Chosen g (now l) n
         × ((n * inner ≤ maxCount)
@@ -181,7 +191,7 @@ fn select_rows(g: i32, l: &[i32], n: usize, inner: usize, r: &[i32], out: &mut [
 {
     let mut q = 0;
     while q < l.len() {
-        let x = signed::position(l[q], g, n);
+        let x = chosen_at(l[q], g);
         let from = x * inner;
         let to = from + inner;
         let at = q * inner;

@@ -58,7 +58,7 @@ part-cut-end c = search needs
 cut-requires : tie.Need-cut-requires
 cut-requires c κs =
     let st = c .before .before .before .before .before .before .before .before in
-    fill-fits (st .args .dropping) (st .args .rank) (st .args .lens) (st .args .sizes) (st .args .l .now) (st .args .r .now) (st .args .out .now) (st .pre) (long st) (c .before .before .before .before .before .cut-axes .result) (c .before .before .before .before .before .cut-axes .ensures .1) _ (c .before .before .before .table-of .ensures) (c .before .before .before .before .before .cut-axes .ensures .0) (omega arith) (omega arith)
+    fill-fits (st .args .dropping) (st .args .rank) (st .args .lens) (st .args .sizes) (st .args .l .now) (st .args .r .now) (st .args .out .now) (st .pre) (long st) (c .before .before .before .before .before .cut-axes .result) (c .before .before .before .before .before .cut-axes .ensures .1) _ (c .before .before .before .table-of .ensures) (c .before .before .before .before .before .cut-axes .ensures .0) (omega arith) (omega arith) (omega arith)
 
 same-length-3 : tie.Need-same-length-3
 same-length-3 c = search needs

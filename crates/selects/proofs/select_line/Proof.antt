@@ -3,19 +3,17 @@ use native.Mathlib.Omega.{arith}
 use mathlib.Core.Path.{_≡_, refl, sym, ap, ap₂, _∙_}
 use Prim.Native.Nat.{_-_, _≤_, _<_}
 use lib.ListN.{length, getD, set, length-set}
-use lib.IntN.{pos, _-ℤ_}
+use lib.IntN.{pos, natAbs, _-ℤ_}
 use Rattle.signed.proofs.Reading.{read32}
-use Rattle.meaning.proofs.Positions.{positionOf}
 use mir.Syntax.{w32}
 use mir.Val.{toZ, ofZ}
 use Rattle.copying.proofs.Runs.{filled, filled-none, filled-one}
 use Rattle.selects.specs.Chosen.{chosen}
-use Rattle.selects.proofs.Rows.{chosen-found}
+use Rattle.selects.proofs.Rows.{chosen-up, chosen-found}
 use Rattle.selects.proofs.select_line.Statement.{statement}
 use Rattle.selects.proofs.select_line.Tie as tie
 use Rattle.selects.proofs.select_line.Reads as reads
 use Rattle.selects.proofs.select_line.Lts as lts
-use Rattle.signed.proofs.position.Reads as position-reads
 
 abbrev Inv-loop : tie.InvT-loop
 Inv-loop g l n r out₀ i₀ out i = (i ≤ length l) × ((length out ≡ length out₀) × (out ≡ filled (λ j. getD r (chosen (toZ w32 g) l j) (pos 0)) i out₀))
@@ -24,30 +22,33 @@ abbrev μ-loop : tie.MeasureT-loop
 μ-loop g l n r out₀ i₀ out i = length l - i
 
 -- The position is the chosen one.
-found : (c : tie.After-position Inv-loop μ-loop)
+found : (c : tie.After-chosen-at Inv-loop μ-loop)
     → let st = c .before .before .before .before in
-    (c .position .result ≡ chosen (toZ w32 (ofZ w32 (st .args .g))) (st .args .l .now) (c .before .before .before .loop .i)) × (c .position .result < st .args .n)
+    (c .chosen-at .result ≡ chosen (toZ w32 (ofZ w32 (st .args .g))) (st .args .l .now) (c .before .before .before .loop .i)) × (c .chosen-at .result < st .args .n)
 found c =
     let st = c .before .before .before .before in
     let i = c .before .before .before .loop .i in
     let g = st .args .g in
     let l = st .args .l .now in
     let e = read32 g (st .fits .g) in
-    let f = chosen-found g l (st .args .n) i (c .position .result) (st .pre .0) (omega arith)
-    (c .position .ensures ∙ ap₂ (λ z y. positionOf (z -ℤ y) (st .args .n)) (read32 (getD l i (pos 0)) (sfits-of (c .before .position-arg .given))) e) in
-    (f .0 ∙ ap (λ G. chosen G l i) (sym e), f .1)
+    let f : c .chosen-at .result ≡ chosen g l i =
+    c .chosen-at .ensures ∙ ap₂ (λ z y. natAbs (z -ℤ y)) (read32 (getD l i (pos 0)) (sfits-of (c .before .chosen-at-arg .given))) e in
+    (f ∙ ap (λ G. chosen G l i) (sym e), chosen-found g l (st .args .n) i (c .chosen-at .result) (st .pre .0) (omega arith) f)
 
 loop-holds : tie.Need-loop-holds Inv-loop μ-loop
 loop-holds c = (omega arith, (refl, filled-none _ _))
 
-mul-position : tie.Need-mul-position Inv-loop μ-loop
-mul-position c = search needs
+mul-chosen-at : tie.Need-mul-chosen-at Inv-loop μ-loop
+mul-chosen-at c = search needs
 
-shared-slice-copy-out-position : tie.Need-shared-slice-copy-out-position Inv-loop μ-loop
-shared-slice-copy-out-position c = search needs
+shared-slice-copy-out-chosen-at : tie.Need-shared-slice-copy-out-chosen-at Inv-loop μ-loop
+shared-slice-copy-out-chosen-at c = search needs
 
-position-requires : tie.Need-position-requires Inv-loop μ-loop
-position-requires c κs = search needs
+chosen-at-requires : tie.Need-chosen-at-requires Inv-loop μ-loop
+chosen-at-requires c κs =
+    let st = c .before .before .before in
+    rw (read32 _ (sfits-of (c .chosen-at-arg .given)), read32 _ (st .fits .g))
+    (chosen-up (st .args .g) (st .args .l .now) (st .args .n) (c .before .before .loop .i) (st .pre .0) (omega arith))
 
 mul-out : tie.Need-mul-out Inv-loop μ-loop
 mul-out c = let f = found c .1 in search needs
@@ -73,7 +74,7 @@ loop-again c =
     let lp = p .before .before .before .loop in
     let st = p .before .before .before .before in
     let r = st .args .r .now in
-    let e : toZ w32 (ofZ w32 (getD r (p .position .result) (pos 0))) ≡ getD r (p .position .result) (pos 0) = read32 _ (sfits-of (c .out .given)) in (
+    let e : toZ w32 (ofZ w32 (getD r (p .chosen-at .result) (pos 0))) ≡ getD r (p .chosen-at .result) (pos 0) = read32 _ (sfits-of (c .out .given)) in (
       omega arith,
       (
         simp length-set (lp .inv .1 .0),
@@ -101,9 +102,9 @@ select-line-spec =
     Inv-loop
     μ-loop
     loop-holds
-    mul-position
-    shared-slice-copy-out-position
-    position-requires
+    mul-chosen-at
+    shared-slice-copy-out-chosen-at
+    chosen-at-requires
     mul-out
     shared-slice-copy-out-out
     mul-t13

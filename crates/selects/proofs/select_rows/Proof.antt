@@ -4,21 +4,19 @@ use mathlib.Core.Path.{_≡_, refl, sym, ap, ap₂, _∙_}
 use Prim.Native.Nat.{_-_, _*_, _≤_, _<_, _+_}
 use lib.ListN.{length, getD}
 use native.Mathlib.Nat.{mul-le-mul-right}
-use lib.IntN.{pos, _-ℤ_}
+use lib.IntN.{pos, natAbs, _-ℤ_}
 use Rattle.signed.proofs.Reading.{read32}
-use Rattle.meaning.proofs.Positions.{positionOf}
 use mir.Syntax.{w32}
 use mir.Val.{toZ, ofZ}
 use Rattle.copying.proofs.Runs.{filled, length-filled}
 use Rattle.selects.specs.Chosen.{chosen, inBlock}
 use Rattle.copying.proofs.Parts.{filled-start}
-use Rattle.selects.proofs.Rows.{chosen-found, row-more}
+use Rattle.selects.proofs.Rows.{chosen-up, chosen-found, row-more}
 use Rattle.selects.proofs.select_rows.Statement.{statement}
 use Rattle.selects.proofs.select_rows.Tie as tie
 use Rattle.selects.proofs.select_rows.Reads as reads
 use Rattle.selects.proofs.select_rows.Lts as lts
 use Rattle.copying.proofs.copy_run.Reads as copy-run-reads
-use Rattle.signed.proofs.position.Reads as position-reads
 
 abbrev Inv-loop : tie.InvT-loop
 Inv-loop g l n inner r out₀ q₀ out q = (q ≤ length l) × ((length out ≡ length out₀) × (out ≡ filled (λ j. getD r (inBlock inner (chosen (toZ w32 g) l) j) (pos 0)) (q * inner) out₀))
@@ -27,42 +25,45 @@ abbrev μ-loop : tie.MeasureT-loop
 μ-loop g l n inner r out₀ q₀ out q = length l - q
 
 -- The position is the chosen one.
-found : (c : tie.After-position Inv-loop μ-loop)
+found : (c : tie.After-chosen-at Inv-loop μ-loop)
     → let st = c .before .before .before .before in
-    (c .position .result ≡ chosen (toZ w32 (ofZ w32 (st .args .g))) (st .args .l .now) (c .before .before .before .loop .q)) × (c .position .result < st .args .n)
+    (c .chosen-at .result ≡ chosen (toZ w32 (ofZ w32 (st .args .g))) (st .args .l .now) (c .before .before .before .loop .q)) × (c .chosen-at .result < st .args .n)
 found c =
     let st = c .before .before .before .before in
     let i = c .before .before .before .loop .q in
     let g = st .args .g in
     let l = st .args .l .now in
     let e = read32 g (st .fits .g) in
-    let f = chosen-found g l (st .args .n) i (c .position .result) (st .pre .0) (omega arith)
-    (c .position .ensures ∙ ap₂ (λ z y. positionOf (z -ℤ y) (st .args .n)) (read32 (getD l i (pos 0)) (sfits-of (c .before .position-arg .given))) e) in
-    (f .0 ∙ ap (λ G. chosen G l i) (sym e), f .1)
+    let f : c .chosen-at .result ≡ chosen g l i =
+    c .chosen-at .ensures ∙ ap₂ (λ z y. natAbs (z -ℤ y)) (read32 (getD l i (pos 0)) (sfits-of (c .before .chosen-at-arg .given))) e in
+    (f ∙ ap (λ G. chosen G l i) (sym e), chosen-found g l (st .args .n) i (c .chosen-at .result) (st .pre .0) (omega arith) f)
 
 -- The row that is read and the row that is written end within both blocks.
-inside : (c : tie.After-position Inv-loop μ-loop)
+inside : (c : tie.After-chosen-at Inv-loop μ-loop)
     → let st = c .before .before .before .before in
-    (c .position .result * st .args .inner + st .args .inner ≤ st .args .n * st .args .inner)
+    (c .chosen-at .result * st .args .inner + st .args .inner ≤ st .args .n * st .args .inner)
     × (c .before .before .before .loop .q * st .args .inner + st .args .inner ≤ length (st .args .l .now) * st .args .inner)
 inside c =
     let st = c .before .before .before .before in
     let f = found c .1 in (
-      omega (arith, mul-le-mul-right {m = c .position .result + 1} {n = st .args .n} (st .args .inner) (omega arith)),
+      omega (arith, mul-le-mul-right {m = c .chosen-at .result + 1} {n = st .args .n} (st .args .inner) (omega arith)),
       omega (arith, mul-le-mul-right {m = c .before .before .before .loop .q + 1} {n = length (st .args .l .now)} (st .args .inner) (omega arith)),
     )
 
 loop-holds : tie.Need-loop-holds Inv-loop μ-loop
 loop-holds c = (omega arith, (refl, filled-start _ (c .args .inner) _))
 
-mul-position : tie.Need-mul-position Inv-loop μ-loop
-mul-position c = search needs
+mul-chosen-at : tie.Need-mul-chosen-at Inv-loop μ-loop
+mul-chosen-at c = search needs
 
-shared-slice-copy-out-position : tie.Need-shared-slice-copy-out-position Inv-loop μ-loop
-shared-slice-copy-out-position c = search needs
+shared-slice-copy-out-chosen-at : tie.Need-shared-slice-copy-out-chosen-at Inv-loop μ-loop
+shared-slice-copy-out-chosen-at c = search needs
 
-position-requires : tie.Need-position-requires Inv-loop μ-loop
-position-requires c κs = search needs
+chosen-at-requires : tie.Need-chosen-at-requires Inv-loop μ-loop
+chosen-at-requires c κs =
+    let st = c .before .before .before in
+    rw (read32 _ (sfits-of (c .chosen-at-arg .given)), read32 _ (st .fits .g))
+    (chosen-up (st .args .g) (st .args .l .now) (st .args .n) (c .before .before .loop .q) (st .pre .0) (omega arith))
 
 mul-from : tie.Need-mul-from Inv-loop μ-loop
 mul-from c = omega (arith, inside c)
@@ -117,7 +118,7 @@ loop-again c =
     let w = st .args .inner in
     let out₀ = st .args .out .now in
     let i = inside p in
-    let e = row-more w (chosen (toZ w32 (ofZ w32 (st .args .g))) (st .args .l .now)) (lp .q) (lp .q * w + w) (p .position .result * w) (p .position .result * w + w) (st .args .r .now) (lp .out) out₀ _
+    let e = row-more w (chosen (toZ w32 (ofZ w32 (st .args .g))) (st .args .l .now)) (lp .q) (lp .q * w + w) (p .chosen-at .result * w) (p .chosen-at .result * w + w) (st .args .r .now) (lp .out) out₀ _
     (lp .inv .1 .1) refl (omega arith) (ap (λ x. x * w) (found p .0)) refl (omega arith) (c .before .copy-run .ensures) in
     (omega arith, (ap length e ∙ length-filled _ ((lp .q + 1) * w) out₀ (omega arith), e))
 
@@ -141,9 +142,9 @@ select-rows-spec =
     Inv-loop
     μ-loop
     loop-holds
-    mul-position
-    shared-slice-copy-out-position
-    position-requires
+    mul-chosen-at
+    shared-slice-copy-out-chosen-at
+    chosen-at-requires
     mul-from
     add-to
     mul-at
