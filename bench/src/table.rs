@@ -1,0 +1,68 @@
+//! The times as tables: a row for each case, and a row for each goal.
+
+use crate::cases::{Beside, Case, Goal};
+use crate::Times;
+
+pub const HEAD: &str = "\
+| primitive | shape | case | elements | kernel ns | Rust ns | copy ns | kernel/copy | kernel/Rust | goals |
+|---|---|---|--:|--:|--:|--:|--:|--:|---|";
+
+pub const GOALS_HEAD: &str = "\
+| goal, on 16,384 elements where nothing else is said | at most | met | worst | where |
+|---|---|--:|--:|---|";
+
+pub fn row(case: &Case, times: &Times) -> String {
+    let an_element = |time: f64| time / times.count as f64;
+    let goals = case.goals.iter().map(|&goal| {
+        let met = if ratio(goal, times) <= goal.most { "met" } else { "**not met**" };
+        format!("{}: {met}", most(goal))
+    });
+    format!(
+        "| {} | {} | {} | {} | {:.3} | {:.3} | {:.3} | {:.2} | {:.2} | {} |",
+        case.primitive,
+        case.shape,
+        case.what,
+        times.count,
+        an_element(times.kernel),
+        an_element(times.rust),
+        an_element(times.copy),
+        times.kernel / times.copy,
+        times.kernel / times.rust,
+        goals.collect::<Vec<_>>().join(", "),
+    )
+}
+
+/// In how many of its cases a goal is met, and the worst of them.
+pub fn goal_row(goal: Goal, timed: &[(Case, Times)]) -> String {
+    let mut held: Vec<(f64, &Case)> = timed
+        .iter()
+        .filter(|(case, _)| case.goals.contains(&goal))
+        .map(|(case, times)| (ratio(goal, times), case))
+        .collect();
+    held.sort_by(|a, b| b.0.total_cmp(&a.0));
+    let met = held.iter().filter(|(ratio, _)| *ratio <= goal.most).count();
+    let (worst, case) = held.first().expect("every goal has a case");
+    format!(
+        "| {} | {} | {met} of {} | {worst:.2} | {}, {}, {} |",
+        goal.name,
+        most(goal),
+        held.len(),
+        case.primitive,
+        case.shape,
+        case.what,
+    )
+}
+
+fn ratio(goal: Goal, times: &Times) -> f64 {
+    match goal.beside {
+        Beside::Copy => times.kernel / times.copy,
+        Beside::Rust => times.kernel / times.rust,
+    }
+}
+
+fn most(goal: Goal) -> String {
+    match goal.beside {
+        Beside::Copy => format!("{} copies", goal.most),
+        Beside::Rust => format!("{} Rust", goal.most),
+    }
+}
