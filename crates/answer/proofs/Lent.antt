@@ -13,15 +13,11 @@ use lib.IntN.{ℤ}
 use Rattle.shape.specs.declared.Shape.{Shape}
 use Rattle.shape.specs.Shape.{maxRank, maxCount, counted, count, goodShape, countOf, shapeRule, shapeOf, madeOf}
 use Rattle.shape.proofs.Bools.{both}
-use Rattle.shape.proofs.Counts.{good-rank, count-good, good-count, bad-count}
+use Rattle.shape.proofs.Counts.{good-rank, count-good, count-of, good-count, bad-count}
 use Rattle.meaning.specs.Array.{arrayOf, goodForm}
 use Rattle.meaning.specs.Terms.{rank, axis}
 use Rattle.meaning.specs.Reply.{isOrigin}
 use Rattle.answer.specs.Answer.{lent, early}
-
-pub count-of : (s : Shape) → goodShape s ≡ true → countOf s ≡ count (counted s)
-unfolding countOf
-count-of s h = rw h
 
 module _ (s : Shape) (b : List ℤ) where
   pub form-bad : maxCount < countOf s → goodForm (lent s b) ≡ false

@@ -1,4 +1,3 @@
 pub mod Order
 pub mod Lent
 pub mod Moved
-pub mod Made

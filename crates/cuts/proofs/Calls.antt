@@ -12,7 +12,7 @@ use lib.Seq.{take-at, length-take-le}
 use lib.IntN.{ℤ, pos}
 use Rattle.shape.specs.declared.Shape.{Shape}
 use Rattle.shape.specs.Shape.{maxRank, maxCount, counted, count, countOf, shapeOf, scalar, shapeRule, madeOf}
-use Rattle.shape.proofs.Counts.{good-count, bad-count}
+use Rattle.shape.proofs.Made.{made-rule, made-no-rule, made-count}
 use Rattle.meaning.specs.Array.{Operand, Array, arrayOf, tab, build}
 use Rattle.meaning.specs.Refusal.{_unless_, number, meets, winner}
 use Rattle.meaning.specs.Refusal.Refusal.{RANK, LENGTH}
@@ -21,7 +21,7 @@ use Rattle.meaning.specs.Primitives.{takes, drops}
 use Rattle.meaning.proofs.Scalars.{scalar-as, array-as}
 use Rattle.meaning.specs.Reply.{Primitive, primitives, named}
 use Rattle.answer.specs.Answer.{lent, ownOrder, own}
-use Rattle.answer.proofs.Lent.{Lent, count-of}
+use Rattle.answer.proofs.Lent.{Lent}
 use Rattle.answer.proofs.Order.{Names}
 use Rattle.cuts.specs.Windows.{numberOf, cutMeaning, refusalOf, lengthsOf, sizesOf, tableOf, cutAt, Parts}
 use Rattle.cuts.proofs.Bridges.{cut-lengths, cut-elements, size-length}
@@ -58,18 +58,15 @@ both-passed true false h = absurd (omega arith)
 both-passed true true h = refl
 
 -- The shape of some lengths: its count tells whether they keep the rule.
-counted-of : (ns : List ℕ) → counted (shapeOf ns) ≡ ns
-counted-of ns = take-at ns _ (length ns) refl
-
 module _ (ns : List ℕ) (n : ℕ) (e : n ≡ countOf (shapeOf ns)) where
   pub rule-broken : maxCount < n → shapeRule (length ns) ns ≡ false
-  rule-broken h = ap (shapeRule (length ns)) (sym (counted-of ns)) ∙ bad-count (shapeOf ns) (omega arith)
+  rule-broken h = made-no-rule ns (omega arith)
 
   pub rule-kept : n ≤ maxCount → shapeRule (length ns) ns ≡ true
-  rule-kept h = ap (shapeRule (length ns)) (sym (counted-of ns)) ∙ good-count (shapeOf ns) (omega arith)
+  rule-kept h = made-rule ns (omega arith)
 
   pub count-kept : n ≤ maxCount → n ≡ count ns
-  count-kept h = e ∙ count-of (shapeOf ns) (good-count (shapeOf ns) (omega arith)) ∙ ap count (counted-of ns)
+  count-kept h = e ∙ made-count ns (omega arith)
 
 -- A scalar has as many axes as are asked for.
 rank-as : (n : ℕ) (a : Array) → eqb n (rank (asRank n a)) ≡ cond (eqb (rank a) 0) true (eqb n (rank a))

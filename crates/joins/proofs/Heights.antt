@@ -18,7 +18,7 @@ use Rattle.meaning.specs.Terms.{rank, axis}
 use Rattle.meaning.specs.Primitives.{side, higher, ranksFit}
 use Rattle.meaning.proofs.Sides.{higher-left, higher-right, higher-scalars, Beside, fit, side-extent}
 use Rattle.answer.specs.Answer.{lent}
-use Rattle.answer.proofs.Made.{made-counted}
+use Rattle.shape.proofs.Made.{made-counted}
 use Rattle.joins.specs.Joined.{higherShape, extentOf}
 
 pub ranks-fit-is : (L R : Array) → ranksFit L R ≡ fit (rank L) (rank R)

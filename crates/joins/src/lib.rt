@@ -53,18 +53,9 @@ pub fn catenate(
     }
     let m = ls.count();
     let n = rs.count();
-    join_into(
-        ls.rank == 0,
-        a,
-        &l[0..m],
-        rs.rank == 0,
-        b,
-        &r[0..n],
-        hs,
-        axis,
-        total,
-        out,
-    );
+    let x = ls.rank == 0;
+    let y = rs.rank == 0;
+    join_into(x, a, &l[0..m], y, b, &r[0..n], hs, axis, total, out);
     Answer { number: 0, shape }
 }
 

@@ -12,6 +12,7 @@ use lib.IntN.{ℤ}
 use Rattle.shape.specs.Shape.{maxRank, maxCount, counted, count, small, shapeRule, goodShape, shapeOf}
 use Rattle.shape.proofs.Bools.{both}
 use Rattle.shape.proofs.Rule.{rule-rank}
+use Rattle.shape.proofs.Made.{made-counted}
 use Rattle.meaning.specs.Array.{Operand, Array, arrayOf, goodForm, build}
 use Rattle.meaning.specs.Terms.{rank}
 use Rattle.meaning.specs.Primitives.{Meaning}
@@ -25,9 +26,6 @@ abbrev pub result : Meaning → Array
 result m = build (m .lengths) (m .element)
 
 -- The lengths of a shape that is made for a result.
-pub counted-of : (ns : List ℕ) → counted (shapeOf ns) ≡ ns
-counted-of ns = take-at ns _ (length ns) refl
-
 -- What is known of an operand of good form.
 pub form-shape : (r : Operand) → goodForm r ≡ true → goodShape (r .shape) ≡ true
 unfolding goodForm
@@ -61,7 +59,7 @@ module _ (y : Reply) (ns : List ℕ) (xs out : List ℤ) (e : y ≡ record { num
   given-array : arrayOf (given y) ≡ record { lengths = ns; elements = xs }
   given-array =
       ap (λ a. arrayOf (given a)) e
-      ∙ ap₂ (λ l c. record { lengths = l; elements = take c (xs ++ drop (count ns) out) }) (counted-of ns) (ap count (counted-of ns))
+      ∙ ap₂ (λ l c. record { lengths = l; elements = take c (xs ++ drop (count ns) out) }) (made-counted ns) (ap count (made-counted ns))
       ∙ ap (λ v. record { lengths = ns; elements = v }) (take-at xs (drop (count ns) out) (count ns) w)
 
   long : length (ns ++ replicate {A = ℕ} (maxRank - length ns) 0) ≡ maxRank
@@ -72,7 +70,7 @@ module _ (y : Reply) (ns : List ℕ) (xs out : List ℤ) (e : y ≡ record { num
   given-good = rw e (record {
     lengths = long;
     form =
-        rw (counted-of ns, h)
+        rw (made-counted ns, h)
         (le-leb (count ns) (length (xs ++ drop (count ns) out)) (rw (length-append xs (drop (count ns) out)) (omega (arith, w))));
   })
 

@@ -5,7 +5,6 @@ pub mod Opened
 pub mod Repeated
 pub mod Uses
 pub mod Placing
-pub mod Every
 pub mod Results
 pub mod Lined
 pub mod Compressing

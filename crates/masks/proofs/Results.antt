@@ -6,13 +6,13 @@ use Prim.Native.Nat.{ℕ, _-_, _≤_, _<_}
 use native.Mathlib.Nat.{sub-zero}
 use native.Mathlib.Omega.{arith}
 use borrow.Author.Tests.{le-leb, eq-eqb, ne-eqb, eqb-true, eqb-false}
-use lib.ListN.{length, getD, take, set}
-use lib.Seq.{take-at, take-set-lt, length-take-le, getD-take}
+use lib.ListN.{length, getD, take}
+use lib.Seq.{length-take-le, getD-take}
 use lib.Dec.{eqb}
 use lib.IntN.{ℤ, natAbs, _-ℤ_}
 use Rattle.shape.specs.declared.Shape.{Shape}
-use Rattle.shape.specs.Shape.{maxRank, maxCount, counted, count, small, shapeRule, goodShape, countOf, shapeOf, madeOf}
-use Rattle.shape.proofs.Counts.{good-count, bad-count}
+use Rattle.shape.specs.Shape.{maxRank, maxCount, counted, count, small, shapeRule, countOf, shapeOf}
+use Rattle.shape.proofs.Made.{made-rule, made-no-rule, made-count}
 use Rattle.shape.proofs.Bools.{and-true}
 use Rattle.meaning.specs.Array.{arrayOf, goodForm}
 use Rattle.meaning.specs.Terms.{asVector, within}
@@ -20,11 +20,8 @@ use Rattle.meaning.proofs.Positions.{positionOf, position-lt, position-none, wi
 use Rattle.meaning.specs.Primitives.{Meaning}
 use Rattle.meaning.proofs.Scalars.{scalar-as, array-as}
 use Rattle.answer.specs.Answer.{lent}
-use Rattle.answer.proofs.Lent.{Lent, lent-good, count-of, form-by}
+use Rattle.answer.proofs.Lent.{Lent, lent-good, form-by}
 use Rattle.masks.specs.Vector.{vectorShape}
-
-pub set-made : (rank : ℕ) (lens : List ℕ) (k m : ℕ) → rank ≤ maxRank → k < rank → madeOf rank (set lens k m) ≡ shapeOf (set (take rank lens) k m)
-set-made rank lens k m h l = rw (le-leb rank maxRank h) (ap shapeOf (take-set-lt rank lens k m l))
 
 pub scalar-vector : (s : Shape) → s .rank ≡ 0 → shapeOf (1 ∷ []) ≡ vectorShape s
 unfolding vectorShape
@@ -37,23 +34,9 @@ pub array-vector : (s : Shape) → (s .rank ≡ 0 → ⊥) → s ≡ vectorShape
 unfolding vectorShape
 array-vector s h = ap (λ b. cond b (shapeOf (1 ∷ [])) s) (sym (ne-eqb (s .rank) 0 h))
 
--- A result's shape, by its lengths.
-module _ (ns : List ℕ) where
-  pub counted-of : counted (shapeOf ns) ≡ ns
-  counted-of = take-at ns _ (length ns) refl
-
-  pub good-of : goodShape (shapeOf ns) ≡ shapeRule (length ns) ns
-  good-of = ap (shapeRule (length ns)) counted-of
-
-  module _ (total : ℕ) (e : total ≡ countOf (shapeOf ns)) where
-    pub result-rule : total ≤ maxCount → shapeRule (length ns) ns ≡ true
-    result-rule h = sym good-of ∙ good-count (shapeOf ns) (omega arith)
-
-    pub result-no-rule : maxCount < total → shapeRule (length ns) ns ≡ false
-    result-no-rule h = sym good-of ∙ bad-count (shapeOf ns) (omega arith)
-
-    pub result-count : total ≤ maxCount → count ns ≡ total
-    result-count h = sym (e ∙ count-of (shapeOf ns) (good-count (shapeOf ns) (omega arith)) ∙ ap count counted-of)
+-- A result's count, by its lengths.
+pub result-count : (ns : List ℕ) (total : ℕ) → total ≡ countOf (shapeOf ns) → total ≤ maxCount → count ns ≡ total
+result-count ns total e h = sym (e ∙ made-count ns (omega arith))
 
 -- A scalar read as a vector of one.
 module _ (s : Shape) where
@@ -155,10 +138,10 @@ module _ {G K : ℤ} {ls rs : Shape} {l r : List ℤ} {s : Shape} {p : ℕ} (d :
 -- LIMIT and SPACE, of a meaning whose lengths are ns.
 module _ (y : Meaning) (ns : List ℕ) (e : ns ≡ y .lengths) (total : ℕ) (t : total ≡ countOf (shapeOf ns)) where
   pub given-limit : maxCount < total → shapeRule (length (y .lengths)) (y .lengths) ≡ false
-  given-limit h = ap (λ x. shapeRule (length x) x) (sym e) ∙ result-no-rule ns total t h
+  given-limit h = ap (λ x. shapeRule (length x) x) (sym e) ∙ made-no-rule ns (omega arith)
 
   pub given-rule : total ≤ maxCount → shapeRule (length (y .lengths)) (y .lengths) ≡ true
-  given-rule h = ap (λ x. shapeRule (length x) x) (sym e) ∙ result-rule ns total t h
+  given-rule h = ap (λ x. shapeRule (length x) x) (sym e) ∙ made-rule ns (omega arith)
 
   pub given-count : total ≤ maxCount → count (y .lengths) ≡ total
   given-count h = ap count (sym e) ∙ result-count ns total t h

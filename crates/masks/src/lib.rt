@@ -30,16 +30,6 @@ fn as_vector(s: Shape) -> Shape
     s
 }
 
-// The shape with m positions on axis k.
-fn with_length(s: Shape, k: usize, m: usize) -> Shape
-    requires { ⌜ (s .rank ≤ maxRank) × (k < s .rank) ⌝ }
-    ensures { λ t. ⌜ t ≡ shapeOf (set (counted s) k m) ⌝ }
-{
-    let mut lens = s.lens;
-    lens[k] = m;
-    Shape::of_lengths(s.rank, lens)
-}
-
 fn all_bits(l: &[i32]) -> bool
     ensures { λ b. ⌜ b ≡ every isBit (now (l .entry)) ⌝ }
 {
@@ -325,7 +315,7 @@ fn masked(
     let at = signed::position(k, g, s.rank);
     let c = ls.count();
     let m = width_of(expands, &l[0..c], s.lens[at]);
-    let shape = with_length(s, at, m);
+    let shape = s.with_length(at, m);
     let total = shape.count();
     if Shape::MAX_COUNT < total {
         return Answer::refused(9);

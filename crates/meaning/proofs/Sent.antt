@@ -8,13 +8,14 @@ use native.Mathlib.Omega.{arith}
 use borrow.Author.Tests.{eq-eqb, ne-eqb, eqb-true}
 use lib.Dec.{eqb}
 use lib.ListN.{length, getD}
-use Rattle.shape.proofs.Bools.{both, no-way}
+use Rattle.shape.proofs.Bools.{no-way}
 use Rattle.shape.proofs.Places.{In}
 use Rattle.shape.proofs.Axis.{in-at, in-from}
 use Rattle.meaning.specs.Array.{tab}
 use Rattle.meaning.specs.Terms.{every}
 use Rattle.meaning.specs.Primitives.{sentTo, smallest, axesTo, sentLengths, broughtBack, allOccur}
 use Rattle.meaning.proofs.Tab.{length-tab, getD-tab}
+use Rattle.meaning.proofs.Every.{every-at}
 
 pub length-back : (ts q : List ℕ) → length (broughtBack ts q) ≡ length ts
 unfolding broughtBack
@@ -107,12 +108,6 @@ pub every-from : {A : Type 0} (test : A → Bool) (xs : List A) (d : A) → ((i 
 unfolding every
 every-from test [] d h = refl
 every-from test (x ∷ xs) d h = rw (h 0 (omega arith)) (every-from test xs d (λ i l. h (suc i) (omega arith)))
-
-pub every-at : {A : Type 0} (test : A → Bool) (xs : List A) (d : A) → every test xs ≡ true → (i : ℕ) → i < length xs → test (getD xs i d) ≡ true
-unfolding every
-every-at test [] d h i l = absurd (not-suc-le-zero l)
-every-at test (x ∷ xs) d h zero l = both (test x) (every test xs) h .0
-every-at test (x ∷ xs) d h (suc i) l = every-at test xs d (both (test x) (every test xs) h .1) i (le-of-suc-le-suc l)
 
 -- An axis is sent to each of the result's: the test and the fact.
 abbrev pub Occur : List ℕ → Type 0

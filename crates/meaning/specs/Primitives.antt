@@ -1,5 +1,6 @@
 -- Paper 01, "The primitives", in its order: when each refuses, the lengths of its result, and the element at each place.
 -- FORM, ORIGIN, LIMIT and SPACE are the same for all and stand in Reply. A type shows what a primitive looks at: G is the origin, K the axis number.
+-- k means K - G, the axis counted from zero: a difference of whole numbers, which never wraps.
 use Prim.Native.Nat.{ℕ, zero, suc, _+_, _-_, _%_, min, max}
 use mathlib.Core.List.{List, [], _∷_, map}
 use mathlib.Core.Bool.{Bool, true, false, not, cond, _&&_, _||_}
@@ -35,7 +36,8 @@ ravel R = record {
   element = λ p. getD (R .elements) (getD p 0 0) (pos 0);
 }
 
--- 13 interval: R is a list (else RANK) of one element (else LENGTH); N below 0 is DOMAIN; result G to G + N - 1.
+-- 13 interval: R is a list (else RANK) of one element (else LENGTH); N below 0 is DOMAIN, above the largest count LIMIT by the shape rule; result
+-- G to G + N - 1.
 unfoldable pub interval : ℤ → Array → Meaning
 interval G R =
     let N : ℤ = getD (R .elements) 0 (pos 0) in
@@ -95,7 +97,8 @@ transpose R =
       element = λ p. at R (broughtBack ts p);
     }
 
--- 21 reshape: L is a list of lengths; below 0 is DOMAIN. Element i is R's element i mod count(R); from an empty R, zeros.
+-- 21 reshape: L is a list of lengths; below 0 is DOMAIN; more of them than the largest rank is LIMIT by the shape rule. Element i is R's element i mod
+-- count(R); from an empty R into a result with elements, zeros.
 unfoldable pub reshape : Array → Array → Meaning
 reshape L R =
     let ns : List ℕ = map natAbs (L .elements) in
@@ -157,8 +160,8 @@ takenPlace (z ∷ zs) (n ∷ ns) (i ∷ p) = takenFrom z n i ∷ takenPlace zs n
 unfoldable pub atOrZero : Array → List ℤ → ℤ
 atOrZero a q = cond (every (λ z. not (negative z)) q && inside (a .lengths) (map natAbs q)) (at a (map natAbs q)) (pos 0)
 
--- 23 take: L is a list with one number for each axis of R, else LENGTH; a scalar R is first read as an array of that many lengths of 1.
--- The result length is the size of the number without its sign.
+-- 23 take: L is a list with one number for each axis of R, else LENGTH; a scalar R is first read as an array of that many lengths of 1
+-- (above the largest rank is LIMIT by the shape rule). The result length is the size of the number without its sign.
 unfoldable pub takes : Array → Array → Meaning
 takes L R =
     let r : Array = asRank (length (L .elements)) R in

@@ -75,6 +75,10 @@ module _ (s : Shape) where
       let u = both (small (counted s)) _ (t .1) in
       rw e (leb-true _ _ (u .1))
 
+  pub count-of : goodShape s ≡ true → countOf s ≡ count (counted s)
+  unfolding countOf
+  count-of e = rw e
+
   pub count-bad : goodShape s ≡ false → countOf s ≡ suc maxCount
   unfolding countOf
   count-bad e = rw e

@@ -1,17 +1,35 @@
--- The shape that is made of lengths.
-use mathlib.Core.Path.{_≡_, refl, ap}
+-- The shape that is made of lengths, and the shape rule by its count.
+use mathlib.Core.Path.{_≡_, refl, sym, ap, _∙_}
 use mathlib.Core.List.{List}
 use Prim.Native.Nat.{ℕ, _≤_, _<_}
-use mathlib.Core.Bool.{_&&_, cond}
+use mathlib.Core.Bool.{true, false, _&&_, cond}
 use borrow.Author.Tests.{le-leb, lt-leb, lt-ltb, le-ltb}
-use lib.ListN.{take, set}
+use lib.ListN.{length, take, set}
+use lib.Seq.{take-at}
 use lib.Dec.{leb, ltb}
 use Rattle.shape.specs.declared.Shape.{Shape}
-use Rattle.shape.specs.Shape.{maxRank, counted, scalar, shapeOf, madeOf, withLength}
+use Rattle.shape.specs.Shape.{maxRank, maxCount, counted, count, countOf, goodShape, scalar, shapeOf, shapeRule, madeOf, withLength}
+use Rattle.shape.proofs.Counts.{good-count, bad-count, count-of}
 
 -- What of_lengths makes, where the first lengths are ns.
 pub made-is : (ns : List ℕ) (r : ℕ) (lens : List ℕ) → r ≤ maxRank → take r lens ≡ ns → madeOf r lens ≡ shapeOf ns
 made-is ns r lens h e = rw (le-leb r maxRank h) (ap shapeOf e)
+
+module _ (ns : List ℕ) where
+  pub made-counted : counted (shapeOf ns) ≡ ns
+  made-counted = take-at ns _ (length ns) refl
+
+  made-good : goodShape (shapeOf ns) ≡ shapeRule (length ns) ns
+  made-good = ap (shapeRule (length ns)) made-counted
+
+  pub made-rule : countOf (shapeOf ns) ≤ maxCount → shapeRule (length ns) ns ≡ true
+  made-rule h = sym made-good ∙ good-count (shapeOf ns) h
+
+  pub made-no-rule : maxCount < countOf (shapeOf ns) → shapeRule (length ns) ns ≡ false
+  made-no-rule h = sym made-good ∙ bad-count (shapeOf ns) h
+
+  pub made-count : countOf (shapeOf ns) ≤ maxCount → countOf (shapeOf ns) ≡ count ns
+  made-count h = count-of (shapeOf ns) (good-count (shapeOf ns) h) ∙ ap count made-counted
 
 -- Another length of axis k, where there is such an axis and where there is none.
 module _ (s : Shape) (k n : ℕ) where

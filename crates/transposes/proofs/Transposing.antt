@@ -14,7 +14,8 @@ use Rattle.shape.specs.declared.Shape.{Shape}
 use Rattle.shape.specs.Shape.{maxRank, maxCount, counted, count, countOf, goodShape, shapeRule, shapeOf, small, madeOf}
 use Rattle.shape.proofs.Bools.{both, refuted, no-way, and-true}
 use Rattle.shape.proofs.Rule.{rule-small}
-use Rattle.shape.proofs.Counts.{good-count, count-good}
+use Rattle.shape.proofs.Counts.{good-count, count-good, count-of}
+use Rattle.shape.proofs.Made.{made-counted}
 use Rattle.meaning.specs.Array.{Operand, Array, arrayOf, at, build, goodForm}
 use Rattle.meaning.specs.Refusal.{number, meets, winner}
 use Rattle.meaning.specs.Terms.{rank, eqZ, within, every}
@@ -24,7 +25,7 @@ use Rattle.meaning.proofs.Positions.{within-lt, position-lt}
 use Rattle.meaning.proofs.Sent.{axes-lt, axes-le, sent-has, Occur, all-occur, occur-all}
 use Rattle.answer.specs.declared.Answer.{Answer}
 use Rattle.answer.specs.Answer.{lent, ownOrder, own, Replied}
-use Rattle.answer.proofs.Lent.{Lent, count-of}
+use Rattle.answer.proofs.Lent.{Lent}
 use Rattle.answer.proofs.Order.{Names, earlyOf, space-reply, given-reply}
 use Rattle.transposes.specs.Strides.{shortest}
 use Rattle.transposes.specs.Sent.{padded, axisOf, Chosen, Sends, Moves, sentReply}
@@ -58,8 +59,8 @@ module _ (ts : List ℕ) (rs : Shape) (r : List ℤ) (form : goodForm (lent rs r
   made : s ≡ shapeOf (take (axesTo ts) (shortest maxRank ts (counted rs)))
   made = t ∙ rw (le-leb (axesTo ts) maxRank (omega (arith, g .high)), q)
 
-  made-counted : counted s ≡ take (axesTo ts) (shortest maxRank ts (counted rs))
-  made-counted = ap counted made ∙ take-at (take (axesTo ts) (shortest maxRank ts (counted rs))) _ _ refl
+  sent-counted : counted s ≡ take (axesTo ts) (shortest maxRank ts (counted rs))
+  sent-counted = ap counted made ∙ made-counted (take (axesTo ts) (shortest maxRank ts (counted rs)))
 
   small-lens : small (counted rs) ≡ true
   small-lens = rule-small (rs .rank) (counted rs) (g .good)
@@ -72,14 +73,14 @@ module _ (ts : List ℕ) (rs : Shape) (r : List ℤ) (form : goodForm (lent rs r
     found = lengths-found ts (counted rs) same-rank small-lens o maxRank (omega (arith, g .high))
 
     sent-good : goodShape s ≡ true
-    sent-good = ap₂ shapeRule (ap (λ x. x .rank) made ∙ ap length found) (made-counted ∙ found) ∙ sent-rule
+    sent-good = ap₂ shapeRule (ap (λ x. x .rank) made ∙ ap length found) (sent-counted ∙ found) ∙ sent-rule
 
     pub sent-moves : (n : ℕ) → n ≡ countOf s → Moves ts s n (lent rs r)
     sent-moves n c = record {
       form = form;
       sends = record { high = g .high; below = few };
       shape-is = made ∙ ap shapeOf found;
-      count-is = c ∙ count-of s sent-good ∙ ap count (made-counted ∙ found);
+      count-is = c ∙ count-of s sent-good ∙ ap count (sent-counted ∙ found);
     }
 
   -- It is good exactly if an axis is sent to each of them.
@@ -91,7 +92,7 @@ module _ (ts : List ℕ) (rs : Shape) (r : List ℤ) (form : goodForm (lent rs r
       by (no p) =
           no-way
           (sym (lengths-missing ts (counted rs) same-rank small-lens maxRank j (omega (arith, g .high)) l (omega arith))
-          ∙ ap small (sym made-counted)
+          ∙ ap small (sym sent-counted)
           ∙ rule-small (s .rank) (counted s) (good-count s h))
 
   pub bad-occur : maxCount < countOf s → allOccur ts ≡ false

@@ -150,9 +150,9 @@ fn reverse_rows(r: &[i32], n: usize, inner: usize, out: &mut [i32])
     let mut to = 0;
     let mut i = n;
     while 0 < i {
-        let stop = i * inner;
         i -= 1;
         let from = i * inner;
+        let stop = from + inner;
         let end = to + inner;
         copying::copy_run(&r[from..stop], &mut out[to..end]);
         to = end;

@@ -2,7 +2,6 @@ pub mod Vector
 pub mod Lengths
 pub mod Ravelling
 pub mod Counting
-pub mod Every
 pub mod Made
 pub mod Cycling
 pub mod Reshaping

@@ -1,32 +1,15 @@
--- A shape that is made of a result's lengths, and the shape rule by its count.
-use mathlib.Core.Path.{_≡_, refl, sym, ap, ap₂, _∙_}
+-- The shape of the lengths in L.
+use mathlib.Core.Path.{_≡_, ap, ap₂, _∙_}
 use mathlib.Core.List.{List, _++_}
-use mathlib.Core.Bool.{true, false}
-use Prim.Native.Nat.{ℕ, _-_, _≤_, _<_}
+use mathlib.Core.Bool.{false}
+use Prim.Native.Nat.{ℕ, _-_, _<_}
 use borrow.Author.Tests.{lt-leb}
 use lib.ListN.{length, take, replicate}
-use lib.Seq.{take-at, take-length}
+use lib.Seq.{take-length}
 use Rattle.shape.specs.declared.Shape.{Shape}
-use Rattle.shape.specs.Shape.{maxRank, maxCount, counted, count, countOf, goodShape, shapeOf, shapeRule}
-use Rattle.shape.proofs.Counts.{good-count, bad-count}
-use Rattle.answer.proofs.Lent.{count-of}
+use Rattle.shape.specs.Shape.{maxRank, shapeOf, shapeRule}
 
 module _ (ns : List ℕ) where
-  pub made-counted : counted (shapeOf ns) ≡ ns
-  made-counted = take-at ns _ (length ns) refl
-
-  made-good : goodShape (shapeOf ns) ≡ shapeRule (length ns) ns
-  made-good = ap (shapeRule (length ns)) made-counted
-
-  pub made-rule : countOf (shapeOf ns) ≤ maxCount → shapeRule (length ns) ns ≡ true
-  made-rule h = sym made-good ∙ good-count (shapeOf ns) h
-
-  pub made-no-rule : maxCount < countOf (shapeOf ns) → shapeRule (length ns) ns ≡ false
-  made-no-rule h = sym made-good ∙ bad-count (shapeOf ns) h
-
-  pub made-count : countOf (shapeOf ns) ≤ maxCount → countOf (shapeOf ns) ≡ count ns
-  made-count h = count-of (shapeOf ns) (good-count (shapeOf ns) h) ∙ ap count made-counted
-
   -- More lengths than a shape has.
   pub many-no-rule : maxRank < length ns → shapeRule (length ns) ns ≡ false
   unfolding shapeRule

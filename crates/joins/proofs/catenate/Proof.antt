@@ -15,7 +15,6 @@ use Rattle.meaning.proofs.Positions.{positionOf}
 use Rattle.answer.specs.Answer.{lent, early, own}
 use Rattle.answer.proofs.Order.{Names, early-reply, own-reply, limit-reply, space-reply, given-reply, replied-refused, replied-given}
 use Rattle.answer.proofs.Lent.{Lent, lent-good, early-fine}
-use Rattle.answer.proofs.Made.{made-rule, made-no-rule, made-count}
 use Rattle.joins.proofs.Heights.{high-is}
 use Rattle.joins.proofs.Joining.{catenating, catenate-names, Joins, catenate-fits}
 use Rattle.joins.proofs.Catenating.{height, axis-in, extents-small, lengths-are, left-room, right-room, catenate-out}
@@ -30,7 +29,7 @@ use Rattle.joins.proofs.extent.Reads as extent-reads
 use Rattle.joins.proofs.higher.Reads as higher-reads
 use Rattle.joins.proofs.join_into.Reads as join-into-reads
 use Rattle.shape.proofs.Shape.count.Reads as count-reads
-use Rattle.shape.proofs.Made.{with-length-is}
+use Rattle.shape.proofs.Made.{made-rule, made-no-rule, made-count, with-length-is}
 use Rattle.shape.proofs.Shape.with_length.Reads as with-length-reads
 use Rattle.signed.proofs.position.Reads as position-reads
 
@@ -217,8 +216,8 @@ part-join-into-start c = search needs
 
 part-join-into-end : tie.Need-part-join-into-end
 part-join-into-end c =
-    let g = good-left (c .before .before .before .before .before .before .before .before .before .before .before .before .before) in
-    omega (arith, g .room, g .count-is, c .before .before .count2 .ensures)
+    let g = good-left (c .before .before .before .before .before .before .before .before .before .before .before .before .before .before) in
+    omega (arith, g .room, g .count-is, c .before .before .before .count2 .ensures)
 
 sub-join-into-2 : tie.Need-sub-join-into-2
 sub-join-into-2 c = search needs

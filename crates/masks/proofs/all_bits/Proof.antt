@@ -1,13 +1,12 @@
 use native.Mathlib.Omega.{arith}
 use Prim.Native.Nat.{_-_, _≤_}
-use mathlib.Core.Path.{_≡_, sym, ap, _∙_}
-use mathlib.Core.Bool.{true}
+use mathlib.Core.Path.{_≡_, refl, sym, ap, _∙_}
 use lib.IntN.{pos}
-use lib.ListN.{length, getD, take}
+use lib.ListN.{length, getD, drop}
 use borrow.Author.Needs.{needs, sfits-of}
 use Rattle.meaning.specs.Terms.{every, isBit}
 use Rattle.signed.proofs.Reading.{read32}
-use Rattle.masks.proofs.Every.{every-none, every-more, every-all, every-not}
+use Rattle.meaning.proofs.Every.{every-next, every-stop, every-end}
 use Rattle.masks.proofs.all_bits.Statement.{statement}
 use Rattle.masks.proofs.all_bits.Tie as tie
 use Rattle.masks.proofs.all_bits.Reads as reads
@@ -15,7 +14,7 @@ use Rattle.masks.proofs.all_bits.Lts as lts
 use Rattle.signed.proofs.is_bit.Reads as is-bit-reads
 
 abbrev Inv-loop : tie.InvT-loop
-Inv-loop l i₀ i = (i ≤ length l) × (every isBit (take i l) ≡ true)
+Inv-loop l i₀ i = (i ≤ length l) × (every isBit l ≡ every isBit (drop i l))
 
 abbrev μ-loop : tie.MeasureT-loop
 μ-loop l i₀ i = length l - i
@@ -25,7 +24,7 @@ test c = c .is-bit .ensures ∙ ap isBit (read32 (getD (c .before .before .befor
 
 -- src/lib.rt:48:5
 loop-holds : tie.Need-loop-holds Inv-loop μ-loop
-loop-holds c = (omega arith, every-none isBit (pos 0) (c .args .l .now))
+loop-holds c = (omega arith, refl)
 
 -- src/lib.rt:49:27
 mul-is-bit : tie.Need-mul-is-bit Inv-loop μ-loop
@@ -52,19 +51,19 @@ loop-again : tie.Need-loop-again Inv-loop μ-loop
 loop-again c =
     let lp = c .before .before .before .before .loop in
     let l = c .before .before .before .before .before .args .l .now in
-    (omega arith, every-more isBit (pos 0) l (lp .i) (omega arith) (lp .inv .1) (sym (test (c .before)) ∙ c .if1 .taken))
+    (omega arith, lp .inv .1 ∙ every-next isBit l (lp .i) (pos 0) (omega arith) (sym (test (c .before)) ∙ c .if1 .taken))
 
 -- src/lib.rt:52:13
 returns : tie.Need-returns Inv-loop μ-loop
 returns c =
     let lp = c .before .before .before .before .loop in
     let l = c .before .before .before .before .before .args .l .now in
-    sym (every-not isBit (pos 0) l (lp .i) (omega arith) (sym (test (c .before)) ∙ c .if1 .left))
+    sym (lp .inv .1 ∙ every-stop isBit l (lp .i) (pos 0) (omega arith) (sym (test (c .before)) ∙ c .if1 .left))
 
 -- src/lib.rt:44:1
 returns-2 : tie.Need-returns-2 Inv-loop μ-loop
 returns-2 c =
-    sym (every-all isBit (pos 0) (c .before .before .args .l .now) (c .before .loop .i) (omega arith) (c .before .loop .inv .1))
+    sym (c .before .loop .inv .1 ∙ every-end isBit (c .before .before .args .l .now) (c .before .loop .i) (omega arith))
 
 pub all-bits-spec : {M : Type 1} → statement M
 all-bits-spec =

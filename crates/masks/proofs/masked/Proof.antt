@@ -29,7 +29,8 @@ use Rattle.masks.proofs.as_vector.Reads as as-vector-reads
 use Rattle.masks.proofs.mask_into.Reads as mask-into-reads
 use Rattle.masks.proofs.mask_refusal.Reads as mask-refusal-reads
 use Rattle.masks.proofs.width_of.Reads as width-of-reads
-use Rattle.masks.proofs.with_length.Reads as with-length-reads
+use Rattle.shape.proofs.Made.{with-length-is}
+use Rattle.shape.proofs.Shape.with_length.Reads as with-length-reads
 use Rattle.shape.proofs.Shape.count.Reads as count-reads
 use Rattle.signed.proofs.position.Reads as position-reads
 
@@ -131,8 +132,11 @@ lengths-is c =
     let p = at-axis c in
     masking-lengths (call p) _ (c .before .before .before .before .before .count .ensures) _ (none p) _ (c .before .before .width-of .ensures)
 
+shape-is : (c : tie.After-count2) → c .before .with-length .result ≡ shapeOf (lengths c)
+shape-is c = let p = at-axis c in c .before .with-length .ensures ∙ with-length-is (p .before .as-vector .result) (p .position .result) _ (high p) (has p)
+
 total-is : (c : tie.After-count2) → c .count2 .result ≡ countOf (shapeOf (lengths c))
-total-is c = c .count2 .ensures ∙ ap countOf (c .before .with-length .ensures)
+total-is c = c .count2 .ensures ∙ ap countOf (shape-is c)
 
 small : (c : tie.Else3) → c .before .count2 .result ≤ maxCount
 small c = omega arith
@@ -216,7 +220,7 @@ width-of-requires c κs = search needs
 
 -- src/lib.rt:315:9
 with-length-requires : tie.Need-with-length-requires
-with-length-requires c κs = let p = c .before .before .before .before in (high p, has p)
+with-length-requires c κs = search needs
 
 -- src/lib.rt:316:9
 count-requires-2 : tie.Need-count-requires-2
@@ -279,7 +283,7 @@ returns-5 c =
     let t = e .before in
     let p = at-axis t in
     let out = start p .args .out .now in
-    replied-given _ (meaning p) out _ (ap (λ z. record { number = 0; shape = z }) (t .before .with-length .ensures ∙ ap shapeOf (lengths-is t)))
+    replied-given _ (meaning p) out _ (ap (λ z. record { number = 0; shape = z }) (shape-is t ∙ ap shapeOf (lengths-is t)))
     (c .before .mask-into .ensures
     ∙ ap₂ (λ x y. x ++ drop y out) (masking-elements (call p) _ (t .before .before .before .before .before .count .ensures) _ (none p) _ (t .before .before .width-of .ensures)) (sym (size e)))
     (given-reply (names p) out (fine (p .before .before .before .before)) (none p) (rule e) (omega (arith, size e)))

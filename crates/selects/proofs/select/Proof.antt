@@ -17,7 +17,7 @@ use Rattle.meaning.proofs.Positions.{positionOf}
 use Rattle.answer.specs.Answer.{lent, early, own}
 use Rattle.answer.proofs.Order.{Names, early-reply, own-reply, limit-reply, space-reply, given-reply, replied-refused, replied-given}
 use Rattle.answer.proofs.Lent.{Lent, lent-good, early-fine}
-use Rattle.answer.proofs.Made.{made-rule, made-no-rule, made-count}
+use Rattle.shape.proofs.Made.{made-rule, made-no-rule, made-count}
 use Rattle.selects.specs.Chosen.{chosen}
 use Rattle.selects.proofs.Selecting.{selecting, select-names, Selects, select-fits, axis-in, shape-is, total-is, all-chosen, select-out}
 use Rattle.selects.proofs.select.Statement.{statement}

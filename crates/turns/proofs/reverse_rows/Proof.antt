@@ -32,10 +32,6 @@ row c = row-before (c .before .loop .i) (c .before .before .args .inner) (omega 
 loop-holds : tie.Need-loop-holds Inv-loop μ-loop
 loop-holds c = (omega arith, (omega arith, (refl, filled-none _ _)))
 
--- src/lib.rt:112:20
-mul-stop : tie.Need-mul-stop Inv-loop μ-loop
-mul-stop c = omega (arith, row c)
-
 -- src/lib.rt:113:9
 sub-i : tie.Need-sub-i Inv-loop μ-loop
 sub-i c = search needs
@@ -43,6 +39,10 @@ sub-i c = search needs
 -- src/lib.rt:114:20
 mul-from : tie.Need-mul-from Inv-loop μ-loop
 mul-from c = omega (arith, row c)
+
+-- src/lib.rt:114:20
+add-stop : tie.Need-add-stop Inv-loop μ-loop
+add-stop c = omega (arith, row c)
 
 -- src/lib.rt:115:19
 add-end : tie.Need-add-end Inv-loop μ-loop
@@ -102,7 +102,7 @@ loop-again c =
         (
           same-len-mid (lp .to) (lp .to + st .args .inner - lp .to) (lp .out) (c .before .copy-run .last .1 .0) (c .before .copy-run .kept .1 .0) ∙ lp .inv .1 .1 .0,
           put-copied (element r (st .args .n) (st .args .inner)) (lp .to) (st .args .inner) _ (lp .out) out₀ _ (lp .inv .1 .1 .1) refl (omega arith) r
-              ((lp .i - 1) * st .args .inner) (lp .i * st .args .inner) (pos 0) e (omega arith)
+              ((lp .i - 1) * st .args .inner) ((lp .i - 1) * st .args .inner + st .args .inner) (pos 0) refl (omega arith)
               (λ x b. ap (λ k. getD r k (pos 0)) (reversed-row (st .args .n) (st .args .inner) (lp .i) (lp .to) x (omega arith) (lp .inv .0) (lp .inv .1 .0) b))
               (c .before .copy-run .ensures),
         ),
@@ -131,9 +131,9 @@ reverse-rows-spec =
     Inv-loop
     μ-loop
     loop-holds
-    mul-stop
     sub-i
     mul-from
+    add-stop
     add-end
     mul-copy-run
     sub-copy-run

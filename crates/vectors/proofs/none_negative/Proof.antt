@@ -7,7 +7,7 @@ use lib.ListN.{getD, drop}
 use borrow.Author.Needs.{needs, sfits-of}
 use Rattle.meaning.specs.Terms.{negative, every}
 use Rattle.signed.proofs.Reading.{read32}
-use Rattle.vectors.proofs.Every.{every-next, every-stop, every-end}
+use Rattle.meaning.proofs.Every.{every-next, every-stop, every-end}
 use Rattle.vectors.proofs.none_negative.Statement.{statement}
 use Rattle.vectors.proofs.none_negative.Tie as tie
 

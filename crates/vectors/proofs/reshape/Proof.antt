@@ -15,7 +15,8 @@ use Rattle.answer.specs.Answer.{lent, early, own}
 use Rattle.answer.proofs.Order.{early-reply, own-reply, limit-reply, space-reply, given-reply, replied-refused, replied-given}
 use Rattle.answer.proofs.Lent.{lent-part, FineTwo, fine-two}
 use Rattle.vectors.specs.Cycle.{cycled}
-use Rattle.vectors.proofs.Made.{made-rule, made-no-rule, made-count, many-no-rule}
+use Rattle.shape.proofs.Made.{made-rule, made-no-rule, made-count}
+use Rattle.vectors.proofs.Made.{many-no-rule}
 use Rattle.vectors.proofs.Reshaping.{reshape-names, reshape-lengths, reshape-limit, reshape-count, reshape-out}
 use Rattle.vectors.proofs.reshape.Statement.{statement}
 use Rattle.vectors.proofs.reshape.Tie as tie
