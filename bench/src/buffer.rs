@@ -17,11 +17,8 @@ pub struct Buffer {
 
 impl Buffer {
     pub fn new(elements: &[i32], quarter: usize) -> Buffer {
-        let mut buffer = Buffer {
-            pages: Box::new(Pages([0; MAX_COUNT + PAGE])),
-            start: quarter * PAGE / 4,
-            length: elements.len(),
-        };
+        let mut buffer =
+            Buffer { pages: Box::new(Pages([0; MAX_COUNT + PAGE])), start: quarter * PAGE / 4, length: elements.len() };
         buffer.copy_from_slice(elements);
         buffer
     }

@@ -31,10 +31,8 @@ const fn goal(name: &'static str, beside: Beside, most: f64) -> Goal {
     Goal { name, beside, most }
 }
 
-const LONG_RUNS: Goal =
-    goal("reverse, catenate, take, drop, rotate, select: runs of 128 or more", Beside::Copy, 1.3);
-const SHORT_RUNS: Goal =
-    goal("reverse, catenate, take, drop, rotate, select: shorter runs", Beside::Rust, 1.0);
+const LONG_RUNS: Goal = goal("reverse, catenate, take, drop, rotate, select: runs of 128 or more", Beside::Copy, 1.3);
+const SHORT_RUNS: Goal = goal("reverse, catenate, take, drop, rotate, select: shorter runs", Beside::Rust, 1.0);
 const REVERSED_LINES: Goal = goal("reverse along the last axis", Beside::Copy, 2.5);
 const TRANSPOSE: Goal = goal("transpose and transpose by L", Beside::Rust, 1.0);
 const TRANSPOSE_COPY: Goal = goal("transpose and transpose by L", Beside::Copy, 10.0);
@@ -42,14 +40,14 @@ const MASKS: Goal = goal("compress and expand", Beside::Rust, 1.0);
 const LOOKUPS: Goal = goal("index of and member: 16,384 in 16,384", Beside::Copy, 50.0);
 const SMALL: Goal = goal("a block of 30 x 10 x 5: the whole call", Beside::Rust, 1.3);
 
-pub const GOALS: [Goal; 8] =
-    [LONG_RUNS, SHORT_RUNS, REVERSED_LINES, TRANSPOSE, TRANSPOSE_COPY, MASKS, LOOKUPS, SMALL];
+pub const GOALS: [Goal; 8] = [LONG_RUNS, SHORT_RUNS, REVERSED_LINES, TRANSPOSE, TRANSPOSE_COPY, MASKS, LOOKUPS, SMALL];
 
 /// Lengths and elements.
 struct Array(Vec<usize>, Vec<i32>);
 
 pub struct Case {
     pub primitive: &'static str,
+    pub size: usize,
     pub shape: String,
     pub what: String,
     pub goals: Vec<Goal>,
@@ -87,11 +85,7 @@ fn along(lengths: &[usize], axis: usize, cases: &mut Vec<Case>) {
     let n = lengths[axis];
     let inner = count(&lengths[axis + 1..]);
     let last = inner == 1;
-    let name = if lengths.len() == 1 {
-        "only axis"
-    } else {
-        ["first axis", "middle axis", "last axis"][axis]
-    };
+    let name = if lengths.len() == 1 { "only axis" } else { ["first axis", "middle axis", "last axis"][axis] };
     let mut push = |primitive, what: &str, run: usize, l, r| {
         let what = if what.is_empty() { name.to_string() } else { format!("{name}, {what}") };
         let mut case = two(primitive, lengths, &what, axis, l, r);
@@ -117,17 +111,9 @@ fn along(lengths: &[usize], axis: usize, cases: &mut Vec<Case>) {
 
     for amount in [1, (n / 3).max(2)] {
         let l = scalar(amount as i32);
-        push(
-            "25 rotate",
-            &format!("by {amount}"),
-            amount.min(n - amount) * inner,
-            l,
-            array(lengths),
-        );
+        push("25 rotate", &format!("by {amount}"), amount.min(n - amount) * inner, l, array(lengths));
     }
-    for (what, bits) in
-        [("all ones", ones(n)), ("alternating", alternating(n)), ("random", random_bits(n))]
-    {
+    for (what, bits) in [("all ones", ones(n)), ("alternating", alternating(n)), ("random", random_bits(n))] {
         let kept = bits.iter().filter(|&&bit| bit == 1).count();
         let shorter = with(lengths, axis, kept);
         push("27 compress", what, inner, list(bits.clone()), array(lengths));
@@ -165,10 +151,10 @@ fn lookups(cases: &mut Vec<Case>) {
         let n = count(lengths);
         let mut random = Random::new();
         let mut draw = |below: usize| (0..n).map(|_| random.below(below)).collect::<Vec<i32>>();
-        let different: Vec<i32> =
-            (0..n as i32).map(|i| i.wrapping_mul(0x9E37_79B1_u32 as i32)).collect();
+        let different: Vec<i32> = (0..n as i32).map(|i| i.wrapping_mul(0x9E37_79B1_u32 as i32)).collect();
         let backwards: Vec<i32> = different.iter().rev().copied().collect();
         let apart = |first: i32| (0..n as i32).map(|i| first + i * 65_536).collect::<Vec<i32>>();
+        let chain = |first: usize| (first..first + n).map(in_one_chain).collect::<Vec<i32>>();
         for (what, within, wanted) in [
             ("random", draw(n), draw(n)),
             ("random, wide", draw(1 << 31), draw(1 << 31)),
@@ -178,6 +164,8 @@ fn lookups(cases: &mut Vec<Case>) {
             ("all alike, missing", vec![7; n], vec![8; n]),
             ("65,536 apart", apart(0), apart(0)),
             ("65,536 apart, missing", apart(0), apart(1)),
+            (WORST, chain(0), chain(0)),
+            (WORST_MISSING, chain(0), chain(n)),
         ] {
             let shaped = |elements| Array(lengths.to_vec(), elements);
             let (a, b) = (within.clone(), wanted.clone());
@@ -186,11 +174,22 @@ fn lookups(cases: &mut Vec<Case>) {
                 two("30 member", lengths, what, 0, shaped(b), list(a)),
             ];
             for case in &mut pair {
-                case.goals = goals(case.call.number, n, 1, false);
+                if what == WORST || what == WORST_MISSING {
+                    case.goals = vec![];
+                }
             }
             cases.extend(pair);
         }
     }
+}
+
+const WORST: &str = "worst: one chain";
+const WORST_MISSING: &str = "worst: one chain, missing";
+
+/// Different values that `lookups` puts into one chain: the middle bits of their product with its factor are all 0.
+fn in_one_chain(low: usize) -> i32 {
+    const INVERSE: u32 = 0x144C_BC89;
+    ((low as u32).wrapping_mul(INVERSE) ^ 0x8000_0000) as i32
 }
 
 /// The goals of a primitive, by the size, the shortest run, and whether the axis is the last.
@@ -212,21 +211,12 @@ fn one(primitive: &'static str, lengths: &[usize], what: &str, axis: usize, r: A
 }
 
 /// A primitive's name starts with its number.
-fn two(
-    primitive: &'static str,
-    lengths: &[usize],
-    what: &str,
-    axis: usize,
-    l: Array,
-    r: Array,
-) -> Case {
+fn two(primitive: &'static str, lengths: &[usize], what: &str, axis: usize, l: Array, r: Array) -> Case {
     let number = primitive[..2].parse().expect("a number of two digits");
-    let operand = |a: Array, quarter| Operand {
-        shape: Shape::new(&a.0),
-        elements: Buffer::new(&a.1, quarter),
-    };
+    let operand = |a: Array, quarter| Operand { shape: Shape::new(&a.0), elements: Buffer::new(&a.1, quarter) };
     Case {
         primitive,
+        size: count(lengths),
         shape: lengths.iter().map(usize::to_string).collect::<Vec<_>>().join(" x "),
         what: what.to_string(),
         goals: goals(number, count(lengths), 0, false),

@@ -19,18 +19,24 @@ const CASE: Duration = Duration::from_millis(100);
 /// Rounds over all cases, so that a slow moment of the machine spoils no case.
 const ROUNDS: usize = 4;
 
-/// Nanoseconds a call, the best of many.
+/// Nanoseconds a call, the best of many. NumPy's come from bench/numpy_times.py, if at all.
 pub struct Times {
     pub count: usize,
     pub kernel: f64,
     pub rust: f64,
     pub copy: f64,
+    pub numpy: Option<f64>,
 }
 
+/// bench PLOT [NUMPY]: the tables to standard output, the plot to PLOT, with the times that NUMPY has.
 fn main() {
+    let mut words = std::env::args().skip(1);
+    let plot = words.next().expect("the plot's path");
+    let numpy = words.next().map_or(String::new(), |path| std::fs::read_to_string(path).expect("NumPy's times"));
     let mut timed = Vec::new();
     for case in cases::all() {
-        let times = agreed(&case);
+        let mut times = agreed(&case);
+        times.numpy = numpy_time(&case, &numpy);
         timed.push((case, times));
     }
     for _ in 0..ROUNDS {
@@ -38,17 +44,15 @@ fn main() {
             time(&case.call, times);
         }
     }
-    println!("{}", table::HEAD);
-    for (case, times) in &timed {
-        println!("{}", table::row(case, times));
-    }
-    println!("\n{}", table::GOALS_HEAD);
-    for goal in cases::GOALS {
-        println!("{}", table::goal_row(goal, &timed));
-    }
-    if let Some(path) = std::env::args().nth(1) {
-        std::fs::write(path, plot::svg(&timed)).expect("the plot can be written");
-    }
+    println!("{}", table::goals(&timed));
+    println!("{}", table::cases(&timed));
+    std::fs::write(plot, plot::svg(&timed)).expect("the plot can be written");
+}
+
+/// A line has the case's names and a time.
+fn numpy_time(case: &Case, numpy: &str) -> Option<f64> {
+    let start = format!("{}\t{}\t{}\t", case.primitive, case.shape, case.what);
+    numpy.lines().find_map(|line| line.strip_prefix(&start)?.parse().ok())
 }
 
 /// Where the kernel and the straightforward version give the same answer and leave the same output buffer: no times yet.
@@ -59,7 +63,7 @@ fn agreed(case: &Case) -> Times {
     assert!(x == y && a == b, "{} {} {}: {x:?} and {y:?}", case.primitive, case.shape, case.what);
     assert_eq!(x.number, 0, "{} {} {} is refused", case.primitive, case.shape, case.what);
     let count = x.shape.lens[..x.shape.rank].iter().product();
-    Times { count, kernel: f64::INFINITY, rust: f64::INFINITY, copy: f64::INFINITY }
+    Times { count, kernel: f64::INFINITY, rust: f64::INFINITY, copy: f64::INFINITY, numpy: None }
 }
 
 /// The three in turn, so that what else the machine does falls on all of them.
@@ -74,9 +78,7 @@ fn time(call: &Call, times: &mut Times) {
     let mut works: [(&mut f64, &mut dyn FnMut(&mut [i32])); 3] = [
         (&mut times.kernel, &mut |out| answer(kernel::answer, out)),
         (&mut times.rust, &mut |out| answer(plain::answer, out)),
-        (&mut times.copy, &mut |out| {
-            black_box(&mut out[..count]).copy_from_slice(black_box(&result))
-        }),
+        (&mut times.copy, &mut |out| black_box(&mut out[..count]).copy_from_slice(black_box(&result))),
     ];
     let calls = works.each_mut().map(|(_, work)| calls_in_a_batch(work, &mut out));
     let start = Instant::now();

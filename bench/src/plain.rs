@@ -77,9 +77,7 @@ fn count(lengths: &[usize]) -> usize {
 }
 
 fn is_good_shape(lengths: &[usize]) -> bool {
-    lengths.len() <= MAX_RANK
-        && lengths.iter().all(|&n| n <= MAX_COUNT)
-        && count(lengths) <= MAX_COUNT
+    lengths.len() <= MAX_RANK && lengths.iter().all(|&n| n <= MAX_COUNT) && count(lengths) <= MAX_COUNT
 }
 
 fn form(operand: &Operand) -> Tested<Array<'_>> {
@@ -197,11 +195,7 @@ fn reshape(l: Array, r: Array, out: &mut [i32]) -> Tested<Shape> {
 }
 
 fn catenate(k: i64, l: Array, r: Array, out: &mut [i32]) -> Tested<Shape> {
-    let (l, r) = if l.lengths.is_empty() && r.lengths.is_empty() {
-        (as_vector(l), as_vector(r))
-    } else {
-        (l, r)
-    };
+    let (l, r) = if l.lengths.is_empty() && r.lengths.is_empty() { (as_vector(l), as_vector(r)) } else { (l, r) };
     let (lower, higher) = if l.lengths.len() < r.lengths.len() { (l, r) } else { (r, l) };
     let rank = higher.lengths.len();
     test(lower.lengths.is_empty() || rank - lower.lengths.len() <= 1, RANK)?;
@@ -278,8 +272,7 @@ fn cut(window: fn(i32, usize) -> Window, l: Array, r: Array, out: &mut [i32]) ->
     };
     test(numbers.len() == lengths.len(), LENGTH)?;
     test(lengths.len() <= MAX_RANK, LIMIT)?;
-    let windows: Vec<Window> =
-        numbers.iter().zip(lengths).map(|(&number, &n)| window(number, n)).collect();
+    let windows: Vec<Window> = numbers.iter().zip(lengths).map(|(&number, &n)| window(number, n)).collect();
     let results: Vec<usize> = windows.iter().map(|w| w.result).collect();
     let (shape, out) = room(&results, out)?;
     if windows.iter().any(|w| w.kept < w.result) {
@@ -327,8 +320,7 @@ fn transpose_by(g: i32, l: Array, r: Array, out: &mut [i32]) -> Tested<Shape> {
     let numbers = list(l)?;
     let rank = r.lengths.len();
     test(numbers.len() == rank, LENGTH)?;
-    let sent =
-        numbers.iter().map(|&t| usize::try_from(i64::from(t) - i64::from(g)).map_err(|_| DOMAIN));
+    let sent = numbers.iter().map(|&t| usize::try_from(i64::from(t) - i64::from(g)).map_err(|_| DOMAIN));
     let sent = sent.collect::<Tested<Vec<usize>>>()?;
     test(sent.iter().all(|&t| t < rank), DOMAIN)?;
     let result_rank = sent.iter().max().map_or(0, |&t| t + 1);
@@ -434,8 +426,7 @@ fn expand(k: i64, l: Array, r: Array, out: &mut [i32]) -> Tested<Shape> {
         if inner == 1 {
             let mut elements = from.iter();
             for (slot, &bit) in to.iter_mut().zip(bits) {
-                *slot =
-                    if bit == 1 { *elements.next().expect("an element for each one") } else { 0 };
+                *slot = if bit == 1 { *elements.next().expect("an element for each one") } else { 0 };
             }
         } else {
             let mut rows = from.chunks_exact(inner);
@@ -488,8 +479,7 @@ fn select(g: i32, k: i64, l: Array, r: Array, out: &mut [i32]) -> Tested<Shape> 
         return Ok(shape);
     }
     let inner = count(after);
-    let blocks =
-        r.elements.chunks_exact(n * inner).zip(out.chunks_exact_mut(positions.len() * inner));
+    let blocks = r.elements.chunks_exact(n * inner).zip(out.chunks_exact_mut(positions.len() * inner));
     for (from, to) in blocks {
         if inner == 1 {
             for (slot, &p) in to.iter_mut().zip(positions) {

@@ -1,24 +1,37 @@
 //! The times as tables: a row for each case, and a row for each goal.
 
-use crate::cases::{Beside, Case, Goal};
+use crate::cases::{Beside, Case, Goal, GOALS};
 use crate::Times;
 
-pub const HEAD: &str = "\
-| primitive | shape | case | elements | kernel ns | Rust ns | copy ns | kernel/copy | kernel/Rust | goals |
-|---|---|---|--:|--:|--:|--:|--:|--:|---|";
+/// A row for each goal.
+pub fn goals(timed: &[(Case, Times)]) -> String {
+    let mut lines = vec![
+        "| goal, on 16,384 elements where nothing else is said | at most | met | worst | where |".to_string(),
+        "|---|---|--:|--:|---|".to_string(),
+    ];
+    lines.extend(GOALS.iter().map(|&goal| goal_row(goal, timed)));
+    lines.join("\n") + "\n"
+}
 
-pub const GOALS_HEAD: &str = "\
-| goal, on 16,384 elements where nothing else is said | at most | met | worst | where |
-|---|---|--:|--:|---|";
+/// A row for each case, in nanoseconds an element of the result.
+pub fn cases(timed: &[(Case, Times)]) -> String {
+    let mut lines = vec![
+        "| primitive | shape | case | elements | kernel | Rust | copy | NumPy | kernel/copy | kernel/Rust | goals |"
+            .to_string(),
+        "|---|---|---|--:|--:|--:|--:|--:|--:|--:|---|".to_string(),
+    ];
+    lines.extend(timed.iter().map(|(case, times)| case_row(case, times)));
+    lines.join("\n")
+}
 
-pub fn row(case: &Case, times: &Times) -> String {
-    let an_element = |time: f64| time / times.count as f64;
+fn case_row(case: &Case, times: &Times) -> String {
+    let an_element = |time: f64| format!("{:.3}", time / times.count as f64);
     let goals = case.goals.iter().map(|&goal| {
         let met = if ratio(goal, times) <= goal.most { "met" } else { "**not met**" };
         format!("{}: {met}", most(goal))
     });
     format!(
-        "| {} | {} | {} | {} | {:.3} | {:.3} | {:.3} | {:.2} | {:.2} | {} |",
+        "| {} | {} | {} | {} | {} | {} | {} | {} | {:.2} | {:.2} | {} |",
         case.primitive,
         case.shape,
         case.what,
@@ -26,6 +39,7 @@ pub fn row(case: &Case, times: &Times) -> String {
         an_element(times.kernel),
         an_element(times.rust),
         an_element(times.copy),
+        times.numpy.map_or(String::new(), an_element),
         times.kernel / times.copy,
         times.kernel / times.rust,
         goals.collect::<Vec<_>>().join(", "),
@@ -33,17 +47,14 @@ pub fn row(case: &Case, times: &Times) -> String {
 }
 
 /// In how many of its cases a goal is met, and the worst of them.
-pub fn goal_row(goal: Goal, timed: &[(Case, Times)]) -> String {
-    let mut held: Vec<(f64, &Case)> = timed
-        .iter()
-        .filter(|(case, _)| case.goals.contains(&goal))
-        .map(|(case, times)| (ratio(goal, times), case))
-        .collect();
+fn goal_row(goal: Goal, timed: &[(Case, Times)]) -> String {
+    let held = timed.iter().filter(|(case, _)| case.goals.contains(&goal));
+    let mut held: Vec<(f64, &Case)> = held.map(|(case, times)| (ratio(goal, times), case)).collect();
     held.sort_by(|a, b| b.0.total_cmp(&a.0));
     let met = held.iter().filter(|(ratio, _)| *ratio <= goal.most).count();
     let (worst, case) = held.first().expect("every goal has a case");
     format!(
-        "| {} | {} | {met} of {} | {worst:.2} | {}, {}, {} |",
+        "| {} | {} | {met} of {} | {worst:.2} | {} {} {} |",
         goal.name,
         most(goal),
         held.len(),
