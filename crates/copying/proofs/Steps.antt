@@ -6,16 +6,10 @@ use native.Mathlib.Omega.{arith}
 use mathlib.Core.Path.{_≡_, sym, ap, _∙_}
 use mathlib.Core.List.{List, [], _∷_, _++_, append-assoc, append-nil, reverse, reverse-cons}
 use lib.ListN.{length, getD, take, drop, set, replicate, length-replicate, getD-replicate, length-reverse, List·getD-append, drop-of-length-le}
+use Rattle.shape.proofs.Shifted.{front-step}
 use lib.Seq.{length-take-le, getD-take, take-suc, take-all, drop-cons, set-at, getD-at}
 
 module _ {A : Type 0} where
-  -- One more element of s over the front of d.
-  pub front-step : (s d : List A) (i : ℕ) (z : A) → i < length s → i < length d
-      → set (take i s ++ drop i d) i (getD s i z) ≡ take (i + 1) s ++ drop (i + 1) d
-  front-step s d i z h k =
-      rw (drop-cons d i z k, set-at (take i s) (getD d i z) (drop (suc i) d) (getD s i z) i (length-take-le i s (omega arith)), add-one, take-suc s i z h)
-      (sym (append-assoc (take i s) (getD s i z ∷ []) (drop (suc i) d)))
-
   -- All of s over all of d.
   pub front-all : (s d : List A) (i : ℕ) → length s ≡ i → length d ≡ i → take i s ++ drop i d ≡ s
   front-all s d i h k = rw (take-all i s (omega arith), drop-of-length-le d {i = i} (omega arith)) (append-nil s)

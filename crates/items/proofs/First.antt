@@ -8,11 +8,11 @@ use lib.ListN.{length, getD, set, take, drop, replicate, length-drop}
 use lib.Seq.{take-nil, getD-drop, length-take-le}
 use Rattle.shape.specs.declared.Shape.{Shape}
 use Rattle.shape.specs.declared.Around.{Around}
-use Rattle.shape.specs.Shape.{maxRank, maxCount, counted, count, held, aroundOf, shapeOf}
+use Rattle.shape.specs.Shape.{maxRank, maxCount, counted, count, held, aroundOf, shapeOf, without}
 use Rattle.shape.specs.Place.{index, place}
 use Rattle.shape.proofs.Padded.{padded-more}
 use Rattle.shape.proofs.Places.{index-place}
-use Rattle.meaning.specs.Terms.{without, putIn}
+use Rattle.meaning.specs.Terms.{putIn}
 
 without-first : (ns : List ℕ) → without 0 ns ≡ drop 1 ns
 unfolding without
@@ -44,27 +44,3 @@ module _ (s : Shape) (h : s .rank ≤ maxRank) (l : 0 < s .rank) where
   first-inner k =
       let e : count (without 0 (counted s)) ≡ count (drop 1 (counted s)) = ap count (without-first (counted s)) in
       ap (λ (a : Around). a .inner) around-first ∙ omega arith
-
--- The lengths moved down by one axis: one axis more.
-pub shifted-more : (ns : List ℕ) (k : ℕ) → k + 1 < length ns → k < maxRank
-    → set (take k (drop 1 ns) ++ replicate (maxRank - k) 0) k (getD ns (k + 1) 0) ≡ take (k + 1) (drop 1 ns) ++ replicate (maxRank - (k + 1)) 0
-shifted-more ns k h l =
-    let e : k + 1 ≡ 1 + k = omega arith in
-    ap (λ n. set (take k (drop 1 ns) ++ replicate (maxRank - k) 0) k n) (ap (λ j. getD ns j 0) e ∙ sym (getD-drop 1 ns k 0))
-    ∙ padded-more (drop 1 ns) maxRank k (rw length-drop (omega arith)) l
-
-without-take : (r : ℕ) (ns : List ℕ) → 0 < r → without 0 (take r ns) ≡ take (r - 1) (drop 1 ns)
-unfolding without
-without-take zero ns h = absurd (omega arith)
-without-take (suc r) [] h = sym (take-nil (suc r - 1))
-without-take (suc r) (n ∷ ns) h = let e : r ≡ suc r - 1 = omega arith in ap (λ k. take k ns) e
-
--- All of them: the shape without its first axis.
-pub shifted-all : (s : Shape) (lens : List ℕ) (k : ℕ) → length (s .lens) ≡ maxRank → 0 < s .rank → s .rank ≤ maxRank → k ≡ s .rank - 1
-    → lens ≡ take k (drop 1 (s .lens)) ++ replicate (maxRank - k) 0
-    → record { rank = s .rank - 1; lens = lens } ≡ shapeOf (without 0 (counted s))
-shifted-all s lens k long l h e q =
-    let ns : List ℕ = without 0 (counted s) in
-    let same : take k (drop 1 (s .lens)) ≡ ns = ap (λ j. take j (drop 1 (s .lens))) e ∙ sym (without-take (s .rank) (s .lens) l) in
-    let size : k ≡ length ns = sym (length-take-le k (drop 1 (s .lens)) (rw length-drop (omega arith))) ∙ ap length same in
-    ap₂ (λ r v. record { rank = r; lens = v }) (sym e ∙ size) (q ∙ ap₂ (λ xs j. xs ++ replicate (maxRank - j) 0) same size)

@@ -9,12 +9,12 @@ use lib.Dec.{leb}
 use lib.ListN.{length, getD, take, drop}
 use lib.Seq.{getD-take}
 use lib.IntN.{ℤ, pos, natAbs, _-ℤ_, +ℤ-invr}
-use Rattle.shape.specs.Shape.{counted, count, goodShape, shapeOf}
+use Rattle.shape.specs.Shape.{counted, count, goodShape, shapeOf, without}
 use Rattle.shape.specs.Place.{place}
 use Rattle.shape.proofs.Bools.{both}
 use Rattle.meaning.specs.Array.{Operand, Array, arrayOf, goodForm, at, build}
 use Rattle.meaning.specs.Refusal.{number, meets, winner}
-use Rattle.meaning.specs.Terms.{rank, axis, isScalar, within, every, without, putIn}
+use Rattle.meaning.specs.Terms.{rank, axis, isScalar, within, every, putIn}
 use Rattle.meaning.specs.Primitives.{Meaning, select}
 use Rattle.meaning.specs.Reply.{isOrigin}
 use Rattle.meaning.specs.Item.{Item, itemRefusal, itemLengths, leadingItem}

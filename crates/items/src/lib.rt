@@ -1,8 +1,5 @@
 // The leading item: one item of R's first axis, and its sister call.
 ghost use mathlib.Core.Path.{_≡_};
-ghost use Prim.Native.Nat.{_≤_, _<_};
-ghost use Rattle.shape.specs.Shape.{maxRank, counted, shapeOf};
-ghost use Rattle.meaning.specs.Terms.{without};
 ghost use Rattle.meaning.specs.Item.{itemRefusal, leadingItem};
 ghost use Rattle.answer.specs.Answer.{lent};
 ghost use Rattle.items.specs.Sister.{itemAnswer};
@@ -32,7 +29,7 @@ pub fn item_shape(g: i32, i: i32, rs: Shape, r: &[i32]) -> Answer
     if number != 0 {
         return Answer::refused(number);
     }
-    let shape = shape_of_item(rs);
+    let shape = rs.without_axis(0);
     Answer { number: 0, shape }
 }
 
@@ -50,19 +47,4 @@ fn item_refusal(g: i32, i: i32, rs: Shape, r: &[i32]) -> usize
     let n = rs.lens[0];
     let at = signed::position(i, g, n);
     if at < n { 0 } else { 8 }
-}
-
-// The shape without its first axis.
-fn shape_of_item(s: Shape) -> Shape
-    requires { ⌜ (0 < s .rank) × (s .rank ≤ maxRank) ⌝ }
-    ensures { λ t. ⌜ t ≡ shapeOf (without 0 (counted s)) ⌝ }
-{
-    let rank = s.rank - 1;
-    let mut lens = [0; Shape::MAX_RANK];
-    let mut k = 0;
-    while k < rank {
-        lens[k] = s.lens[k + 1];
-        k += 1;
-    }
-    Shape { rank, lens }
 }

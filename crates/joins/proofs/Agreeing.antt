@@ -13,7 +13,8 @@ use lib.Seq.{slice, slice-empty, slice-cons, take-take, length-take-le}
 use lib.Dec.{eqb}
 use Rattle.shape.specs.declared.Shape.{Shape}
 use Rattle.meaning.specs.Array.{arrayOf}
-use Rattle.meaning.specs.Terms.{rank, sameLengths, without}
+use Rattle.shape.specs.Shape.{without}
+use Rattle.meaning.specs.Terms.{rank, sameLengths}
 use Rattle.meaning.specs.Primitives.{Side, side}
 use Rattle.meaning.proofs.Without.{without-parts}
 use Rattle.meaning.proofs.Sides.{same-lengths, side-scalar, side-lower, side-whole, Beside}

@@ -12,7 +12,7 @@ use lib.Dec.{ltb}
 use lib.ListN.{length, getD, set, take, drop, length-set}
 use lib.Seq.{set-set, set-getD, getD-set-same, drop-set-lt}
 use lib.IntN.{ℤ, pos, natAbs, _-ℤ_}
-use Rattle.shape.specs.Shape.{count}
+use Rattle.shape.specs.Shape.{count, without}
 use Rattle.shape.specs.Place.{index, place}
 use Rattle.shape.proofs.Bools.{both}
 use Rattle.shape.proofs.Places.{In, place-in}
@@ -20,7 +20,7 @@ use Rattle.shape.proofs.Axis.{in-at, in-set, axis-position, axis-index}
 use Rattle.shape.proofs.Surround.{factor, count-set}
 use Rattle.meaning.specs.Array.{Operand, Array, arrayOf, tab, build}
 use Rattle.meaning.specs.Refusal.{number, meets, winner}
-use Rattle.meaning.specs.Terms.{axis, isScalar, eqZ, within, sameLengths, without}
+use Rattle.meaning.specs.Terms.{axis, isScalar, eqZ, within, sameLengths}
 use Rattle.meaning.specs.Primitives.{side, higher, ranksFit, catenate}
 use Rattle.meaning.specs.Reply.{Primitive, primitives, named}
 use Rattle.meaning.proofs.Tab.{tab-ext}

@@ -10,12 +10,12 @@ use lib.ListN.{length, getD, set, length-set}
 use lib.Seq.{set-set, set-getD, getD-set-same}
 use lib.Dec.{eqb, ltb}
 use lib.IntN.{ℤ, pos, natAbs, _-ℤ_}
-use Rattle.shape.specs.Shape.{shapeRule}
+use Rattle.shape.specs.Shape.{shapeRule, without}
 use Rattle.shape.proofs.Places.{In}
 use Rattle.shape.proofs.Axis.{in-length, in-at, in-set}
 use Rattle.shape.proofs.Rule.{shorter-rule}
 use Rattle.meaning.specs.Array.{Array, arrayOf, at, build}
-use Rattle.meaning.specs.Terms.{rank, axis, eqZ, within, sameLengths, without}
+use Rattle.meaning.specs.Terms.{rank, axis, eqZ, within, sameLengths}
 use Rattle.meaning.specs.Primitives.{Side, side, higher, ranksFit, catenate, takes, droppedLengths, drops}
 use Rattle.meaning.specs.Reply.{primitives, named, reply}
 use Rattle.meaning.proofs.Arrays.{Whole, build-lengths, at-build, build-ext, build-at}

@@ -4,11 +4,11 @@ use mathlib.Core.Path.{_≡_, refl}
 use mathlib.Core.List.{List, [], _∷_, _++_, map}
 use lib.ListN.{length, replicate}
 use lib.IntN.{ℤ, pos, negsuc}
-use Rattle.shape.specs.Shape.{maxRank, maxCount, count, small, shapeRule, shapeOf, scalar}
+use Rattle.shape.specs.Shape.{maxRank, maxCount, count, small, shapeRule, shapeOf, scalar, without}
 use Rattle.shape.specs.Place.{inside, index, place}
 use Rattle.meaning.specs.Array.{Operand, goodForm, at, tabFrom, tab, build}
 use Rattle.meaning.specs.Refusal.{number, precedence, meets, winner}
-use Rattle.meaning.specs.Terms.{negative, eqZ, within, modulo, every, sameLengths, without, putIn, along, onesFrom, firstAt}
+use Rattle.meaning.specs.Terms.{negative, eqZ, within, modulo, every, sameLengths, putIn, along, onesFrom, firstAt}
 use Rattle.meaning.specs.Primitives.{lengthsOf, ravel, interval, reverse, sentTo, smallest, axesTo, sentLengths, broughtBack, backwards, transpose, reshape, side, higher, ranksFit, catenate, takenFrom, takenPlace, atOrZero, takes, droppedLengths, droppedPlace, drops, rotate, allOccur, transposeBy, compress, expand, indexOf, member, select}
 use Rattle.meaning.specs.Reply.{Reply, primitives, named, isOrigin, refusals, settle, reply}
 

@@ -9,12 +9,12 @@ use borrow.Author.Tests.{lt-ltb, le-ltb, eq-eqb, ne-eqb, eqb-true, eqb-false}
 use lib.ListN.{length, getD, set}
 use lib.Dec.{eqb}
 use lib.IntN.{ℤ, pos}
-use Rattle.shape.specs.Shape.{count}
+use Rattle.shape.specs.Shape.{count, without}
 use Rattle.shape.specs.Place.{index}
 use Rattle.shape.proofs.Bools.{no-way, both}
 use Rattle.shape.proofs.Places.{In}
 use Rattle.meaning.specs.Array.{Array, at}
-use Rattle.meaning.specs.Terms.{rank, axis, isScalar, sameLengths, without}
+use Rattle.meaning.specs.Terms.{rank, axis, isScalar, sameLengths}
 use Rattle.meaning.specs.Primitives.{Side, side, higher, ranksFit}
 use Rattle.meaning.proofs.Scalars.{array-as}
 use Rattle.meaning.proofs.Without.{index-without, same-set, count-without}

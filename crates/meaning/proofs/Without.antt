@@ -5,11 +5,11 @@ use Prim.Native.Nat.{ℕ, zero, suc, _+_, _*_, _/_, _%_, _<_}
 use native.Mathlib.Nat.{zero-mul, zero-add, one-mul, mod-lt, mod-eq-of-lt, div-eq-of-lt, not-suc-le-zero, le-of-suc-le-suc, mul-zero}
 use native.Mathlib.Omega.{arith}
 use lib.ListN.{length, getD, set, take, drop}
-use Rattle.shape.specs.Shape.{count}
+use Rattle.shape.specs.Shape.{count, without}
 use Rattle.shape.specs.Place.{place, index}
 use Rattle.shape.proofs.Places.{In}
 use Rattle.meaning.specs.Array.{Array, at, tab, build}
-use Rattle.meaning.specs.Terms.{rank, without, putIn, along}
+use Rattle.meaning.specs.Terms.{rank, putIn, along}
 use Rattle.meaning.proofs.Tab.{tab-ext}
 
 pub without-set : (ns : List ℕ) (k n : ℕ) → without k (set ns k n) ≡ without k ns
@@ -25,12 +25,6 @@ without-parts [] zero = refl
 without-parts [] (suc k) = refl
 without-parts (n ∷ ns) zero = refl
 without-parts (n ∷ ns) (suc k) = ap (λ q. n ∷ q) (without-parts ns k)
-
-pub length-without : (ns : List ℕ) (k : ℕ) → k < length ns → suc (length (without k ns)) ≡ length ns
-unfolding without
-length-without [] k l = absurd (not-suc-le-zero l)
-length-without (n ∷ ns) zero l = refl
-length-without (n ∷ ns) (suc k) l = ap suc (length-without ns k (le-of-suc-le-suc l))
 
 -- An axis of length 1 and no axis: the counts are equal.
 pub count-without : (ns : List ℕ) (k : ℕ) → k < length ns → count (without k ns) ≡ count (set ns k 1)

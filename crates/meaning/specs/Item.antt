@@ -4,11 +4,11 @@ use mathlib.Core.List.{List, [], _∷_}
 use lib.ListN.{take, drop}
 use lib.IntN.{ℤ, natAbs, _-ℤ_}
 use Rattle.shape.specs.declared.Shape.{Shape}
-use Rattle.shape.specs.Shape.{count, shapeOf, scalar}
+use Rattle.shape.specs.Shape.{count, shapeOf, scalar, without}
 use Rattle.meaning.specs.Array.{Operand, Array, arrayOf, goodForm}
 use Rattle.meaning.specs.Refusal.{Refusal, Rule, _when_, _unless_, precedence, winner}
 use Rattle.meaning.specs.Refusal.Refusal.{FORM, ORIGIN, RANK, INDEX}
-use Rattle.meaning.specs.Terms.{axis, isScalar, within, without}
+use Rattle.meaning.specs.Terms.{axis, isScalar, within}
 use Rattle.meaning.specs.Reply.{isOrigin}
 
 -- Both refuse alike.

@@ -12,7 +12,8 @@ use Rattle.shape.specs.Place.{index, inside}
 use Rattle.meaning.specs.Array.{Array, at, tab}
 use Rattle.meaning.specs.Refusal.{Refusal, Rule, _when_, _unless_}
 use Rattle.meaning.specs.Refusal.Refusal.{RANK, AXIS, LENGTH, DOMAIN, INDEX}
-use Rattle.meaning.specs.Terms.{rank, axis, isScalar, isList, asRank, asVector, negative, eqZ, within, modulo, every, sameLengths, without, putIn, along, isBit, ones, firstAt}
+use Rattle.shape.specs.Shape.{without}
+use Rattle.meaning.specs.Terms.{rank, axis, isScalar, isList, asRank, asVector, negative, eqZ, within, modulo, every, sameLengths, putIn, along, isBit, ones, firstAt}
 
 -- What a primitive gives: when it refuses, and its result, place by place.
 pub record Meaning : Type 0 where

@@ -67,12 +67,7 @@ sameLengths [] (n ∷ ns) = false
 sameLengths (m ∷ ms) [] = false
 sameLengths (m ∷ ms) (n ∷ ns) = eqb m n && sameLengths ms ns
 
--- Lengths, or a place, without axis k; and a place with position i put in as axis k.
-unfoldable pub without : ℕ → List ℕ → List ℕ
-without k [] = []
-without zero (n ∷ ns) = ns
-without (suc k) (n ∷ ns) = n ∷ without k ns
-
+-- A place with position i put in as axis k.
 unfoldable pub putIn : ℕ → ℕ → List ℕ → List ℕ
 putIn zero i p = i ∷ p
 putIn (suc k) i [] = i ∷ []

@@ -9,13 +9,13 @@ use borrow.Author.Tests.{eq-eqb, ne-eqb, le-leb, lt-leb, eqb-true, eqb-false, le
 use lib.ListN.{length, getD, set, drop}
 use lib.IntN.{ℤ, pos, natAbs, _-ℤ_}
 use Rattle.shape.specs.declared.Shape.{Shape}
-use Rattle.shape.specs.Shape.{maxCount, counted, count, aroundOf, shapeOf}
+use Rattle.shape.specs.Shape.{maxCount, counted, count, aroundOf, shapeOf, without}
 use Rattle.shape.specs.Place.{place}
 use Rattle.shape.proofs.Axis.{count-axis}
 use Rattle.shape.proofs.Surround.{Parts}
 use Rattle.meaning.specs.Array.{Operand, Array, arrayOf, at, tab, build}
 use Rattle.meaning.specs.Refusal.{number, meets, winner}
-use Rattle.meaning.specs.Terms.{rank, axis, isScalar, isList, eqZ, within, every, without, putIn, along}
+use Rattle.meaning.specs.Terms.{rank, axis, isScalar, isList, eqZ, within, every, putIn, along}
 use Rattle.meaning.specs.Primitives.{select}
 use Rattle.meaning.specs.Reply.{Primitive, primitives, named}
 use Rattle.meaning.proofs.Tab.{tab-none}

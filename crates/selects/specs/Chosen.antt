@@ -6,7 +6,8 @@ use mathlib.Core.Bool.{true, cond}
 use lib.Dec.{eqb}
 use lib.ListN.{length, getD, set}
 use lib.IntN.{ℤ, pos, natAbs, _-ℤ_}
-use Rattle.meaning.specs.Terms.{within, without}
+use Rattle.shape.specs.Shape.{without}
+use Rattle.meaning.specs.Terms.{within}
 
 abbrev pub chosen : ℤ → List ℤ → ℕ → ℕ
 chosen G l i = natAbs (getD l i (pos 0) -ℤ G)

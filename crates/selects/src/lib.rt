@@ -5,9 +5,9 @@ ghost use mathlib.Core.Bool.{true};
 ghost use Prim.Native.Nat.{_*_, _≤_, _<_};
 ghost use lib.ListN.{length, getD, set, drop};
 ghost use lib.IntN.{ℤ, pos, _-ℤ_};
-ghost use Rattle.shape.specs.Shape.{maxCount, maxRank, counted, count, goodShape, shapeOf};
+ghost use Rattle.shape.specs.Shape.{maxCount, maxRank, counted, count, goodShape, shapeOf, without};
 ghost use Rattle.meaning.specs.Array.{arrayOf, goodForm, build};
-ghost use Rattle.meaning.specs.Terms.{within, every, without, along};
+ghost use Rattle.meaning.specs.Terms.{within, every, along};
 ghost use Rattle.meaning.specs.Primitives.{select};
 ghost use Rattle.meaning.specs.Reply.{reply};
 ghost use Rattle.copying.proofs.Runs.{filled};
@@ -85,25 +85,10 @@ fn selected(left: usize, m: usize, rs: Shape, k: usize) -> Shape
     ensures { λ s. ⌜ s ≡ shapeOf (selectedLengths left m k (counted rs)) ⌝ }
 {
     if left == 0 {
-        removed(rs, k)
+        rs.without_axis(k)
     } else {
         rs.with_length(k, m)
     }
-}
-
-// R's shape without axis k.
-fn removed(rs: Shape, k: usize) -> Shape
-    requires { ⌜ (rs .rank ≤ maxRank) × (k < rs .rank) ⌝ }
-    ensures { λ s. ⌜ s ≡ shapeOf (without k (counted rs)) ⌝ }
-{
-    let last = rs.rank - 1;
-    let mut lens = rs.lens;
-    let mut i = k;
-    while i < last {
-        lens[i] = lens[i + 1];
-        i += 1;
-    }
-    Shape::of_lengths(last, lens)
 }
 
 // The result's elements, `total` in number.

@@ -8,3 +8,4 @@ pub mod Next
 pub mod Successor
 pub mod Surround
 pub mod Made
+pub mod Shifted

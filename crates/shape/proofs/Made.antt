@@ -8,7 +8,7 @@ use lib.ListN.{length, take, set}
 use lib.Seq.{take-at}
 use lib.Dec.{leb, ltb}
 use Rattle.shape.specs.declared.Shape.{Shape}
-use Rattle.shape.specs.Shape.{maxRank, maxCount, counted, count, countOf, goodShape, scalar, shapeOf, shapeRule, madeOf, withLength}
+use Rattle.shape.specs.Shape.{maxRank, maxCount, counted, count, countOf, goodShape, scalar, shapeOf, shapeRule, madeOf, withLength, without, withoutAxis}
 use Rattle.shape.proofs.Counts.{good-count, bad-count, count-of}
 
 -- What of_lengths makes, where the first lengths are ns.
@@ -44,3 +44,17 @@ module _ (s : Shape) (k n : ℕ) where
   pub with-length-is : s .rank ≤ maxRank → k < s .rank → withLength s k n ≡ shapeOf (set (counted s) k n)
   unfolding withLength
   with-length-is h l = rw (le-leb (s .rank) maxRank h, lt-ltb k (s .rank) l)
+
+-- The shape without axis k.
+module _ (s : Shape) (k : ℕ) where
+  pub without-axis-high : maxRank < s .rank → scalar ≡ withoutAxis s k
+  unfolding withoutAxis
+  without-axis-high h = rw (lt-leb (s .rank) maxRank h)
+
+  pub without-axis-past : s .rank ≤ maxRank → s .rank ≤ k → scalar ≡ withoutAxis s k
+  unfolding withoutAxis
+  without-axis-past h l = rw (le-leb (s .rank) maxRank h, le-ltb k (s .rank) l)
+
+  pub without-axis-is : s .rank ≤ maxRank → k < s .rank → withoutAxis s k ≡ shapeOf (without k (counted s))
+  unfolding withoutAxis
+  without-axis-is h l = rw (le-leb (s .rank) maxRank h, lt-ltb k (s .rank) l)

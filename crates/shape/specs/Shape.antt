@@ -1,5 +1,5 @@
 -- Paper 01, "The array": the shape.
-use Prim.Native.Nat.{ℕ, suc, _*_, _-_, min}
+use Prim.Native.Nat.{ℕ, zero, suc, _*_, _-_, min}
 use mathlib.Core.List.{List, [], _∷_, _++_}
 use mathlib.Core.Bool.{Bool, true, false, cond, _&&_}
 use lib.ListN.{length, take, drop, getD, set, replicate}
@@ -54,6 +54,16 @@ madeOf rank ns = cond (leb rank maxRank) (shapeOf (take rank ns)) scalar
 -- The shape with another length of axis k, and the scalar where there is no such axis.
 unfoldable pub withLength : Shape → ℕ → ℕ → Shape
 withLength s k n = cond (leb (s .rank) maxRank && ltb k (s .rank)) (shapeOf (set (counted s) k n)) scalar
+
+-- Lengths, or a place, without axis k.
+unfoldable pub without : ℕ → List ℕ → List ℕ
+without k [] = []
+without zero (n ∷ ns) = ns
+without (suc k) (n ∷ ns) = n ∷ without k ns
+
+-- The shape without axis k, and the scalar where there is no such axis.
+unfoldable pub withoutAxis : Shape → ℕ → Shape
+withoutAxis s k = cond (leb (s .rank) maxRank && ltb k (s .rank)) (shapeOf (without k (counted s))) scalar
 
 -- What stands around axis k: the count of the axes before it, its length, and the count of the axes after it.
 -- A count above the limit, as lengths beside a zero may have, is held one above it. Where there is no such axis all are 0.

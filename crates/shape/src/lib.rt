@@ -5,7 +5,7 @@ ghost use mathlib.Core.List.{[], _∷_, _++_};
 ghost use Prim.Native.Nat.{suc, _*_, _-_, _≤_, _<_, min};
 ghost use lib.ListN.{take, set, replicate};
 ghost use lib.Seq.{slice};
-ghost use Rattle.shape.specs.Shape.{maxRank, maxCount, counted, goodShape, countOf, shapeOf, madeOf, withLength, scalar, count, held, aroundOf};
+ghost use Rattle.shape.specs.Shape.{maxRank, maxCount, counted, goodShape, countOf, shapeOf, madeOf, withLength, withoutAxis, scalar, count, held, aroundOf};
 ghost use Rattle.shape.specs.Place.{endPlace, successor, inside};
 
 // A rank and a length for each axis; only the first `rank` lengths count.
@@ -74,6 +74,26 @@ impl Shape {
         let mut lens = self.lens;
         lens[k] = n;
         Shape::of_lengths(self.rank, lens)
+    }
+
+    // The shape without axis k; the scalar where there is no such axis.
+    pub fn without_axis(self, k: usize) -> Shape
+        ensures { λ s. ⌜ s ≡ withoutAxis self k ⌝ }
+    {
+        if Shape::MAX_RANK < self.rank {
+            return Shape::scalar();
+        }
+        if self.rank <= k {
+            return Shape::scalar();
+        }
+        let last = self.rank - 1;
+        let mut lens = self.lens;
+        let mut i = k;
+        while i < last {
+            lens[i] = lens[i + 1];
+            i += 1;
+        }
+        Shape::of_lengths(last, lens)
     }
 
     // One more than the largest count for a bad shape. A zero counts even after a product above the limit.

@@ -2,11 +2,11 @@
 use Prim.Native.Nat.{ℕ, suc}
 use mathlib.Core.Path.{_≡_, refl}
 use mathlib.Core.List.{List, [], _∷_, map}
-use Rattle.shape.specs.Shape.{count, small, shapeRule}
+use Rattle.shape.specs.Shape.{count, small, shapeRule, without}
 use Rattle.shape.specs.Place.{inside, index, place}
 use Rattle.meaning.specs.Array.{goodForm, at, tabFrom, tab, build}
 use Rattle.meaning.specs.Refusal.{number, precedence, meets, winner}
-use Rattle.meaning.specs.Terms.{negative, eqZ, within, modulo, every, sameLengths, without, putIn, along, onesFrom, firstAt}
+use Rattle.meaning.specs.Terms.{negative, eqZ, within, modulo, every, sameLengths, putIn, along, onesFrom, firstAt}
 use Rattle.meaning.specs.Primitives.{lengthsOf, ravel, interval, reverse, sentTo, smallest, axesTo, sentLengths, broughtBack, backwards, transpose, reshape, side, higher, ranksFit, catenate, takenFrom, takenPlace, atOrZero, takes, droppedLengths, droppedPlace, drops, rotate, allOccur, transposeBy, compress, expand, indexOf, member, select}
 use Rattle.meaning.specs.Reply.{primitives, named, isOrigin, refusals, settle, reply}
 use Rattle.sheet_line.specs.Text.{digitsWithin, digits, decimal, following, spaced}

@@ -9,7 +9,7 @@ use mir.Val.{toZ, ofZ}
 use mir.Facts.{toZ-ofZ}
 use borrow.Author.Needs.{needs, sfits-of}
 use Rattle.copying.specs.Runs.{common, copied}
-use Rattle.copying.proofs.Steps.{front-step}
+use Rattle.shape.proofs.Shifted.{front-step}
 use Rattle.copying.proofs.copy_run.Statement.{statement}
 use Rattle.copying.proofs.copy_run.Tie as tie
 

@@ -2,6 +2,7 @@ use mathlib.Core.Path.{_≡_, sym, ap, ap₂, _∙_}
 use borrow.Author.Needs.{needs}
 use lib.ListN.{length}
 use Rattle.shape.specs.Shape.{maxRank}
+use Rattle.shape.proofs.Made.{without-axis-is}
 use Rattle.signed.proofs.Reading.{read32}
 use Rattle.meaning.specs.Item.{itemRefusal}
 use Rattle.answer.specs.Answer.{lent, refusal}
@@ -27,17 +28,16 @@ returns c =
     c .refused .ensures ∙ ap refusal e
     ∙ sym (ap itemAnswer (item-refused (lent (st .args .rs) (st .args .r .now)) (st .args .g) (st .args .i) (λ z. c .before .if1 .taken (e ∙ z))))
 
-shape-of-item-requires : tie.Need-shape-of-item-requires
-shape-of-item-requires c κs =
-    let st = c .before .before in
-    let long : length (st .args .rs .lens) ≡ maxRank = search needs in
-    found-axes (st .args .rs) (st .args .r .now) (st .args .g) (st .args .i) long (sym (refusal-is (c .before)) ∙ c .if1 .left)
+without-axis-requires : tie.Need-without-axis-requires
+without-axis-requires c κs = search needs
 
 returns-2 : tie.Need-returns-2
 returns-2 c =
     let st = c .before .before .before in
-    ap (λ s. record { number = 0; shape = s }) (c .shape-of-item .ensures)
+    let long : length (st .args .rs .lens) ≡ maxRank = search needs in
+    let axes = found-axes (st .args .rs) (st .args .r .now) (st .args .g) (st .args .i) long (sym (refusal-is (c .before .before)) ∙ c .before .if1 .left) in
+    ap (λ s. record { number = 0; shape = s }) (c .without-axis .ensures ∙ without-axis-is (st .args .rs) 0 (axes .1) (axes .0))
     ∙ sym (ap itemAnswer (item-given (lent (st .args .rs) (st .args .r .now)) (st .args .g) (st .args .i) (sym (refusal-is (c .before .before)) ∙ c .before .if1 .left)))
 
 pub item-shape-spec : {M : Type 1} → statement M
-item-shape-spec = tie.close (tie.spec item-refusal-requires refused-requires returns shape-of-item-requires returns-2)
+item-shape-spec = tie.close (tie.spec item-refusal-requires refused-requires returns without-axis-requires returns-2)

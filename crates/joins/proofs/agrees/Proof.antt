@@ -7,10 +7,10 @@ use mathlib.Core.Bool.{_&&_}
 use lib.ListN.{length}
 use lib.Seq.{length-take-le}
 use lib.IntN.{ℤ}
-use Rattle.shape.specs.Shape.{maxRank, counted}
+use Rattle.shape.specs.Shape.{maxRank, counted, without}
 use lib.Seq.{slice}
 use Rattle.meaning.specs.Array.{arrayOf}
-use Rattle.meaning.specs.Terms.{rank, sameLengths, without}
+use Rattle.meaning.specs.Terms.{rank, sameLengths}
 use Rattle.meaning.specs.Primitives.{side}
 use Rattle.answer.specs.Answer.{lent}
 use Rattle.meaning.proofs.Sides.{beside-near}

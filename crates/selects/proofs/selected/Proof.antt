@@ -5,18 +5,20 @@ use Rattle.selects.proofs.selected.Statement.{statement}
 use Rattle.selects.proofs.selected.Tie as tie
 use Rattle.selects.proofs.selected.Reads as reads
 use Rattle.selects.proofs.selected.Lts as lts
-use Rattle.selects.proofs.removed.Reads as removed-reads
-use Rattle.shape.proofs.Made.{with-length-is}
+use Rattle.shape.proofs.Made.{with-length-is, without-axis-is}
+use Rattle.shape.proofs.Shape.without_axis.Reads as without-axis-reads
 use Rattle.shape.proofs.Shape.with_length.Reads as with-length-reads
 
-removed-requires : tie.Need-removed-requires
-removed-requires c κs = search needs
+without-axis-requires : tie.Need-without-axis-requires
+without-axis-requires c κs = search needs
 
 with-length-requires : tie.Need-with-length-requires
 with-length-requires c κs = search needs
 
 returns : tie.Need-returns
-returns c = let st = c .before .before in c .removed .ensures ∙ rw (eq-eqb (st .args .left) 0 (c .before .if1 .taken))
+returns c =
+    let st = c .before .before in
+    c .without-axis .ensures ∙ without-axis-is (st .args .rs) (st .args .k) (st .pre .0) (st .pre .1) ∙ rw (eq-eqb (st .args .left) 0 (c .before .if1 .taken))
 
 returns-2 : tie.Need-returns-2
 returns-2 c =
@@ -26,4 +28,4 @@ returns-2 c =
     ∙ rw (ne-eqb (st .args .left) 0 (c .before .if1 .left))
 
 pub selected-spec : {M : Type 1} → statement M
-selected-spec = tie.close (tie.spec removed-requires with-length-requires returns returns-2)
+selected-spec = tie.close (tie.spec without-axis-requires with-length-requires returns returns-2)

@@ -1,15 +1,26 @@
 -- Lengths with one axis removed, in the array that holds them.
 use mathlib.Core.Path.{_≡_, refl, sym, ap, ap₂, _∙_}
-use mathlib.Core.List.{List, [], _∷_, _++_}
+use mathlib.Core.List.{List, [], _∷_, _++_, append-assoc}
 use Prim.Native.Nat.{ℕ, zero, suc, _+_, _≤_, _<_}
 use native.Mathlib.Nat.{not-suc-le-zero, le-of-suc-le-suc}
 use native.Mathlib.Numerals.{add-one}
 use native.Mathlib.Omega.{arith}
 use lib.ListN.{length, getD, set, take, drop}
-use lib.Seq.{take-at, length-take-le, getD-drop, getD-append-add}
-use Rattle.meaning.specs.Terms.{without}
-use Rattle.meaning.proofs.Without.{length-without}
-use Rattle.copying.proofs.Steps.{front-step}
+use lib.Seq.{take-at, take-suc, length-take-le, getD-drop, getD-append-add, drop-cons, set-at}
+use Rattle.shape.specs.Shape.{without}
+
+-- One more element of s over the front of d.
+pub front-step : {A : Type 0} (s d : List A) (i : ℕ) (z : A) → i < length s → i < length d
+    → set (take i s ++ drop i d) i (getD s i z) ≡ take (i + 1) s ++ drop (i + 1) d
+front-step s d i z h k =
+    rw (drop-cons d i z k, set-at (take i s) (getD d i z) (drop (suc i) d) (getD s i z) i (length-take-le i s (omega arith)), add-one, take-suc s i z h)
+    (sym (append-assoc (take i s) (getD s i z ∷ []) (drop (suc i) d)))
+
+pub length-without : (ns : List ℕ) (k : ℕ) → k < length ns → suc (length (without k ns)) ≡ length ns
+unfolding without
+length-without [] k l = absurd (not-suc-le-zero l)
+length-without (n ∷ ns) zero l = refl
+length-without (n ∷ ns) (suc k) l = ap suc (length-without ns k (le-of-suc-le-suc l))
 
 -- The lengths without axis k, of which the first i are moved to their places.
 abbrev pub shifted : ℕ → ℕ → List ℕ → List ℕ
