@@ -262,14 +262,14 @@ fn random_bits(n: usize) -> Vec<i32> {
 }
 
 /// Marsaglia's xorshift, the same numbers in every run.
-struct Random(u64);
+pub struct Random(u64);
 
 impl Random {
-    fn new() -> Random {
+    pub fn new() -> Random {
         Random(88_172_645_463_325_252)
     }
 
-    fn below(&mut self, bound: usize) -> i32 {
+    pub fn below(&mut self, bound: usize) -> i32 {
         self.0 ^= self.0 << 13;
         self.0 ^= self.0 >> 7;
         self.0 ^= self.0 << 17;

@@ -1,5 +1,6 @@
 //! Times the kernel, straightforward Rust and a plain copy of the result on the same cases, side by side in one run.
 
+mod agree;
 mod buffer;
 mod cases;
 mod kernel;
@@ -18,6 +19,7 @@ const BATCH: Duration = Duration::from_micros(40);
 const CASE: Duration = Duration::from_millis(100);
 /// Rounds over all cases, so that a slow moment of the machine spoils no case.
 const ROUNDS: usize = 4;
+const RANDOM_CALLS: usize = 200_000;
 
 /// Nanoseconds a call, the best of many. NumPy's come from bench/numpy_times.py, if at all.
 pub struct Times {
@@ -28,16 +30,23 @@ pub struct Times {
     pub numpy: Option<f64>,
 }
 
-/// bench PLOT [NUMPY]: the tables to standard output, the plot to PLOT, with the times that NUMPY has.
+/// bench [PLOT [NUMPY]]: holds the kernel and the straightforward version to each other. With PLOT it times them too: the tables go to
+/// standard output, with the times that NUMPY has, and the plot to PLOT.
 fn main() {
+    let cases = cases::all();
+    agree::on_random_calls(RANDOM_CALLS);
+    let counts: Vec<usize> = cases.iter().map(agree::on_case).collect();
     let mut words = std::env::args().skip(1);
-    let plot = words.next().expect("the plot's path");
+    let Some(plot) = words.next() else {
+        println!("{RANDOM_CALLS} random calls and {} cases answered alike", cases.len());
+        return;
+    };
     let numpy = words.next().map_or(String::new(), |path| std::fs::read_to_string(path).expect("NumPy's times"));
+    let none = f64::INFINITY;
     let mut timed = Vec::new();
-    for case in cases::all() {
-        let mut times = agreed(&case);
-        times.numpy = numpy_time(&case, &numpy);
-        timed.push((case, times));
+    for (case, count) in cases.into_iter().zip(counts) {
+        let numpy = numpy_time(&case, &numpy);
+        timed.push((case, Times { count, kernel: none, rust: none, copy: none, numpy }));
     }
     for _ in 0..ROUNDS {
         for (case, times) in &mut timed {
@@ -53,17 +62,6 @@ fn main() {
 fn numpy_time(case: &Case, numpy: &str) -> Option<f64> {
     let start = format!("{}\t{}\t{}\t", case.primitive, case.shape, case.what);
     numpy.lines().find_map(|line| line.strip_prefix(&start)?.parse().ok())
-}
-
-/// Where the kernel and the straightforward version give the same answer and leave the same output buffer: no times yet.
-fn agreed(case: &Case) -> Times {
-    let (mut a, mut b) = (vec![-9; MAX_COUNT], vec![-9; MAX_COUNT]);
-    let x = kernel::answer(&case.call, &mut a);
-    let y = plain::answer(&case.call, &mut b);
-    assert!(x == y && a == b, "{} {} {}: {x:?} and {y:?}", case.primitive, case.shape, case.what);
-    assert_eq!(x.number, 0, "{} {} {} is refused", case.primitive, case.shape, case.what);
-    let count = x.shape.lens[..x.shape.rank].iter().product();
-    Times { count, kernel: f64::INFINITY, rust: f64::INFINITY, copy: f64::INFINITY, numpy: None }
 }
 
 /// The three in turn, so that what else the machine does falls on all of them.
