@@ -3,7 +3,7 @@
 use crate::buffer::Buffer;
 use crate::kernel::{Call, Operand, Shape, MAX_COUNT};
 
-/// Rows, bays and tiers of a block of containers.
+/// Bays, rows and tiers of a block of containers.
 const BLOCK: &[usize] = &[30, 10, 5];
 const LARGE: &[usize] = &[32, 16, 32];
 const VECTOR: &[usize] = &[MAX_COUNT];
@@ -125,18 +125,13 @@ fn along(lengths: &[usize], axis: usize, cases: &mut Vec<Case>) {
 }
 
 fn transposes(cases: &mut Vec<Case>) {
-    let mut push = |primitive, lengths: &[usize], what: &str, l| {
-        let mut case = two(primitive, lengths, what, 0, l, array(lengths));
-        case.goals = goals(case.call.number, count(lengths), 1, false);
-        cases.push(case);
-    };
     for lengths in [BLOCK, LARGE, VECTOR, &[128, 128]] {
-        push("15 transpose", lengths, "", scalar(0));
+        cases.push(one("15 transpose", lengths, "", 0, array(lengths)));
     }
     for lengths in [BLOCK, LARGE] {
         for sent in [[1, 3, 2], [2, 1, 3], [2, 3, 1], [3, 1, 2], [1, 1, 2]] {
             let what = format!("by {} {} {}", sent[0], sent[1], sent[2]);
-            push("26 transpose by", lengths, &what, list(sent.to_vec()));
+            cases.push(two("26 transpose by", lengths, &what, 0, list(sent.to_vec()), array(lengths)));
         }
     }
     // Short lines on many axes, where the walk costs more than the elements.
