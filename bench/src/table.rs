@@ -27,7 +27,7 @@ pub fn cases(timed: &[(Case, Times)]) -> String {
 fn case_row(case: &Case, times: &Times) -> String {
     let an_element = |time: f64| format!("{:.3}", time / times.count as f64);
     let goals = case.goals.iter().map(|&goal| {
-        let met = if ratio(goal, times) <= goal.most { "met" } else { "**not met**" };
+        let met = if is_met(goal, ratio(goal, times)) { "met" } else { "**not met**" };
         format!("{}: {met}", most(goal))
     });
     format!(
@@ -51,7 +51,7 @@ fn goal_row(goal: Goal, timed: &[(Case, Times)]) -> String {
     let held = timed.iter().filter(|(case, _)| case.goals.contains(&goal));
     let mut held: Vec<(f64, &Case)> = held.map(|(case, times)| (ratio(goal, times), case)).collect();
     held.sort_by(|a, b| b.0.total_cmp(&a.0));
-    let met = held.iter().filter(|(ratio, _)| *ratio <= goal.most).count();
+    let met = held.iter().filter(|(ratio, _)| is_met(goal, *ratio)).count();
     let (worst, case) = held.first().expect("every goal has a case");
     format!(
         "| {} | {} | {met} of {} | {worst:.2} | {} {} {} |",
@@ -69,6 +69,11 @@ fn ratio(goal: Goal, times: &Times) -> f64 {
         Beside::Copy => times.kernel / times.copy,
         Beside::Rust => times.kernel / times.rust,
     }
+}
+
+/// As the ratio is printed, in hundredths.
+fn is_met(goal: Goal, ratio: f64) -> bool {
+    (ratio * 100.0).round() <= goal.most * 100.0
 }
 
 fn most(goal: Goal) -> String {
