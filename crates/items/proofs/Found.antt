@@ -86,9 +86,12 @@ module _ (s : Shape) (b : List ℤ) (G i : ℤ) (long : length (s .lens) ≡ max
         part = rw add-sub-cancel-left (sym (ap (λ (y : Item). y .part) (item-given (lent s b) G i z)));
       })
 
-  pub found : (w : Around) (x y : ℤ) (at : ℕ) → w ≡ aroundOf s 0 → x ≡ i → y ≡ G → at ≡ positionOf (x -ℤ y) (w .length) → Part s b G i at (w .inner)
-  found w x y at e p q h =
+  -- The position and the size, as the program has them.
+  pub found-at : (w : Around) (x y : ℤ) (at : ℕ) → w ≡ aroundOf s 0 → x ≡ i → y ≡ G → at ≡ positionOf (x -ℤ y) (w .length)
+      → (at ≡ natAbs (i -ℤ G)) × (w .inner ≡ count (itemLengths (lent s b)))
+  found-at w x y at e p q h =
       let l : 0 < s .rank = found-axes .0 in
-      found-part at (w .inner)
-      (h ∙ (rw (p, q, e, first-length s (held .high) l, taken .inside)))
-      (rw e (first-inner s (held .high) l (omega (arith, found-small))))
+      (h ∙ (rw (p, q, e, first-length s (held .high) l, taken .inside)), rw e (first-inner s (held .high) l (omega (arith, found-small))))
+
+  pub found : (w : Around) (x y : ℤ) (at : ℕ) → w ≡ aroundOf s 0 → x ≡ i → y ≡ G → at ≡ positionOf (x -ℤ y) (w .length) → Part s b G i at (w .inner)
+  found w x y at e p q h = let f = found-at w x y at e p q h in found-part at (w .inner) (f .0) (f .1)
