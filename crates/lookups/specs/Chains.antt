@@ -8,7 +8,7 @@ use lib.IntN.{ℤ, pos, negsuc, natAbs, _-ℤ_}
 use Rattle.meaning.specs.Terms.{within}
 
 abbrev pub chains : ℕ
-chains = 32768
+chains = 65536
 
 -- What stands after the last position of a chain: past every list.
 abbrev pub past : ℕ
@@ -20,7 +20,7 @@ key x = cond (within (x -ℤ negsuc 2147483647) 4294967296) (natAbs (x -ℤ negs
 
 -- The chain of a value. Nothing rests on which it is.
 unfoldable pub chainOf : ℤ → ℕ
-chainOf x = key x * 2654435769 / 131072 % chains
+chainOf x = key x * 2654435769 / 65536 % chains
 
 -- The first position, from one on, of a value of chain h, or a number past the list where there is none.
 pub record Next (l : List ℤ) (h from q : ℕ) : Type 0 where

@@ -8,7 +8,7 @@ ghost use Rattle.meaning.specs.Terms.{firstAt};
 ghost use Rattle.lookups.specs.Chains.{chains, chainOf, Linked};
 use shape::Shape;
 
-pub const CHAINS: usize = 32768;
+pub const CHAINS: usize = 65536;
 
 // After the last position of a chain.
 pub const NONE: u16 = 65535;
@@ -16,12 +16,12 @@ pub const NONE: u16 = 65535;
 // A chain is followed for one step to so many elements of the list, which takes less time than to search the list.
 const ELEMENTS_TO_A_STEP: usize = 64;
 
-// The chain of a value: fifteen bits from the middle of a product.
+// The chain of a value: sixteen bits from the middle of a product.
 fn chain(x: i32) -> usize
     ensures { λ h. ⌜ (h ≡ chainOf x) × (h < chains) ⌝ }
 {
     let k = signed::position(x, -2147483648, 4294967296);
-    k * 2654435769 / 131072 % CHAINS
+    k * 2654435769 / 65536 % CHAINS
 }
 
 // Every position of l is put in front of its chain, the last position first.

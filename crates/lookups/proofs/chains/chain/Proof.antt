@@ -38,9 +38,9 @@ position-requires c κs = search needs
 mul-result : tie.Need-mul-result
 mul-result c = omega (arith, key-is c, key-small (c .before .args .x))
 
-chain-is : (c : tie.After-position) → c .position .result * 2654435769 / 131072 % chains ≡ chainOf (c .before .args .x)
+chain-is : (c : tie.After-position) → c .position .result * 2654435769 / 65536 % chains ≡ chainOf (c .before .args .x)
 unfolding chainOf
-chain-is c = ap (λ k. k * 2654435769 / 131072 % chains) (key-is c)
+chain-is c = ap (λ k. k * 2654435769 / 65536 % chains) (key-is c)
 
 returns : tie.Need-returns
 returns c = (chain-is c, omega arith)
