@@ -197,7 +197,7 @@ fn blocks(
     }
 }
 
-// All lines along axis k.
+// All lines along axis k. Those of single elements are called with what they are, so that both kinds are compiled to loops of their own.
 fn lines(
     expands: bool,
     l: &[i32],
@@ -221,7 +221,15 @@ fn lines(
         return;
     }
     let a = s.around(k);
-    blocks(expands, l, r, a.outer, a.length, m, a.inner, out);
+    if a.inner == 1 {
+        if expands {
+            blocks(true, l, r, a.outer, a.length, m, 1, out);
+        } else {
+            blocks(false, l, r, a.outer, a.length, m, 1, out);
+        }
+    } else {
+        blocks(expands, l, r, a.outer, a.length, m, a.inner, out);
+    }
 }
 
 // The lines along axis k that a mask keeps. Where one element serves the whole axis that is all or nothing, in R's order.
