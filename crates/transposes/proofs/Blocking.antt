@@ -71,7 +71,7 @@ parts a (n ∷ ns) (w ∷ ws) size at m to room k h =
 -- One block more.
 module _ (l s o : ℕ) (ns : List ℕ) (w : ℕ) (ws : List ℕ) (x : ℕ) (os : List ℕ) (r : List ℤ) (at to : ℕ) where
   pub blocks-none : (out : List ℤ) → Placed (l ∷ (0 ∷ ns)) (s ∷ (w ∷ ws)) (o ∷ (x ∷ os)) r at to out out
-  blocks-none out = placed-swap _ _ _ _ _ _ _ _ _ r at to out out (placed-none 0 (l ∷ ns) w (s ∷ ws) x (o ∷ os) r at to out)
+  blocks-none out = placed-swap _ _ _ _ _ _ _ _ _ r at to out out (placed-none (l ∷ ns) w (s ∷ ws) x (o ∷ os) r at to out)
 
   pub blocks-more : (i : ℕ) (out₀ out last : List ℤ) → Placed (l ∷ (i ∷ ns)) (s ∷ (w ∷ ws)) (o ∷ (x ∷ os)) r at to out₀ out
       → Placed (l ∷ ns) (s ∷ ws) (o ∷ os) r (at + i * w) (to + i * x) out last

@@ -35,7 +35,7 @@ inside-cons n ns i p l h = in-inside (n ∷ ns) (i ∷ p) (l, inside-in ns p h)
 pub from-on : (x l j w d : ℕ) → x + l * w + (j * w + d) ≡ x + ((l + j) * w + d)
 from-on x l j w d = omega (arith, add-mul l j w)
 
-module _ (n : ℕ) (ns : List ℕ) (w : ℕ) (ws : List ℕ) (o : ℕ) (os : List ℕ) (r : List ℤ) (at to : ℕ) where
+module _ (ns : List ℕ) (w : ℕ) (ws : List ℕ) (o : ℕ) (os : List ℕ) (r : List ℤ) (at to : ℕ) where
   -- Nothing is written on an axis of length 0.
   none-holds : (T out : List ℤ) → Holds (0 ∷ ns) (o ∷ os) to T out
   none-holds T out [] h = inside-none 0 ns h

@@ -22,11 +22,10 @@ known : (c : tie.In-loop Inv-loop μ-loop)
     → let a = c .before .before .args in
     let i = c .before .loop .i in
     (a .at + i * a .axis .stride < length (a .r .now)) × (a .to + i * a .axis .step < length (a .out .now))
-known c =
-    reach-from _ _ _ _ _ _ _ _ _ _ (c .before .before .pre) (c .before .loop .i) (omega arith)
+known c = reach-from _ _ _ _ _ _ _ _ _ _ (c .before .before .pre) (c .before .loop .i) (omega arith)
 
 loop-holds : tie.Need-loop-holds Inv-loop μ-loop
-loop-holds c = (omega arith, placed-none 0 [] _ [] _ [] _ _ _ _)
+loop-holds c = (omega arith, placed-none [] _ [] _ [] _ _ _ _)
 
 mul-from : tie.Need-mul-from Inv-loop μ-loop
 mul-from c = omega (arith, known c .0)

@@ -25,7 +25,7 @@ known : (c : tie.In-loop Inv-loop μ-loop)
 known c = reach-from _ _ _ _ _ _ _ _ _ _ (c .before .before .pre) (c .before .loop .i) (omega arith)
 
 loop-holds : tie.Need-loop-holds Inv-loop μ-loop
-loop-holds c = (omega arith, placed-none 0 _ _ _ _ _ _ _ _ _)
+loop-holds c = (omega arith, placed-none _ _ _ _ _ _ _ _ _)
 
 mul-from : tie.Need-mul-from Inv-loop μ-loop
 mul-from c = omega (arith, known c .0)

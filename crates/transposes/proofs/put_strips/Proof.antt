@@ -35,7 +35,7 @@ sub-end : tie.Need-sub-end Inv-loop μ-loop
 sub-end c = search needs
 
 loop-holds : tie.Need-loop-holds Inv-loop μ-loop
-loop-holds c = (omega arith, placed-none 0 _ _ _ _ _ _ _ _ _)
+loop-holds c = (omega arith, placed-none _ _ _ _ _ _ _ _ _)
 
 mul-from : tie.Need-mul-from Inv-loop μ-loop
 mul-from c = omega (arith, starts (c .before .before .before) (c .before .loop .i) (omega arith) .0)
