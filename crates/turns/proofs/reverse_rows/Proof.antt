@@ -1,4 +1,4 @@
-use mathlib.Core.Path.{_≡_, refl, ap, _∙_}
+use mathlib.Core.Path.{_≡_, refl, sym, ap, _∙_}
 use mathlib.Core.List.{List}
 use Prim.Native.Nat.{ℕ, _+_, _*_, _-_, _/_, _%_, _≤_}
 use native.Mathlib.Nat.{zero-mul}
@@ -14,6 +14,7 @@ use Rattle.turns.proofs.reverse_rows.Tie as tie
 use Rattle.turns.proofs.reverse_rows.Reads as reads
 use Rattle.turns.proofs.reverse_rows.Lts as lts
 use Rattle.copying.proofs.copy_run.Reads as copy-run-reads
+use Rattle.turns.proofs.row_at.Reads as row-at-reads
 
 -- What element j of the reversed block is.
 abbrev element : List ℤ → ℕ → ℕ → ℕ → ℤ
@@ -28,6 +29,11 @@ abbrev μ-loop : tie.MeasureT-loop
 row : (c : tie.In-loop Inv-loop μ-loop) → c .before .loop .i * c .before .before .args .inner ≡ (c .before .loop .i - 1) * c .before .before .args .inner + c .before .before .args .inner
 row c = row-before (c .before .loop .i) (c .before .before .args .inner) (omega arith)
 
+-- Where the row starts.
+from-is : (c : tie.After-row-at Inv-loop μ-loop)
+    → c .row-at .result * c .before .before .before .args .inner ≡ (c .before .before .loop .i - 1) * c .before .before .before .args .inner
+from-is c = ap (λ i. i * c .before .before .before .args .inner) (c .row-at .ensures)
+
 -- src/lib.rt:111:5
 loop-holds : tie.Need-loop-holds Inv-loop μ-loop
 loop-holds c = (omega arith, (omega arith, (refl, filled-none _ _)))
@@ -36,49 +42,52 @@ loop-holds c = (omega arith, (omega arith, (refl, filled-none _ _)))
 sub-i : tie.Need-sub-i Inv-loop μ-loop
 sub-i c = search needs
 
+row-at-requires : tie.Need-row-at-requires Inv-loop μ-loop
+row-at-requires c κs = search needs
+
 -- src/lib.rt:114:20
 mul-from : tie.Need-mul-from Inv-loop μ-loop
-mul-from c = omega (arith, row c)
+mul-from c = omega (arith, from-is c, row (c .before))
 
 -- src/lib.rt:114:20
 add-stop : tie.Need-add-stop Inv-loop μ-loop
-add-stop c = omega (arith, row c)
+add-stop c = omega (arith, from-is c, row (c .before))
 
 -- src/lib.rt:115:19
 add-end : tie.Need-add-end Inv-loop μ-loop
-add-end c = omega (arith, row c)
+add-end c = omega (arith, from-is c, row (c .before))
 
 -- src/lib.rt:116:27
 mul-copy-run : tie.Need-mul-copy-run Inv-loop μ-loop
-mul-copy-run c = omega (arith, row c)
+mul-copy-run c = omega (arith, from-is c, row (c .before))
 
 -- src/lib.rt:116:27
 sub-copy-run : tie.Need-sub-copy-run Inv-loop μ-loop
-sub-copy-run c = omega (arith, row c)
+sub-copy-run c = omega (arith, from-is c, row (c .before))
 
 -- src/lib.rt:116:27
 part-copy-run-start : tie.Need-part-copy-run-start Inv-loop μ-loop
-part-copy-run-start c = omega (arith, row c)
+part-copy-run-start c = omega (arith, from-is c, row (c .before))
 
 -- src/lib.rt:116:27
 part-copy-run-end : tie.Need-part-copy-run-end Inv-loop μ-loop
-part-copy-run-end c = omega (arith, row c)
+part-copy-run-end c = omega (arith, from-is c, row (c .before))
 
 -- src/lib.rt:116:43
 mul-copy-run-2 : tie.Need-mul-copy-run-2 Inv-loop μ-loop
-mul-copy-run-2 c = omega (arith, row (c .before))
+mul-copy-run-2 c = omega (arith, from-is (c .before), row (c .before .before))
 
 -- src/lib.rt:116:43
 sub-copy-run-2 : tie.Need-sub-copy-run-2 Inv-loop μ-loop
-sub-copy-run-2 c = omega (arith, row (c .before))
+sub-copy-run-2 c = omega (arith, from-is (c .before), row (c .before .before))
 
 -- src/lib.rt:116:43
 part-copy-run-start-2 : tie.Need-part-copy-run-start-2 Inv-loop μ-loop
-part-copy-run-start-2 c = omega (arith, row (c .before))
+part-copy-run-start-2 c = omega (arith, from-is (c .before), row (c .before .before))
 
 -- src/lib.rt:116:43
 part-copy-run-end-2 : tie.Need-part-copy-run-end-2 Inv-loop μ-loop
-part-copy-run-end-2 c = omega (arith, row (c .before))
+part-copy-run-end-2 c = omega (arith, from-is (c .before), row (c .before .before))
 
 -- src/lib.rt:116:9
 copy-run-requires : tie.Need-copy-run-requires Inv-loop μ-loop
@@ -91,9 +100,11 @@ loop-less c = search needs
 -- src/lib.rt:111:5
 loop-again : tie.Need-loop-again Inv-loop μ-loop
 loop-again c =
-    let st = c .before .before .before .before .before .before in
-    let lp = c .before .before .before .before .before .loop in
-    let e = row (c .before .before .before .before) in
+    let st = c .before .before .before .before .before .before .before in
+    let lp = c .before .before .before .before .before .before .loop in
+    let from : ℕ = c .before .before .before .before .row-at .result * st .args .inner in
+    let e = row (c .before .before .before .before .before) in
+    let q : from ≡ (lp .i - 1) * st .args .inner = from-is (c .before .before .before .before) in
     let r = st .args .r .now in
     let out₀ = st .args .out .now in (
       omega arith,
@@ -102,8 +113,8 @@ loop-again c =
         (
           same-len-mid (lp .to) (lp .to + st .args .inner - lp .to) (lp .out) (c .before .copy-run .last .1 .0) (c .before .copy-run .kept .1 .0) ∙ lp .inv .1 .1 .0,
           put-copied (element r (st .args .n) (st .args .inner)) (lp .to) (st .args .inner) _ (lp .out) out₀ _ (lp .inv .1 .1 .1) refl (omega arith) r
-              ((lp .i - 1) * st .args .inner) ((lp .i - 1) * st .args .inner + st .args .inner) (pos 0) refl (omega arith)
-              (λ x b. ap (λ k. getD r k (pos 0)) (reversed-row (st .args .n) (st .args .inner) (lp .i) (lp .to) x (omega arith) (lp .inv .0) (lp .inv .1 .0) b))
+              from (from + st .args .inner) (pos 0) refl (omega arith)
+              (λ x b. ap (λ k. getD r k (pos 0)) (reversed-row (st .args .n) (st .args .inner) (lp .i) (lp .to) x (omega arith) (lp .inv .0) (lp .inv .1 .0) b ∙ ap (λ k. k + x) (sym q)))
               (c .before .copy-run .ensures),
         ),
       ),
@@ -132,6 +143,7 @@ reverse-rows-spec =
     μ-loop
     loop-holds
     sub-i
+    row-at-requires
     mul-from
     add-stop
     add-end
