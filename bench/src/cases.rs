@@ -19,7 +19,7 @@ pub enum Beside {
     Rust,
 }
 
-/// A goal of issue 5: at most so many times what the kernel is held to.
+/// A goal: at most so many times what the kernel is held to.
 #[derive(Clone, Copy, PartialEq)]
 pub struct Goal {
     pub name: &'static str,
