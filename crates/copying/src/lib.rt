@@ -4,7 +4,8 @@ ghost use Prim.Native.Nat.{min};
 ghost use lib.ListN.{length, replicate};
 ghost use Rattle.copying.specs.Runs.{copied, reversed};
 
-fn fewer(a: usize, b: usize) -> usize
+// The lesser of two lengths.
+pub fn fewer(a: usize, b: usize) -> usize
     ensures { λ r. ⌜ r ≡ min a b ⌝ }
 {
     if a < b { a } else { b }

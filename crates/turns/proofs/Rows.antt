@@ -3,7 +3,7 @@ use mathlib.Core.Path.{_≡_, refl, sym, ap, ap₂, _∙_}
 use mathlib.Core.List.{List}
 use mathlib.Core.Bool.{Bool, true, false, cond}
 use Prim.Native.Nat.{ℕ, zero, suc, _+_, _*_, _-_, _/_, _%_, _≤_, _<_}
-use native.Mathlib.Nat.{mul-le-mul-right, mul-comm, mul-one, mul-zero, div-one, mod-one, mod-lt, mod-eq-of-lt, add-mod-right, div-add-mod', div-lt-iff-lt-mul, not-suc-le-zero, zero-add}
+use native.Mathlib.Nat.{mul-le-mul-right, mul-one, mul-zero, div-one, mod-one, mod-lt, mod-eq-of-lt, add-mod-right, div-add-mod', div-lt-iff-lt-mul, not-suc-le-zero, zero-add}
 use native.Mathlib.Omega.{arith}
 use lib.Arith.{digits-div, digits-mod, digits-lt, mod-mul}
 use borrow.Rule.Slice.PartMut.{putMid}
@@ -26,19 +26,6 @@ use Rattle.copying.proofs.Steps.{getD-reverse}
 pub row-before : (i c : ℕ) → 0 < i → i * c ≡ (i - 1) * c + c
 row-before zero c h = absurd (omega arith)
 row-before (suc i) c h = let e : suc i - 1 ≡ i = omega arith in rw e (omega arith)
-
--- A row as a remainder.
-pub row-remainder : (i n : ℕ) → i < n → (n - 1) * (n - i) % n ≡ i
-row-remainder i n h =
-    let e : ℕ = n - i - 1 in
-    let a : n - 1 ≡ i + e = omega arith in
-    let b : n - i ≡ suc e = omega arith in
-    let c : n ≡ i + suc e = omega arith in
-    let d : (n - 1) * (n - i) ≡ e * n + i = ap₂ (λ x y. x * y) a b ∙ both i e ∙ ap (λ x. e * x + i) (sym c) in
-    ap (λ x. x % n) d ∙ digits-mod e h
-  where
-    both : (i e : ℕ) → (i + e) * suc e ≡ e * (i + suc e) + i
-    both i e = omega (arith, mul-comm i e)
 
 -- Row n - i of a reversed block is row i - 1.
 pub reversed-row : (n c i to x : ℕ) → 0 < i → i ≤ n → to + i * c ≡ n * c → x < c → (n - 1 - (to + x) / c) * c + (to + x) % c ≡ (i - 1) * c + x

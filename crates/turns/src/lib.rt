@@ -143,23 +143,6 @@ fn reverse_block(r: &[i32], n: usize, inner: usize, out: &mut [i32])
     }
 }
 
-// The shortest row that is worth a remainder.
-const LONG_ROW: usize = 16;
-
-// Row i, as a remainder where rows are long: the compiler then does not see them go backwards, which keeps it from moving several elements at once.
-fn row_at(i: usize, n: usize, inner: usize) -> usize
-    requires { ⌜ i < n ⌝ }
-    ensures { λ r. ⌜ r ≡ i ⌝ }
-{
-    if inner < LONG_ROW {
-        return i;
-    }
-    if Shape::MAX_COUNT < n {
-        return i;
-    }
-    (n - 1) * (n - i) % n
-}
-
 fn reverse_rows(r: &[i32], n: usize, inner: usize, out: &mut [i32])
     requires { ⌜ (length (now r) ≡ n * inner) × (length (now out) ≡ n * inner) ⌝ }
     ensures { λ _. ⌜ now (out .exit) ≡ tab (n * inner) (λ j. getD (now (r .entry)) ((n - 1 - j / inner) * inner + j % inner) (pos 0)) ⌝ }
@@ -168,7 +151,8 @@ fn reverse_rows(r: &[i32], n: usize, inner: usize, out: &mut [i32])
     let mut i = n;
     while 0 < i {
         i -= 1;
-        let from = row_at(i, n, inner) * inner;
+        // No end is past r's. Without this test the compiler sees rows go backwards, and moves one element at a time.
+        let from = copying::fewer(i * inner, r.len());
         let stop = from + inner;
         let end = to + inner;
         copying::copy_run(&r[from..stop], &mut out[to..end]);

@@ -1,7 +1,7 @@
 use mathlib.Core.Path.{_≡_, refl, sym, ap, _∙_}
 use mathlib.Core.List.{List}
 use Prim.Native.Nat.{ℕ, _+_, _*_, _-_, _/_, _%_, _≤_}
-use native.Mathlib.Nat.{zero-mul}
+use native.Mathlib.Nat.{zero-mul, min-eq-left}
 use native.Mathlib.Omega.{arith}
 use lib.ListN.{length, getD}
 use lib.IntN.{ℤ, pos}
@@ -14,7 +14,7 @@ use Rattle.turns.proofs.reverse_rows.Tie as tie
 use Rattle.turns.proofs.reverse_rows.Reads as reads
 use Rattle.turns.proofs.reverse_rows.Lts as lts
 use Rattle.copying.proofs.copy_run.Reads as copy-run-reads
-use Rattle.turns.proofs.row_at.Reads as row-at-reads
+use Rattle.copying.proofs.fewer.Reads as fewer-reads
 
 -- What element j of the reversed block is.
 abbrev element : List ℤ → ℕ → ℕ → ℕ → ℤ
@@ -30,9 +30,8 @@ row : (c : tie.In-loop Inv-loop μ-loop) → c .before .loop .i * c .before .bef
 row c = row-before (c .before .loop .i) (c .before .before .args .inner) (omega arith)
 
 -- Where the row starts.
-from-is : (c : tie.After-row-at Inv-loop μ-loop)
-    → c .row-at .result * c .before .before .before .args .inner ≡ (c .before .before .loop .i - 1) * c .before .before .before .args .inner
-from-is c = ap (λ i. i * c .before .before .before .args .inner) (c .row-at .ensures)
+from-is : (c : tie.After-fewer Inv-loop μ-loop) → c .fewer .result ≡ (c .before .before .loop .i - 1) * c .before .before .before .args .inner
+from-is c = c .fewer .ensures ∙ min-eq-left (omega (arith, row (c .before)))
 
 -- src/lib.rt:111:5
 loop-holds : tie.Need-loop-holds Inv-loop μ-loop
@@ -42,12 +41,11 @@ loop-holds c = (omega arith, (omega arith, (refl, filled-none _ _)))
 sub-i : tie.Need-sub-i Inv-loop μ-loop
 sub-i c = search needs
 
-row-at-requires : tie.Need-row-at-requires Inv-loop μ-loop
-row-at-requires c κs = search needs
+mul-fewer : tie.Need-mul-fewer Inv-loop μ-loop
+mul-fewer c = omega (arith, row c)
 
--- src/lib.rt:114:20
-mul-from : tie.Need-mul-from Inv-loop μ-loop
-mul-from c = omega (arith, from-is c, row (c .before))
+fewer-requires : tie.Need-fewer-requires Inv-loop μ-loop
+fewer-requires c κs = search needs
 
 -- src/lib.rt:114:20
 add-stop : tie.Need-add-stop Inv-loop μ-loop
@@ -102,7 +100,7 @@ loop-again : tie.Need-loop-again Inv-loop μ-loop
 loop-again c =
     let st = c .before .before .before .before .before .before .before in
     let lp = c .before .before .before .before .before .before .loop in
-    let from : ℕ = c .before .before .before .before .row-at .result * st .args .inner in
+    let from : ℕ = c .before .before .before .before .fewer .result in
     let e = row (c .before .before .before .before .before) in
     let q : from ≡ (lp .i - 1) * st .args .inner = from-is (c .before .before .before .before) in
     let r = st .args .r .now in
@@ -143,8 +141,8 @@ reverse-rows-spec =
     μ-loop
     loop-holds
     sub-i
-    row-at-requires
-    mul-from
+    mul-fewer
+    fewer-requires
     add-stop
     add-end
     mul-copy-run
