@@ -6,7 +6,8 @@
    - pointers and lengths that belong together: each pointer is to as many elements of 32 bits as the length beside it says, all of them
      readable, and writable for `out`; with length 0 too it is not null and is aligned to 4 bytes;
    - no overlap of `out` with an operand's buffer; the two operands may share theirs;
-   - nobody else writes any of the buffers before the call returns.
+   - nobody else writes any of the buffers before the call returns;
+   - some 200 KB of stack: index of and member hold 160 KB of chains there, the other calls a few hundred bytes.
    No other value harms: a bad shape, number, origin or axis is refused. */
 #ifndef GILLGRATER_H
 #define GILLGRATER_H
