@@ -99,6 +99,17 @@ struct Axis {
     step: usize,
 }
 
+// The last axis of the result: its neighbours are neighbours there.
+fn last_axis(length: usize, stride: usize) -> Axis
+    ensures { λ a. ⌜ a ≡ record { length = length; stride = stride; step = 1 } ⌝ }
+{
+    Axis {
+        length,
+        stride,
+        step: 1,
+    }
+}
+
 // The elements of r along an axis, from the one at `at` on, each to its place from `to` on.
 fn put_line(axis: Axis, r: &[i32], at: usize, to: usize, out: &mut [i32])
     requires { ⌜ ReachAlong (axis ∷ []) at (length (now r)) to (length (now out)) ⌝ }
@@ -192,11 +203,7 @@ fn put_blocks(
     let n = lens[0];
     let apart = strides[0];
     if rank == 1 {
-        let last = Axis {
-            length: n,
-            stride: apart,
-            step: 1,
-        };
+        let last = last_axis(n, apart);
         put_block(near, last, r, at, to, out);
         return;
     }

@@ -14,6 +14,7 @@ use borrow.Fn.PlainCycle.{Measures, is, falls, and}
 use Rattle.transposes.proofs.put_blocks.Reads as put-blocks
 use Rattle.transposes.proofs.put_blocks.Kinds as put-blocks-kinds
 use Rattle.transposes.proofs.+put_blocks.Lts-put_blocks as put-blocks-lts
+use Rattle.transposes.proofs.last_axis.Reads as last-axis-reads
 use Rattle.transposes.proofs.put_block.Reads as put-block-reads
 use Rattle.transposes.proofs.+put_blocks.{statement}
 use Rattle.transposes.proofs.+put_blocks.Tie.{close}
@@ -39,6 +40,8 @@ put-blocks-μ-loop near lens ws size r at to out₀ rank n apart step i₀ out i
 -- What is asked and learnt at each call.
 abbrev claims : ℕ → put-blocks-lts.Claims
 claims t = (
+  last-axis-reads.Asked,
+  last-axis-reads.Learnt,
   put-block-reads.Asked,
   put-block-reads.Learnt,
   put-blocks-below t,
@@ -59,16 +62,20 @@ put-blocks-shared-slice-read-n t c = omega (arith, c .before .before .before .pr
 put-blocks-shared-slice-read-apart : (t : ℕ) → put-blocks-lts.Need-shared-slice-read-apart (claims t) (put-blocks-at t) put-blocks.Post put-blocks-Inv-loop put-blocks-μ-loop
 put-blocks-shared-slice-read-apart t c = omega (arith, c .before .before .before .before .pre .1 .some, c .before .before .before .before .pre .1 .axes)
 
+put-blocks-last-axis-requires : (t : ℕ) → put-blocks-lts.Need-last-axis-requires (claims t) (put-blocks-at t) put-blocks.Post put-blocks-Inv-loop put-blocks-μ-loop
+put-blocks-last-axis-requires t c κs = search needs
+
 put-blocks-put-block-requires : (t : ℕ) → put-blocks-lts.Need-put-block-requires (claims t) (put-blocks-at t) put-blocks.Post put-blocks-Inv-loop put-blocks-μ-loop
-put-blocks-put-block-requires t c κs = reach-block _ _ _ _ _ _ _ _ (c .before .before .before .before .before .before .pre .1) (c .before .if1 .taken)
+put-blocks-put-block-requires t c κs = rw (c .before .last-axis .ensures) (reach-block _ _ _ _ _ _ _ _ (c .before .before .before .before .before .before .before .pre .1) (c .before .before .if1 .taken))
 
 put-blocks-same-length : (t : ℕ) → put-blocks-lts.Need-same-length (claims t) (put-blocks-at t) put-blocks.Post put-blocks-Inv-loop put-blocks-μ-loop
 put-blocks-same-length t c = search needs
 
 put-blocks-returns : (t : ℕ) → put-blocks-lts.Need-returns (claims t) (put-blocks-at t) put-blocks.Post put-blocks-Inv-loop put-blocks-μ-loop
 put-blocks-returns t c =
-    let s = c .before .before .before .before .before .before .before .before in
-    placed-block (s .args .near) (s .args .lens .now) (s .args .strides .now) (s .args .r .now) (s .args .at) (s .args .to) (s .args .out .now) _ (s .pre .1 .axes) (c .before .before .before .if1 .taken) (c .before .put-block .ensures)
+    let s = c .before .before .before .before .before .before .before .before .before in
+    let last = c .before .before .before .last-axis .ensures in
+    placed-block (s .args .near) (s .args .lens .now) (s .args .strides .now) (s .args .r .now) (s .args .at) (s .args .to) (s .args .out .now) _ (s .pre .1 .axes) (c .before .before .before .before .if1 .taken) (rw last at (c .before .put-block .ensures))
 
 put-blocks-div-step : (t : ℕ) → put-blocks-lts.Need-div-step (claims t) (put-blocks-at t) put-blocks.Post put-blocks-Inv-loop put-blocks-μ-loop
 put-blocks-div-step t c = known t c .first
@@ -147,6 +154,7 @@ pub +put-blocks-spec : {M : Type 1} → statement M
     put-blocks-μ-loop
     (put-blocks-shared-slice-read-n t)
     (put-blocks-shared-slice-read-apart t)
+    (put-blocks-last-axis-requires t)
     (put-blocks-put-block-requires t)
     (put-blocks-same-length t)
     (put-blocks-returns t)
