@@ -76,6 +76,11 @@ static void print_bay(const char *title, const array *plan, int32_t bay)
 
 int main(void)
 {
+    /* A header beside an archive with other limits would hand shapes of another size. */
+    if (gillgrater_max_rank() != GILLGRATER_MAX_RANK || gillgrater_max_count() != GILLGRATER_MAX_COUNT) {
+        fputs("gillgrater.h has other limits than the archive\n", stderr);
+        return EXIT_FAILURE;
+    }
     array none = scalar(0);
     array one = scalar(1);
     array plan = stowed();
