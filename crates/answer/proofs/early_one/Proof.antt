@@ -9,14 +9,6 @@ use Rattle.answer.proofs.early_one.Lts as lts
 use Rattle.answer.proofs.good_form.Reads as good-form-reads
 use Rattle.signed.proofs.is_origin.Reads as is-origin-reads
 
--- src/lib.rt:40:8
-good-form-requires : tie.Need-good-form-requires
-good-form-requires c κs = search needs
-
--- src/lib.rt:41:12
-is-origin-requires : tie.Need-is-origin-requires
-is-origin-requires c κs = search needs
-
 -- src/lib.rt:37:1
 returns : tie.Need-returns
 returns c =
@@ -37,4 +29,4 @@ returns-3 c = sym (early-form (c .before .before .args .g) _ (sym (c .before .go
 
 pub early-one-spec : {M : Type 1} → statement M
 early-one-spec =
-    tie.close (tie.spec good-form-requires is-origin-requires returns returns-2 returns-3)
+    tie.close (tie.spec (λ c κs. search needs) (λ c κs. search needs) returns returns-2 returns-3)

@@ -9,14 +9,6 @@ use Rattle.answer.proofs.early_two.Lts as lts
 use Rattle.answer.proofs.early_one.Reads as early-one-reads
 use Rattle.answer.proofs.good_form.Reads as good-form-reads
 
--- src/lib.rt:51:8
-good-form-requires : tie.Need-good-form-requires
-good-form-requires c κs = search needs
-
--- src/lib.rt:52:9
-early-one-requires : tie.Need-early-one-requires
-early-one-requires c κs = search needs
-
 -- src/lib.rt:48:1
 returns : tie.Need-returns
 returns c =
@@ -28,4 +20,4 @@ returns-2 : tie.Need-returns-2
 returns-2 c = sym (early-left (c .before .before .args .g) _ _ (sym (c .before .good-form .ensures) ∙ c .if1 .left))
 
 pub early-two-spec : {M : Type 1} → statement M
-early-two-spec = tie.close (tie.spec good-form-requires early-one-requires returns returns-2)
+early-two-spec = tie.close (tie.spec (λ c κs. search needs) (λ c κs. search needs) returns returns-2)

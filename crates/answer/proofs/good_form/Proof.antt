@@ -8,10 +8,6 @@ use Rattle.answer.proofs.good_form.Reads as reads
 use Rattle.answer.proofs.good_form.Lts as lts
 use Rattle.shape.proofs.Shape.count.Reads as count-reads
 
--- src/lib.rt:29:9
-count-requires : tie.Need-count-requires
-count-requires c κs = search needs
-
 -- src/lib.rt:31:9
 returns : tie.Need-returns
 returns c = sym (form-bad (c .before .before .args .s) (c .before .before .args .b .now) (omega (arith, c .before .count .ensures)))
@@ -23,4 +19,4 @@ returns-2 c =
     (sym (form-by (c .before .before .args .s) (c .before .before .args .b .now) (omega (arith, c .before .count .ensures))))
 
 pub good-form-spec : {M : Type 1} → statement M
-good-form-spec = tie.close (tie.spec count-requires returns returns-2)
+good-form-spec = tie.close (tie.spec (λ c κs. search needs) returns returns-2)

@@ -19,30 +19,6 @@ Inv-loop src out₀ n i₀ out i = (i ≤ n) × ((length out ≡ length out₀) 
 abbrev μ-loop : tie.MeasureT-loop
 μ-loop src out₀ n i₀ out i = n - i
 
-fewer-requires : tie.Need-fewer-requires Inv-loop μ-loop
-fewer-requires c κs = search needs
-
-loop-holds : tie.Need-loop-holds Inv-loop μ-loop
-loop-holds c = search needs
-
-mul-out : tie.Need-mul-out Inv-loop μ-loop
-mul-out c = search needs
-
-shared-slice-copy-out-out : tie.Need-shared-slice-copy-out-out Inv-loop μ-loop
-shared-slice-copy-out-out c = search needs
-
-mul-t11 : tie.Need-mul-t11 Inv-loop μ-loop
-mul-t11 c = search needs
-
-slice-set-from-out : tie.Need-slice-set-from-out Inv-loop μ-loop
-slice-set-from-out c = search needs
-
-add-i : tie.Need-add-i Inv-loop μ-loop
-add-i c = search needs
-
-loop-less : tie.Need-loop-less Inv-loop μ-loop
-loop-less c = search needs
-
 loop-again : tie.Need-loop-again Inv-loop μ-loop
 loop-again c =
     let s = c .before .before .before .before in
@@ -52,9 +28,6 @@ loop-again c =
       omega arith,
       (simp length-set (lp .inv .1 .0), rw (e, lp .inv .1 .1) (front-step src (s .args .out .now) (lp .i) (pos 0) (omega arith) (omega arith))),
     )
-
-same-length : tie.Need-same-length Inv-loop μ-loop
-same-length c = search needs
 
 returns : tie.Need-returns Inv-loop μ-loop
 unfolding copied
@@ -69,14 +42,14 @@ copy-run-spec =
     (tie.spec
     Inv-loop
     μ-loop
-    fewer-requires
-    loop-holds
-    mul-out
-    shared-slice-copy-out-out
-    mul-t11
-    slice-set-from-out
-    add-i
-    loop-less
+    (λ c κs. search needs)
+    (λ c. search needs)
+    (λ c. search needs)
+    (λ c. search needs)
+    (λ c. search needs)
+    (λ c. search needs)
+    (λ c. search needs)
+    (λ c. search needs)
     loop-again
-    same-length
+    (λ c. search needs)
     returns)

@@ -17,29 +17,11 @@ Inv-loop x out₀ n k₀ out k = (k ≤ n) × ((length out ≡ length out₀) ×
 abbrev μ-loop : tie.MeasureT-loop
 μ-loop x out₀ n k₀ out k = n - k
 
-loop-holds : tie.Need-loop-holds Inv-loop μ-loop
-loop-holds c = search needs
-
-mul-x : tie.Need-mul-x Inv-loop μ-loop
-mul-x c = search needs
-
-slice-set-from-x : tie.Need-slice-set-from-x Inv-loop μ-loop
-slice-set-from-x c = search needs
-
-add-k : tie.Need-add-k Inv-loop μ-loop
-add-k c = search needs
-
-loop-less : tie.Need-loop-less Inv-loop μ-loop
-loop-less c = search needs
-
 loop-again : tie.Need-loop-again Inv-loop μ-loop
 loop-again c =
     let out₀ = c .before .before .args .out .now in
     let lp = c .before .loop in
     (omega arith, (simp length-set (lp .inv .1 .0), rw (lp .inv .1 .1) (fill-step _ out₀ (lp .k) (omega arith))))
-
-same-length : tie.Need-same-length Inv-loop μ-loop
-same-length c = search needs
 
 returns : tie.Need-returns Inv-loop μ-loop
 returns c =
@@ -56,11 +38,11 @@ fill-run-spec =
     (tie.spec
     Inv-loop
     μ-loop
-    loop-holds
-    mul-x
-    slice-set-from-x
-    add-k
-    loop-less
+    (λ c. search needs)
+    (λ c. search needs)
+    (λ c. search needs)
+    (λ c. search needs)
+    (λ c. search needs)
     loop-again
-    same-length
+    (λ c. search needs)
     returns)

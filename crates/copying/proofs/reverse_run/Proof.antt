@@ -19,36 +19,6 @@ Inv-loop src out₀ n j₀ out j = (j ≤ n) × ((length out ≡ length out₀) 
 abbrev μ-loop : tie.MeasureT-loop
 μ-loop src out₀ n j₀ out j = n - j
 
-fewer-requires : tie.Need-fewer-requires Inv-loop μ-loop
-fewer-requires c κs = search needs
-
-loop-holds : tie.Need-loop-holds Inv-loop μ-loop
-loop-holds c = search needs
-
-sub-out : tie.Need-sub-out Inv-loop μ-loop
-sub-out c = search needs
-
-sub-out-2 : tie.Need-sub-out-2 Inv-loop μ-loop
-sub-out-2 c = search needs
-
-mul-out : tie.Need-mul-out Inv-loop μ-loop
-mul-out c = search needs
-
-shared-slice-copy-out-out : tie.Need-shared-slice-copy-out-out Inv-loop μ-loop
-shared-slice-copy-out-out c = search needs
-
-mul-t13 : tie.Need-mul-t13 Inv-loop μ-loop
-mul-t13 c = search needs
-
-slice-set-from-out : tie.Need-slice-set-from-out Inv-loop μ-loop
-slice-set-from-out c = search needs
-
-add-j : tie.Need-add-j Inv-loop μ-loop
-add-j c = search needs
-
-loop-less : tie.Need-loop-less Inv-loop μ-loop
-loop-less c = search needs
-
 loop-again : tie.Need-loop-again Inv-loop μ-loop
 loop-again c =
     let s = c .before .before .before .before in
@@ -62,9 +32,6 @@ loop-again c =
         rw (e, lp .inv .1 .1) (reverse-step src (s .args .out .now) n (lp .j) (pos 0) (omega arith) (omega arith) (omega arith)),
       ),
     )
-
-same-length : tie.Need-same-length Inv-loop μ-loop
-same-length c = search needs
 
 returns : tie.Need-returns Inv-loop μ-loop
 unfolding reversed
@@ -81,16 +48,16 @@ reverse-run-spec =
     (tie.spec
     Inv-loop
     μ-loop
-    fewer-requires
-    loop-holds
-    sub-out
-    sub-out-2
-    mul-out
-    shared-slice-copy-out-out
-    mul-t13
-    slice-set-from-out
-    add-j
-    loop-less
+    (λ c κs. search needs)
+    (λ c. search needs)
+    (λ c. search needs)
+    (λ c. search needs)
+    (λ c. search needs)
+    (λ c. search needs)
+    (λ c. search needs)
+    (λ c. search needs)
+    (λ c. search needs)
+    (λ c. search needs)
     loop-again
-    same-length
+    (λ c. search needs)
     returns)

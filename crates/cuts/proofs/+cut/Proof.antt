@@ -59,9 +59,6 @@ more t c =
     let five = known t (c .before .before .before .before .before .before .before .before .before .before .before) .five in
     lt-of-le-ne five (λ e. c .if2 .left (sym e))
 
-cut-add-if1 : (t : ℕ) → cut-lts.Need-add-if1 (claims t) (cut-at t) cut.Post cut-Inv-loop cut-μ-loop
-cut-add-if1 t c = search needs
-
 cut-cut-rows-requires : (t : ℕ) → cut-lts.Need-cut-rows-requires (claims t) (cut-at t) cut.Post cut-Inv-loop cut-μ-loop
 cut-cut-rows-requires t c κs = (c .before .if1 .taken, c .before .before .before .pre .1)
 
@@ -116,9 +113,6 @@ cut-mul-copy-run t c = omega (arith, known t (c .before .before .before .before 
 cut-sub-copy-run : (t : ℕ) → cut-lts.Need-sub-copy-run (claims t) (cut-at t) cut.Post cut-Inv-loop cut-μ-loop
 cut-sub-copy-run t c = omega (arith, known t (c .before .before .before .before .before .before .before .before .before .before .before) .inner)
 
-cut-part-copy-run-start : (t : ℕ) → cut-lts.Need-part-copy-run-start (claims t) (cut-at t) cut.Post cut-Inv-loop cut-μ-loop
-cut-part-copy-run-start t c = search needs
-
 cut-part-copy-run-end : (t : ℕ) → cut-lts.Need-part-copy-run-end (claims t) (cut-at t) cut.Post cut-Inv-loop cut-μ-loop
 cut-part-copy-run-end t c = omega (arith, known t (c .before .before .before .before .before .before .before .before .before .before .before) .inner)
 
@@ -128,17 +122,8 @@ cut-mul-copy-run-2 t c = omega (arith, known t (c .before .before .before .befor
 cut-sub-copy-run-2 : (t : ℕ) → cut-lts.Need-sub-copy-run-2 (claims t) (cut-at t) cut.Post cut-Inv-loop cut-μ-loop
 cut-sub-copy-run-2 t c = omega (arith, known t (c .before .before .before .before .before .before .before .before .before .before .before .before) .room)
 
-cut-part-copy-run-start-2 : (t : ℕ) → cut-lts.Need-part-copy-run-start-2 (claims t) (cut-at t) cut.Post cut-Inv-loop cut-μ-loop
-cut-part-copy-run-start-2 t c = search needs
-
 cut-part-copy-run-end-2 : (t : ℕ) → cut-lts.Need-part-copy-run-end-2 (claims t) (cut-at t) cut.Post cut-Inv-loop cut-μ-loop
 cut-part-copy-run-end-2 t c = omega (arith, known t (c .before .before .before .before .before .before .before .before .before .before .before .before) .room, c .before .before .before .before .clear-outside .ensures .long)
-
-cut-copy-run-requires : (t : ℕ) → cut-lts.Need-copy-run-requires (claims t) (cut-at t) cut.Post cut-Inv-loop cut-μ-loop
-cut-copy-run-requires t c κs = search needs
-
-cut-same-length-2 : (t : ℕ) → cut-lts.Need-same-length-2 (claims t) (cut-at t) cut.Post cut-Inv-loop cut-μ-loop
-cut-same-length-2 t c = search needs
 
 cut-returns-2 : (t : ℕ) → cut-lts.Need-returns-2 (claims t) (cut-at t) cut.Post cut-Inv-loop cut-μ-loop
 cut-returns-2 t c =
@@ -165,9 +150,6 @@ cut-sub-cut t c = omega (arith, known t (c .before .before .before .before .befo
 cut-part-cut-start : (t : ℕ) → cut-lts.Need-part-cut-start (claims t) (cut-at t) cut.Post cut-Inv-loop cut-μ-loop
 cut-part-cut-start t c = omega (arith, known t (c .before .before .before .before .before .before .before .before .before .before .before .before .before) .five)
 
-cut-part-cut-end : (t : ℕ) → cut-lts.Need-part-cut-end (claims t) (cut-at t) cut.Post cut-Inv-loop cut-μ-loop
-cut-part-cut-end t c = search needs
-
 cut-mul-cut : (t : ℕ) → cut-lts.Need-mul-cut (claims t) (cut-at t) cut.Post cut-Inv-loop cut-μ-loop
 cut-mul-cut t c = omega (arith, turn t (c .before) .1)
 
@@ -179,9 +161,6 @@ cut-mul-cut-2 t c = omega (arith, turn t (c .before) .0)
 
 cut-sub-cut-2 : (t : ℕ) → cut-lts.Need-sub-cut-2 (claims t) (cut-at t) cut.Post cut-Inv-loop cut-μ-loop
 cut-sub-cut-2 t c = omega (arith, turn t (c .before) .0)
-
-cut-part-cut-start-2 : (t : ℕ) → cut-lts.Need-part-cut-start-2 (claims t) (cut-at t) cut.Post cut-Inv-loop cut-μ-loop
-cut-part-cut-start-2 t c = search needs
 
 cut-part-cut-end-2 : (t : ℕ) → cut-lts.Need-part-cut-end-2 (claims t) (cut-at t) cut.Post cut-Inv-loop cut-μ-loop
 cut-part-cut-end-2 t c = omega (arith, turn t (c .before) .0, long t (c .before .before))
@@ -199,9 +178,6 @@ cut-cut-requires t c κs =
 
 cut-add-i : (t : ℕ) → cut-lts.Need-add-i (claims t) (cut-at t) cut.Post cut-Inv-loop cut-μ-loop
 cut-add-i t c = omega (arith, c .before .before .before .before .before .before .before .before .before .before .before .before .before .before .before .before .shared-slice-known .given 2)
-
-cut-loop-less : (t : ℕ) → cut-lts.Need-loop-less (claims t) (cut-at t) cut.Post cut-Inv-loop cut-μ-loop
-cut-loop-less t c = search needs
 
 cut-loop-again : (t : ℕ) → cut-lts.Need-loop-again (claims t) (cut-at t) cut.Post cut-Inv-loop cut-μ-loop
 cut-loop-again t c =
@@ -227,7 +203,7 @@ pub +cut-spec : {M : Type 1} → statement M
     cut.Post
     cut-Inv-loop
     cut-μ-loop
-    (cut-add-if1 t)
+    (λ c. search needs)
     (cut-cut-rows-requires t)
     (cut-same-length t)
     (cut-returns t)
@@ -246,14 +222,14 @@ pub +cut-spec : {M : Type 1} → statement M
     (cut-add-last t)
     (cut-mul-copy-run t)
     (cut-sub-copy-run t)
-    (cut-part-copy-run-start t)
+    (λ c. search needs)
     (cut-part-copy-run-end t)
     (cut-mul-copy-run-2 t)
     (cut-sub-copy-run-2 t)
-    (cut-part-copy-run-start-2 t)
+    (λ c. search needs)
     (cut-part-copy-run-end-2 t)
-    (cut-copy-run-requires t)
-    (cut-same-length-2 t)
+    (λ c κs. search needs)
+    (λ c. search needs)
     (cut-returns-2 t)
     (cut-loop-holds t)
     (cut-mul-a t)
@@ -261,16 +237,16 @@ pub +cut-spec : {M : Type 1} → statement M
     (cut-add-b t)
     (cut-sub-cut t)
     (cut-part-cut-start t)
-    (cut-part-cut-end t)
+    (λ c. search needs)
     (cut-mul-cut t)
     (cut-add-cut t)
     (cut-mul-cut-2 t)
     (cut-sub-cut-2 t)
-    (cut-part-cut-start-2 t)
+    (λ c. search needs)
     (cut-part-cut-end-2 t)
     (cut-cut-requires t)
     (cut-add-i t)
-    (cut-loop-less t)
+    (λ c. search needs)
     (cut-loop-again t)
     (cut-same-length-3 t)
     (cut-returns-3 t)

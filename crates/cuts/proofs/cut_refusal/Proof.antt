@@ -17,9 +17,6 @@ returns-2 c =
     let a = c .before .before .before .before .args in
     rw (le-leb (a .ls .rank) 1 (omega arith), eq-eqb (a .rs .rank) 0 (c .if2 .taken))
 
-count-requires : tie.Need-count-requires
-count-requires c κs = search needs
-
 returns-3 : tie.Need-returns-3
 unfolding refusalOf
 returns-3 c =
@@ -34,4 +31,4 @@ returns-4 c =
     rw (le-leb (a .ls .rank) 1 (omega arith), ne-eqb (a .rs .rank) 0 (c .before .before .before .if2 .left), ne-eqb (countOf (a .ls)) (a .rs .rank) (λ e. c .if3 .left (c .before .before .count .ensures ∙ e)))
 
 pub cut-refusal-spec : {M : Type 1} → statement M
-cut-refusal-spec = tie.close (tie.spec returns returns-2 count-requires returns-3 returns-4)
+cut-refusal-spec = tie.close (tie.spec returns returns-2 (λ c κs. search needs) returns-3 returns-4)

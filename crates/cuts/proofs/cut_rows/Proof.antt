@@ -48,26 +48,8 @@ long c =
     let st = c .before .before .before .before .before .before .before .before .before .before .before .before .before .before in
     rows-long _ (st .args .r .now) (st .args .at) _ (known st) (st .pre .0) _ (λ e. eqb-true _ _ e) _ (c .before .before .before .before .before .clear-rows .ensures) (c .loop .i) (c .loop .out) (c .loop .inv .0) (c .loop .inv .1)
 
-shared-slice-read-block : tie.Need-shared-slice-read-block Inv-loop μ-loop
-shared-slice-read-block c = search needs
-
-shared-slice-read-step : tie.Need-shared-slice-read-step Inv-loop μ-loop
-shared-slice-read-step c = search needs
-
-shared-slice-read-len : tie.Need-shared-slice-read-len Inv-loop μ-loop
-shared-slice-read-len c = search needs
-
-shared-slice-read-small : tie.Need-shared-slice-read-small Inv-loop μ-loop
-shared-slice-read-small c = search needs
-
-shared-slice-read-width : tie.Need-shared-slice-read-width Inv-loop μ-loop
-shared-slice-read-width c = search needs
-
 mul-width : tie.Need-mul-width Inv-loop μ-loop
 mul-width c = omega (arith, room (c .before .before .before .before .before .before))
-
-shared-slice-read-start : tie.Need-shared-slice-read-start Inv-loop μ-loop
-shared-slice-read-start c = search needs
 
 mul-start : tie.Need-mul-start Inv-loop μ-loop
 mul-start c = omega (arith, room (c .before .before .before .before .before .before .before))
@@ -81,26 +63,17 @@ add-stop c = omega (arith, known (c .before .before .before .before .before .bef
 clear-rows-requires : tie.Need-clear-rows-requires Inv-loop μ-loop
 clear-rows-requires c κs = omega (arith, known (c .before .before .before .before .before .before .before .before) .room)
 
-shared-slice-read-front : tie.Need-shared-slice-read-front Inv-loop μ-loop
-shared-slice-read-front c = search needs
-
 mul-front : tie.Need-mul-front Inv-loop μ-loop
 mul-front c = omega (arith, room (c .before .before .before .before .before .before .before .before .before .before .before))
 
 add-front : tie.Need-add-front Inv-loop μ-loop
 add-front c = omega (arith, room (c .before .before .before .before .before .before .before .before .before .before .before))
 
-shared-slice-read-first : tie.Need-shared-slice-read-first Inv-loop μ-loop
-shared-slice-read-first c = search needs
-
 mul-first : tie.Need-mul-first Inv-loop μ-loop
 mul-first c = omega (arith, read (c .before .before .before .before .before .before .before .before .before .before .before .before))
 
 add-first : tie.Need-add-first Inv-loop μ-loop
 add-first c = omega (arith, read (c .before .before .before .before .before .before .before .before .before .before .before .before))
-
-shared-slice-read-first-2 : tie.Need-shared-slice-read-first-2 Inv-loop μ-loop
-shared-slice-read-first-2 c = search needs
 
 mul-first-2 : tie.Need-mul-first-2 Inv-loop μ-loop
 mul-first-2 c = omega (arith, read (c .before .before .before .before .before .before .before .before .before .before .before .before .before))
@@ -137,9 +110,6 @@ mul-copy-run c = omega (arith, turn c)
 sub-copy-run : tie.Need-sub-copy-run Inv-loop μ-loop
 sub-copy-run c = omega (arith, turn c)
 
-part-copy-run-start : tie.Need-part-copy-run-start Inv-loop μ-loop
-part-copy-run-start c = search needs
-
 part-copy-run-end : tie.Need-part-copy-run-end Inv-loop μ-loop
 part-copy-run-end c = omega (arith, turn c)
 
@@ -149,14 +119,8 @@ mul-copy-run-2 c = omega (arith, turn (c .before), room (c .before .before .befo
 sub-copy-run-2 : tie.Need-sub-copy-run-2 Inv-loop μ-loop
 sub-copy-run-2 c = omega (arith, turn (c .before), room (c .before .before .before .before .before .before .before .before .before .before .before .before .before .before .before .before))
 
-part-copy-run-start-2 : tie.Need-part-copy-run-start-2 Inv-loop μ-loop
-part-copy-run-start-2 c = search needs
-
 part-copy-run-end-2 : tie.Need-part-copy-run-end-2 Inv-loop μ-loop
 part-copy-run-end-2 c = omega (arith, turn (c .before), room (c .before .before .before .before .before .before .before .before .before .before .before .before .before .before .before .before), long (c .before .before))
-
-copy-run-requires : tie.Need-copy-run-requires Inv-loop μ-loop
-copy-run-requires c κs = search needs
 
 add-i : tie.Need-add-i Inv-loop μ-loop
 add-i c = omega (arith, turn (c .before .before .before .before), c .before .before .before .before .before .before .before .before .before .before .before .before .before .before .before .before .before .before .shared-slice-known .given 2)
@@ -184,24 +148,24 @@ cut-rows-spec =
     (tie.spec
     Inv-loop
     μ-loop
-    shared-slice-read-block
-    shared-slice-read-step
-    shared-slice-read-len
-    shared-slice-read-small
-    shared-slice-read-width
+    (λ c. search needs)
+    (λ c. search needs)
+    (λ c. search needs)
+    (λ c. search needs)
+    (λ c. search needs)
     mul-width
-    shared-slice-read-start
+    (λ c. search needs)
     mul-start
     mul-stop
     add-stop
     clear-rows-requires
-    shared-slice-read-front
+    (λ c. search needs)
     mul-front
     add-front
-    shared-slice-read-first
+    (λ c. search needs)
     mul-first
     add-first
-    shared-slice-read-first-2
+    (λ c. search needs)
     mul-first-2
     add-first-2
     loop-holds
@@ -213,13 +177,13 @@ cut-rows-spec =
     add-d
     mul-copy-run
     sub-copy-run
-    part-copy-run-start
+    (λ c. search needs)
     part-copy-run-end
     mul-copy-run-2
     sub-copy-run-2
-    part-copy-run-start-2
+    (λ c. search needs)
     part-copy-run-end-2
-    copy-run-requires
+    (λ c κs. search needs)
     add-i
     loop-less
     loop-again

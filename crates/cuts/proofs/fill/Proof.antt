@@ -13,25 +13,10 @@ long c = search needs
 returns : tie.Need-returns
 returns c = fill-none (c .before .args .out .now) _ (c .if1 .taken)
 
-fill-run-requires : tie.Need-fill-run-requires
-fill-run-requires c κs = search needs
-
-same-length : tie.Need-same-length
-same-length c = search needs
-
 returns-2 : tie.Need-returns-2
 returns-2 c =
     let st = c .before .before .before .before .before in
     fill-zeros _ (st .args .r .now) (st .args .out .now) _ (c .before .before .before .if2 .taken) (c .before .fill-run .ensures)
-
-cut-axes-requires : tie.Need-cut-axes-requires
-cut-axes-requires c κs = search needs
-
-copy-run-requires : tie.Need-copy-run-requires
-copy-run-requires c κs = search needs
-
-same-length-2 : tie.Need-same-length-2
-same-length-2 c = search needs
 
 returns-3 : tie.Need-returns-3
 returns-3 c =
@@ -43,25 +28,10 @@ table-of-requires c κs =
     let st = c .before .before .before .before in
     fill-some (st .args .dropping) (st .args .rank) (st .args .lens) (st .args .sizes) (st .args .l .now) (st .args .r .now) (st .args .out .now) (st .pre) (long st) (omega arith) (omega arith)
 
-mul-end : tie.Need-mul-end
-mul-end c = search needs
-
-sub-cut : tie.Need-sub-cut
-sub-cut c = search needs
-
-part-cut-start : tie.Need-part-cut-start
-part-cut-start c = search needs
-
-part-cut-end : tie.Need-part-cut-end
-part-cut-end c = search needs
-
 cut-requires : tie.Need-cut-requires
 cut-requires c κs =
     let st = c .before .before .before .before .before .before .before .before in
     fill-fits (st .args .dropping) (st .args .rank) (st .args .lens) (st .args .sizes) (st .args .l .now) (st .args .r .now) (st .args .out .now) (st .pre) (long st) (c .before .before .before .before .before .cut-axes .result) (c .before .before .before .before .before .cut-axes .ensures .1) _ (c .before .before .before .table-of .ensures) (c .before .before .before .before .before .cut-axes .ensures .0) (omega arith) (omega arith) (omega arith)
-
-same-length-3 : tie.Need-same-length-3
-same-length-3 c = search needs
 
 returns-4 : tie.Need-returns-4
 returns-4 c =
@@ -73,18 +43,18 @@ fill-spec =
     tie.close
     (tie.spec
     returns
-    fill-run-requires
-    same-length
+    (λ c κs. search needs)
+    (λ c. search needs)
     returns-2
-    cut-axes-requires
-    copy-run-requires
-    same-length-2
+    (λ c κs. search needs)
+    (λ c κs. search needs)
+    (λ c. search needs)
     returns-3
     table-of-requires
-    mul-end
-    sub-cut
-    part-cut-start
-    part-cut-end
+    (λ c. search needs)
+    (λ c. search needs)
+    (λ c. search needs)
+    (λ c. search needs)
     cut-requires
-    same-length-3
+    (λ c. search needs)
     returns-4)

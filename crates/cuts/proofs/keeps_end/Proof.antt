@@ -9,9 +9,6 @@ use Rattle.cuts.proofs.keeps_end.Tie as tie
 is : (c : tie.After-negative) → c .negative .result ≡ negative (c .before .args .z)
 is c = c .negative .ensures ∙ ap negative (read32 _ (c .before .fits .z))
 
-negative-requires : tie.Need-negative-requires
-negative-requires c κs = search needs
-
 returns : tie.Need-returns
 returns c = rw (c .if1 .taken) (ap not (is (c .before)))
 
@@ -19,4 +16,4 @@ returns-2 : tie.Need-returns-2
 returns-2 c = rw (c .if1 .left) (is (c .before))
 
 pub keeps-end-spec : {M : Type 1} → statement M
-keeps-end-spec = tie.close (tie.spec negative-requires returns returns-2)
+keeps-end-spec = tie.close (tie.spec (λ c κs. search needs) returns returns-2)

@@ -9,12 +9,6 @@ use Rattle.cuts.proofs.size_on.Tie as tie
 is : (c : tie.After-size) → c .size .result ≡ natAbs (c .before .args .z)
 is c = c .size .ensures ∙ ap natAbs (read32 _ (c .before .fits .z))
 
-size-requires : tie.Need-size-requires
-size-requires c κs = search needs
-
-beyond-requires : tie.Need-beyond-requires
-beyond-requires c κs = search needs
-
 returns : tie.Need-returns
 returns c =
     let n = c .before .before .before .args .n in
@@ -24,4 +18,4 @@ returns-2 : tie.Need-returns-2
 returns-2 c = rw (c .if1 .left) (is (c .before))
 
 pub size-on-spec : {M : Type 1} → statement M
-size-on-spec = tie.close (tie.spec size-requires beyond-requires returns returns-2)
+size-on-spec = tie.close (tie.spec (λ c κs. search needs) (λ c κs. search needs) returns returns-2)

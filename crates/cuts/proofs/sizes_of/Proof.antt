@@ -22,33 +22,6 @@ abbrev μ-loop : tie.MeasureT-loop
 loop-holds : tie.Need-loop-holds Inv-loop μ-loop
 loop-holds c = (omega arith, (refl, none (c .args .dropping)))
 
-mul-size-on : tie.Need-mul-size-on Inv-loop μ-loop
-mul-size-on c = search needs
-
-shared-slice-copy-out-size-on : tie.Need-shared-slice-copy-out-size-on Inv-loop μ-loop
-shared-slice-copy-out-size-on c = search needs
-
-mul-size-on-2 : tie.Need-mul-size-on-2 Inv-loop μ-loop
-mul-size-on-2 c = search needs
-
-array-read-size-on : tie.Need-array-read-size-on Inv-loop μ-loop
-array-read-size-on c = search needs
-
-size-on-requires : tie.Need-size-on-requires Inv-loop μ-loop
-size-on-requires c κs = search needs
-
-mul-sizes : tie.Need-mul-sizes Inv-loop μ-loop
-mul-sizes c = search needs
-
-array-write-sizes : tie.Need-array-write-sizes Inv-loop μ-loop
-array-write-sizes c = search needs
-
-add-i : tie.Need-add-i Inv-loop μ-loop
-add-i c = search needs
-
-loop-less : tie.Need-loop-less Inv-loop μ-loop
-loop-less c = search needs
-
 loop-again : tie.Need-loop-again Inv-loop μ-loop
 loop-again c =
     let st = c .before .before .before .before in
@@ -75,14 +48,14 @@ sizes-of-spec =
     Inv-loop
     μ-loop
     loop-holds
-    mul-size-on
-    shared-slice-copy-out-size-on
-    mul-size-on-2
-    array-read-size-on
-    size-on-requires
-    mul-sizes
-    array-write-sizes
-    add-i
-    loop-less
+    (λ c. search needs)
+    (λ c. search needs)
+    (λ c. search needs)
+    (λ c. search needs)
+    (λ c κs. search needs)
+    (λ c. search needs)
+    (λ c. search needs)
+    (λ c. search needs)
+    (λ c. search needs)
     loop-again
     returns)

@@ -37,69 +37,6 @@ window-is c =
 loop-holds : tie.Need-loop-holds Inv-loop μ-loop
 loop-holds c = built-none (c .args .dropping) (c .args .rank) (c .args .t3) (c .args .l .now) (c .pre) (long c) _ refl
 
-sub-i : tie.Need-sub-i Inv-loop μ-loop
-sub-i c = search needs
-
-mul-n : tie.Need-mul-n Inv-loop μ-loop
-mul-n c = search needs
-
-array-read-n : tie.Need-array-read-n Inv-loop μ-loop
-array-read-n c = search needs
-
-mul-window-on : tie.Need-mul-window-on Inv-loop μ-loop
-mul-window-on c = search needs
-
-shared-slice-copy-out-window-on : tie.Need-shared-slice-copy-out-window-on Inv-loop μ-loop
-shared-slice-copy-out-window-on c = search needs
-
-window-on-requires : tie.Need-window-on-requires Inv-loop μ-loop
-window-on-requires c κs = search needs
-
-mul-k : tie.Need-mul-k Inv-loop μ-loop
-mul-k c = search needs
-
-mul-table : tie.Need-mul-table Inv-loop μ-loop
-mul-table c = search needs
-
-array-write-table : tie.Need-array-write-table Inv-loop μ-loop
-array-write-table c = search needs
-
-add-table : tie.Need-add-table Inv-loop μ-loop
-add-table c = search needs
-
-mul-table-2 : tie.Need-mul-table-2 Inv-loop μ-loop
-mul-table-2 c = search needs
-
-array-write-table-2 : tie.Need-array-write-table-2 Inv-loop μ-loop
-array-write-table-2 c = search needs
-
-add-table-2 : tie.Need-add-table-2 Inv-loop μ-loop
-add-table-2 c = search needs
-
-mul-table-3 : tie.Need-mul-table-3 Inv-loop μ-loop
-mul-table-3 c = search needs
-
-array-write-table-3 : tie.Need-array-write-table-3 Inv-loop μ-loop
-array-write-table-3 c = search needs
-
-add-table-3 : tie.Need-add-table-3 Inv-loop μ-loop
-add-table-3 c = search needs
-
-mul-table-4 : tie.Need-mul-table-4 Inv-loop μ-loop
-mul-table-4 c = search needs
-
-array-write-table-4 : tie.Need-array-write-table-4 Inv-loop μ-loop
-array-write-table-4 c = search needs
-
-add-table-4 : tie.Need-add-table-4 Inv-loop μ-loop
-add-table-4 c = search needs
-
-mul-table-5 : tie.Need-mul-table-5 Inv-loop μ-loop
-mul-table-5 c = search needs
-
-array-write-table-5 : tie.Need-array-write-table-5 Inv-loop μ-loop
-array-write-table-5 c = search needs
-
 mul-step : tie.Need-mul-step Inv-loop μ-loop
 mul-step c =
     let st = c .before .before .before .before in
@@ -113,9 +50,6 @@ mul-block c =
     let small = block-small (st .args .dropping) (st .args .rank) (st .args .t3) (st .args .l .now) (st .pre) (long st) (lp .table) (lp .step) (lp .block) (lp .i) (lp .i - 1) (lp .inv) (omega arith) in
     let same = ap (λ w. lp .block * w .size) (window-is (c .before)) in
     omega arith
-
-loop-less : tie.Need-loop-less Inv-loop μ-loop
-loop-less c = search needs
 
 loop-again : tie.Need-loop-again Inv-loop μ-loop
 loop-again c =
@@ -137,29 +71,29 @@ table-of-spec =
     Inv-loop
     μ-loop
     loop-holds
-    sub-i
-    mul-n
-    array-read-n
-    mul-window-on
-    shared-slice-copy-out-window-on
-    window-on-requires
-    mul-k
-    mul-table
-    array-write-table
-    add-table
-    mul-table-2
-    array-write-table-2
-    add-table-2
-    mul-table-3
-    array-write-table-3
-    add-table-3
-    mul-table-4
-    array-write-table-4
-    add-table-4
-    mul-table-5
-    array-write-table-5
+    (λ c. search needs)
+    (λ c. search needs)
+    (λ c. search needs)
+    (λ c. search needs)
+    (λ c. search needs)
+    (λ c κs. search needs)
+    (λ c. search needs)
+    (λ c. search needs)
+    (λ c. search needs)
+    (λ c. search needs)
+    (λ c. search needs)
+    (λ c. search needs)
+    (λ c. search needs)
+    (λ c. search needs)
+    (λ c. search needs)
+    (λ c. search needs)
+    (λ c. search needs)
+    (λ c. search needs)
+    (λ c. search needs)
+    (λ c. search needs)
+    (λ c. search needs)
     mul-step
     mul-block
-    loop-less
+    (λ c. search needs)
     loop-again
     returns)

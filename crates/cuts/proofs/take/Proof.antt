@@ -3,14 +3,8 @@ use borrow.Author.Needs.{needs}
 use Rattle.cuts.proofs.take.Statement.{statement}
 use Rattle.cuts.proofs.take.Tie as tie
 
-take-or-drop-requires : tie.Need-take-or-drop-requires
-take-or-drop-requires c κs = search needs
-
-same-length : tie.Need-same-length
-same-length c = search needs
-
 returns : tie.Need-returns
 returns c K = rw (read32 _ (c .before .before .before .fits .g)) at (c .before .take-or-drop .ensures K)
 
 pub take-spec : {M : Type 1} → statement M
-take-spec = tie.close (tie.spec take-or-drop-requires same-length returns)
+take-spec = tie.close (tie.spec (λ c κs. search needs) (λ c. search needs) returns)

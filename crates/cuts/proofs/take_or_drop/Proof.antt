@@ -60,23 +60,11 @@ counted : (c : tie.After-count2)
     ≡ countOf (shapeOf (cutMeaning (c .before .before .before .before .before .before .before .before .before .before .args .dropping) (arrayOf (lent (c .before .before .before .before .before .before .before .before .before .before .args .ls) (c .before .before .before .before .before .before .before .before .before .before .args .l .now))) (arrayOf (lent (c .before .before .before .before .before .before .before .before .before .before .args .rs) (c .before .before .before .before .before .before .before .before .before .before .args .r .now))) .lengths))
 counted c = c .count2 .ensures ∙ ap countOf (shape c)
 
-early-two-requires : tie.Need-early-two-requires
-early-two-requires c κs = search needs
-
-refused-requires : tie.Need-refused-requires
-refused-requires c κs = search needs
-
 returns : tie.Need-returns
 returns c K =
     let a = c .before .before .before .args in
     replied-refused (c .refused .result) _ (a .out .now) (c .refused .ensures)
     (early-reply (cut-names (a .dropping) (a .g) K (lent (a .ls) (a .l .now)) (lent (a .rs) (a .r .now))) (a .out .now) _ (early-is (c .before .before)) (c .before .if1 .taken))
-
-cut-refusal-requires : tie.Need-cut-refusal-requires
-cut-refusal-requires c κs = search needs
-
-refused-requires-2 : tie.Need-refused-requires-2
-refused-requires-2 c κs = search needs
 
 returns-2 : tie.Need-returns-2
 returns-2 c K =
@@ -84,12 +72,6 @@ returns-2 c K =
     let g = forms (c .before .before .before) in
     replied-refused (c .refused2 .result) _ (a .out .now) (c .refused2 .ensures)
     (own-reply (cut-names (a .dropping) (a .g) K (lent (a .ls) (a .l .now)) (lent (a .rs) (a .r .now))) (a .out .now) (fine (c .before .before .before)) _ (c .before .before .cut-refusal .ensures ∙ own-is (a .ls) (a .l .now) (a .rs) (a .r .now) (g .0) (g .1) (a .dropping)) (c .before .if2 .taken))
-
-count-requires : tie.Need-count-requires
-count-requires c κs = search needs
-
-refused-requires-3 : tie.Need-refused-requires-3
-refused-requires-3 c κs = search needs
 
 returns-3 : tie.Need-returns-3
 returns-3 c K =
@@ -99,23 +81,11 @@ returns-3 c K =
     (limit-reply (cut-names (a .dropping) (a .g) K (lent (a .ls) (a .l .now)) (lent (a .rs) (a .r .now))) (a .out .now) (fine (c .before .before .before .before .before)) (sym (own-is (a .ls) (a .l .now) (a .rs) (a .r .now) (g .0) (g .1) (a .dropping)) ∙ sym (c .before .before .before .before .cut-refusal .ensures) ∙ c .before .before .before .if2 .left)
     (too-many (a .ls) (a .l .now) (a .rs) (a .r .now) (g .0) (g .1) (a .dropping) (fit (c .before .before .before)) (c .before .before .count .result) (c .before .before .count .ensures) (omega arith)))
 
-lengths-of-requires : tie.Need-lengths-of-requires
-lengths-of-requires c κs = search needs
-
 sizes-of-requires : tie.Need-sizes-of-requires
 sizes-of-requires c κs =
     let a = c .before .before .before .before .before .before .before .args in
     let g = forms (c .before .before .before .before .before) in
     (omega arith, enough (a .ls) (a .l .now) (a .rs) (a .r .now) (g .0) (g .1) (a .dropping) (fit (c .before .before .before)) (c .before .before .count .result) (c .before .before .count .ensures))
-
-of-lengths-requires : tie.Need-of-lengths-requires
-of-lengths-requires c κs = search needs
-
-count-requires-2 : tie.Need-count-requires-2
-count-requires-2 c κs = search needs
-
-refused-requires-4 : tie.Need-refused-requires-4
-refused-requires-4 c κs = search needs
 
 returns-4 : tie.Need-returns-4
 returns-4 c K =
@@ -125,9 +95,6 @@ returns-4 c K =
     replied-refused (c .refused4 .result) 9 (a .out .now) (c .refused4 .ensures)
     (limit-reply (cut-names (a .dropping) (a .g) K (lent (a .ls) (a .l .now)) (lent (a .rs) (a .r .now))) (a .out .now) (fine (c .before .before .before .before .before .before .before .before .before .before)) (sym (own-is (a .ls) (a .l .now) (a .rs) (a .r .now) (g .0) (g .1) (a .dropping)) ∙ sym (c .before .before .before .before .before .before .before .before .before .cut-refusal .ensures) ∙ c .before .before .before .before .before .before .before .before .if2 .left)
     (rule-broken ms _ (counted (c .before .before)) (omega arith)))
-
-refused-requires-5 : tie.Need-refused-requires-5
-refused-requires-5 c κs = search needs
 
 returns-5 : tie.Need-returns-5
 returns-5 c K =
@@ -139,28 +106,10 @@ returns-5 c K =
     (space-reply (cut-names (a .dropping) (a .g) K (lent (a .ls) (a .l .now)) (lent (a .rs) (a .r .now))) (a .out .now) (fine (c .before .before .before .before .before .before .before .before .before .before .before)) (sym (own-is (a .ls) (a .l .now) (a .rs) (a .r .now) (g .0) (g .1) (a .dropping)) ∙ sym (c .before .before .before .before .before .before .before .before .before .before .cut-refusal .ensures) ∙ c .before .before .before .before .before .before .before .before .before .if2 .left)
     (rule-kept ms _ n (omega arith)) (omega (arith, count-kept ms _ n (omega arith))))
 
-count-requires-3 : tie.Need-count-requires-3
-count-requires-3 c κs = search needs
-
-sub-fill : tie.Need-sub-fill
-sub-fill c = search needs
-
-part-fill-start : tie.Need-part-fill-start
-part-fill-start c = search needs
-
 part-fill-end : tie.Need-part-fill-end
 part-fill-end c =
     let g = forms (c .before .before .before .before .before .before .before .before .before .before .before) .1 in
     omega (arith, g .room, g .count-is, c .count3 .ensures)
-
-sub-fill-2 : tie.Need-sub-fill-2
-sub-fill-2 c = search needs
-
-part-fill-start-2 : tie.Need-part-fill-start-2
-part-fill-start-2 c = search needs
-
-part-fill-end-2 : tie.Need-part-fill-end-2
-part-fill-end-2 c = search needs
 
 fill-requires : tie.Need-fill-requires
 fill-requires c κs =
@@ -168,9 +117,6 @@ fill-requires c κs =
     let g = forms (c .before .before .before .before .before .before .before .before .before .before .before .before .before) in
     parts-are (a .ls) (a .l .now) (a .rs) (a .r .now) (g .0) (g .1) (a .dropping) (fit (c .before .before .before .before .before .before .before .before .before .before .before)) (c .before .before .before .before .before .before .before .before .before .before .count .result) (c .before .before .before .before .before .before .before .before .before .before .count .ensures) (omega arith) _ _ (c .before .before .before .before .before .before .before .before .lengths-of .ensures) (c .before .before .before .before .before .before .before .sizes-of .ensures)
     (a .out .now) (c .before .before .count3 .result) (c .before .before .before .before .before .count2 .result) (c .before .before .count3 .ensures) (omega arith) (omega arith) (count-kept _ _ (counted (c .before .before .before .before .before)) (omega arith))
-
-same-length : tie.Need-same-length
-same-length c = search needs
 
 returns-6 : tie.Need-returns-6
 returns-6 c K =
@@ -189,30 +135,30 @@ pub take-or-drop-spec : {M : Type 1} → statement M
 take-or-drop-spec =
     tie.close
     (tie.spec
-    early-two-requires
-    refused-requires
+    (λ c κs. search needs)
+    (λ c κs. search needs)
     returns
-    cut-refusal-requires
-    refused-requires-2
+    (λ c κs. search needs)
+    (λ c κs. search needs)
     returns-2
-    count-requires
-    refused-requires-3
+    (λ c κs. search needs)
+    (λ c κs. search needs)
     returns-3
-    lengths-of-requires
+    (λ c κs. search needs)
     sizes-of-requires
-    of-lengths-requires
-    count-requires-2
-    refused-requires-4
+    (λ c κs. search needs)
+    (λ c κs. search needs)
+    (λ c κs. search needs)
     returns-4
-    refused-requires-5
+    (λ c κs. search needs)
     returns-5
-    count-requires-3
-    sub-fill
-    part-fill-start
+    (λ c κs. search needs)
+    (λ c. search needs)
+    (λ c. search needs)
     part-fill-end
-    sub-fill-2
-    part-fill-start-2
-    part-fill-end-2
+    (λ c. search needs)
+    (λ c. search needs)
+    (λ c. search needs)
     fill-requires
-    same-length
+    (λ c. search needs)
     returns-6)

@@ -12,21 +12,6 @@ size-is c = c .size-on .ensures ∙ ap (λ z. sizeOf (c .before .args .dropping)
 end-is : (c : tie.After-keeps-end) → c .keeps-end .result ≡ endOf (c .before .before .before .args .dropping) (c .before .before .before .args .z)
 end-is c = c .keeps-end .ensures ∙ ap (endOf (c .before .before .before .args .dropping)) (read32 _ (c .before .before .before .fits .z))
 
-size-on-requires : tie.Need-size-on-requires
-size-on-requires c κs = search needs
-
-beyond-requires : tie.Need-beyond-requires
-beyond-requires c κs = search needs
-
-sub-len : tie.Need-sub-len
-sub-len c = search needs
-
-keeps-end-requires : tie.Need-keeps-end-requires
-keeps-end-requires c κs = search needs
-
-sub-t9 : tie.Need-sub-t9
-sub-t9 c = search needs
-
 returns : tie.Need-returns
 returns c =
     let st = c .before .before .before .before in
@@ -42,4 +27,4 @@ returns-2 c =
 pub window-on-spec : {M : Type 1} → statement M
 window-on-spec =
     tie.close
-    (tie.spec size-on-requires beyond-requires sub-len keeps-end-requires sub-t9 returns returns-2)
+    (tie.spec (λ c κs. search needs) (λ c κs. search needs) (λ c. search needs) (λ c κs. search needs) (λ c. search needs) returns returns-2)

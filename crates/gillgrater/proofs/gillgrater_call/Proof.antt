@@ -5,12 +5,6 @@ use Rattle.kernel.proofs.Numbered.{carried}
 use Rattle.gillgrater.proofs.gillgrater_call.Statement.{statement}
 use Rattle.gillgrater.proofs.gillgrater_call.Tie as tie
 
-call-requires : tie.Need-call-requires
-call-requires c κs = search needs
-
-same-length : tie.Need-same-length
-same-length c = search needs
-
 returns : tie.Need-returns
 returns c =
     let st = c .before .before .before in
@@ -18,4 +12,4 @@ returns c =
     (read32 _ (st .fits .number)) (read32 _ (st .fits .g)) (read32 _ (st .fits .k)) (c .before .call .ensures)
 
 pub gillgrater-call-spec : {M : Type 1} → statement M
-gillgrater-call-spec = tie.close (tie.spec call-requires same-length returns)
+gillgrater-call-spec = tie.close (tie.spec (λ c κs. search needs) (λ c. search needs) returns)

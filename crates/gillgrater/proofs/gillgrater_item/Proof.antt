@@ -25,19 +25,10 @@ refusal-is c =
 long : (c : tie.Start) → length (c .args .rs .lens) ≡ maxRank
 long c = search needs
 
-item-shape-requires : tie.Need-item-shape-requires
-item-shape-requires c κs = search needs
-
 returns : tie.Need-returns
 returns c =
     let st = c .before .before .before in
     part-refused (lent (st .args .rs) (st .args .r .now)) (st .args .g) (st .args .i) (λ z. c .if1 .taken (refusal-is (c .before .before) ∙ z))
-
-around-requires : tie.Need-around-requires
-around-requires c κs = search needs
-
-position-requires : tie.Need-position-requires
-position-requires c κs = search needs
 
 mul-start : tie.Need-mul-start
 mul-start c =
@@ -60,4 +51,4 @@ returns-2 c =
     part-given (lent (st .args .rs) (st .args .r .now)) (st .args .g) (st .args .i) _ _ given (f .0) (f .1)
 
 pub gillgrater-item-spec : {M : Type 1} → statement M
-gillgrater-item-spec = tie.close (tie.spec item-shape-requires returns around-requires position-requires mul-start returns-2)
+gillgrater-item-spec = tie.close (tie.spec (λ c κs. search needs) returns (λ c κs. search needs) (λ c κs. search needs) mul-start returns-2)

@@ -7,9 +7,6 @@ use Rattle.items.specs.Sister.{itemAnswer}
 use Rattle.gillgrater.proofs.gillgrater_item_shape.Statement.{statement}
 use Rattle.gillgrater.proofs.gillgrater_item_shape.Tie as tie
 
-item-shape-requires : tie.Need-item-shape-requires
-item-shape-requires c κs = search needs
-
 returns : tie.Need-returns
 returns c =
     let st = c .before in
@@ -17,4 +14,4 @@ returns c =
     ∙ ap₂ (λ g i. itemAnswer (leadingItem (lent (st .args .rs) (st .args .r .now)) g i)) (read32 _ (st .fits .g)) (read32 _ (st .fits .i))
 
 pub gillgrater-item-shape-spec : {M : Type 1} → statement M
-gillgrater-item-shape-spec = tie.close (tie.spec item-shape-requires returns)
+gillgrater-item-shape-spec = tie.close (tie.spec (λ c κs. search needs) returns)

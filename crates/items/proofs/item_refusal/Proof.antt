@@ -29,9 +29,6 @@ at-is c =
     let st = c .before .before .before .before .before in
     c .position .ensures ∙ ap₂ (λ x y. positionOf (x -ℤ y) (getD (st .args .t3 .lens) 0 0)) (read32 _ (st .fits .i)) (read32 _ (st .fits .g))
 
-early-one-requires : tie.Need-early-one-requires
-early-one-requires c κs = search needs
-
 returns : tie.Need-returns
 returns c =
     let st = c .before .before in
@@ -41,12 +38,6 @@ returns-2 : tie.Need-returns-2
 returns-2 c =
     let st = c .before .before .before in
     tested-scalar (st .args .t3) (st .args .r .now) (st .args .g) (st .args .i) (long st) (fine (c .before)) (c .if2 .taken)
-
-element-copy-out-n : tie.Need-element-copy-out-n
-element-copy-out-n c = search needs
-
-position-requires : tie.Need-position-requires
-position-requires c κs = search needs
 
 returns-3 : tie.Need-returns-3
 returns-3 c =
@@ -64,10 +55,10 @@ pub item-refusal-spec : {M : Type 1} → statement M
 item-refusal-spec =
     tie.close
     (tie.spec
-    early-one-requires
+    (λ c κs. search needs)
     returns
     returns-2
-    element-copy-out-n
-    position-requires
+    (λ c. search needs)
+    (λ c κs. search needs)
     returns-3
     returns-4)

@@ -15,21 +15,12 @@ use Rattle.items.proofs.item_shape.Tie as tie
 refusal-is : (c : tie.After-item-refusal) → c .item-refusal .result ≡ itemRefusal (lent (c .before .args .rs) (c .before .args .r .now)) (c .before .args .g) (c .before .args .i)
 refusal-is c = c .item-refusal .ensures ∙ ap₂ (itemRefusal _) (read32 _ (c .before .fits .g)) (read32 _ (c .before .fits .i))
 
-item-refusal-requires : tie.Need-item-refusal-requires
-item-refusal-requires c κs = search needs
-
-refused-requires : tie.Need-refused-requires
-refused-requires c κs = search needs
-
 returns : tie.Need-returns
 returns c =
     let st = c .before .before .before in
     let e = refusal-is (c .before .before) in
     c .refused .ensures ∙ ap refusal e
     ∙ sym (ap itemAnswer (item-refused (lent (st .args .rs) (st .args .r .now)) (st .args .g) (st .args .i) (λ z. c .before .if1 .taken (e ∙ z))))
-
-without-axis-requires : tie.Need-without-axis-requires
-without-axis-requires c κs = search needs
 
 returns-2 : tie.Need-returns-2
 returns-2 c =
@@ -40,4 +31,4 @@ returns-2 c =
     ∙ sym (ap itemAnswer (item-given (lent (st .args .rs) (st .args .r .now)) (st .args .g) (st .args .i) (sym (refusal-is (c .before .before)) ∙ c .before .if1 .left)))
 
 pub item-shape-spec : {M : Type 1} → statement M
-item-shape-spec = tie.close (tie.spec item-refusal-requires refused-requires returns without-axis-requires returns-2)
+item-shape-spec = tie.close (tie.spec (λ c κs. search needs) (λ c κs. search needs) returns (λ c κs. search needs) returns-2)

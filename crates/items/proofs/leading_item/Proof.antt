@@ -25,30 +25,12 @@ item c =
     found (st .args .rs) (st .args .r .now) (st .args .g) (st .args .i) long (sym (refusal-is (e .before)) ∙ e .if1 .left)
     (c .before .around .result) _ _ _ (c .before .around .ensures) (read32 _ (st .fits .i)) (read32 _ (st .fits .g)) (c .position .ensures)
 
-item-refusal-requires : tie.Need-item-refusal-requires
-item-refusal-requires c κs = search needs
-
-sub-result : tie.Need-sub-result
-sub-result c = search needs
-
-part-result-start : tie.Need-part-result-start
-part-result-start c = search needs
-
-part-result-end : tie.Need-part-result-end
-part-result-end c = search needs
-
 returns : tie.Need-returns
 returns c =
     let st = c .before .before .before in
     sym
     (ap (λ (y : Item). y .part)
     (item-refused (lent (st .args .rs) (st .args .r .now)) (st .args .g) (st .args .i) (λ z. c .before .if1 .taken (refusal-is (c .before .before) ∙ z))))
-
-around-requires : tie.Need-around-requires
-around-requires c κs = search needs
-
-position-requires : tie.Need-position-requires
-position-requires c κs = search needs
 
 mul-from : tie.Need-mul-from
 mul-from c = omega (arith, item c)
@@ -58,12 +40,6 @@ add-end c = omega (arith, item c)
 
 mul-result : tie.Need-mul-result
 mul-result c = omega (arith, item c)
-
-sub-result-2 : tie.Need-sub-result-2
-sub-result-2 c = search needs
-
-part-result-start-2 : tie.Need-part-result-start-2
-part-result-start-2 c = search needs
 
 part-result-end-2 : tie.Need-part-result-end-2
 part-result-end-2 c = omega (arith, item c)
@@ -75,17 +51,17 @@ pub leading-item-spec : {M : Type 1} → statement M
 leading-item-spec =
     tie.close
     (tie.spec
-    item-refusal-requires
-    sub-result
-    part-result-start
-    part-result-end
+    (λ c κs. search needs)
+    (λ c. search needs)
+    (λ c. search needs)
+    (λ c. search needs)
     returns
-    around-requires
-    position-requires
+    (λ c κs. search needs)
+    (λ c κs. search needs)
     mul-from
     add-end
     mul-result
-    sub-result-2
-    part-result-start-2
+    (λ c. search needs)
+    (λ c. search needs)
     part-result-end-2
     returns-2)

@@ -63,26 +63,8 @@ returns c x =
     let hl : length (st .args .hs .lens) ≡ maxRank = search needs in
     sym (agrees-scalar (st .args .s) (st .args .hs .lens) (st .args .hs .rank) (st .args .k) 0 0 x (ranked st x) (higher-ranked st) (omega arith) (omega arith) (omega arith) (c .if1 .taken))
 
-add-from : tie.Need-add-from
-add-from c = search needs
-
-add-from-2 : tie.Need-add-from-2
-add-from-2 c = search needs
-
 sub-from : tie.Need-sub-from
 sub-from c = let n = near (c .before) in omega arith
-
-sub-after : tie.Need-sub-after
-sub-after c = search needs
-
-sub-after-2 : tie.Need-sub-after-2
-sub-after-2 c = search needs
-
-same-part-requires : tie.Need-same-part-requires
-same-part-requires c κs = search needs
-
-add-same-part : tie.Need-add-same-part
-add-same-part c = search needs
 
 same-part-requires-2 : tie.Need-same-part-requires-2
 same-part-requires-2 c κs = let n = near (c .before .before .before .before .before .before) in search needs
@@ -102,13 +84,13 @@ agrees-spec =
     tie.close
     (tie.spec
     returns
-    add-from
-    add-from-2
+    (λ c. search needs)
+    (λ c. search needs)
     sub-from
-    sub-after
-    sub-after-2
-    same-part-requires
-    add-same-part
+    (λ c. search needs)
+    (λ c. search needs)
+    (λ c κs. search needs)
+    (λ c. search needs)
     same-part-requires-2
     returns-2
     returns-3)

@@ -131,12 +131,6 @@ small q = omega (arith, room (q .before .before .before .before), q .before .bef
 total : (q : tie.After-count3) → q .before .before .before .before .count .result ≡ count (means (start q) .lengths)
 total q = room (q .before .before .before .before) ∙ made-count (means (start q) .lengths) (small q)
 
-early-two-requires : tie.Need-early-two-requires
-early-two-requires c κs = search needs
-
-refused-requires : tie.Need-refused-requires
-refused-requires c κs = search needs
-
 returns : tie.Need-returns
 returns c =
     let st = c .before .before .before in
@@ -145,20 +139,11 @@ returns c =
 catenate-refusal-requires : tie.Need-catenate-refusal-requires
 catenate-refusal-requires c κs = (good-left c .good, good-right c .good)
 
-refused-requires-2 : tie.Need-refused-requires-2
-refused-requires-2 c κs = search needs
-
 returns-2 : tie.Need-returns-2
 returns-2 c =
     let e = c .before .before .before in
     let st = e .before .before in
     replied-refused (c .refused2 .result) _ (st .args .out .now) (c .refused2 .ensures) (own-reply (names st) (st .args .out .now) (fine e) _ (own-is (c .before .before)) (c .before .if2 .taken))
-
-higher-requires : tie.Need-higher-requires
-higher-requires c κs = search needs
-
-position-requires : tie.Need-position-requires
-position-requires c κs = search needs
 
 extent-requires : tie.Need-extent-requires
 extent-requires c κs = let h = high c in omega arith
@@ -173,15 +158,6 @@ add-with-length c =
     let st = e .before .before .before .before in
     omega (arith, extents-small (st .args .g) (st .args .k) (st .args .ls) (st .args .rs) (st .args .l .now) (st .args .r .now) (good-left (e .before .before)) (good-right (e .before .before)) (joins e) (p .before .higher .result) (p .before .higher .ensures) (p .position .result) (axis-is p) _ _ (c .before .extent .ensures) (c .extent2 .ensures))
 
-with-length-requires : tie.Need-with-length-requires
-with-length-requires c κs = search needs
-
-count-requires : tie.Need-count-requires
-count-requires c κs = search needs
-
-refused-requires-3 : tie.Need-refused-requires-3
-refused-requires-3 c κs = search needs
-
 returns-3 : tie.Need-returns-3
 returns-3 c =
     let n = c .before .before in
@@ -189,9 +165,6 @@ returns-3 c =
     let st = e .before .before .before .before in
     replied-refused (c .refused3 .result) 9 (st .args .out .now) (c .refused3 .ensures)
     (limit-reply (names st) (st .args .out .now) (fine (e .before .before)) (none e) (made-no-rule (means st .lengths) (omega (arith, room n))))
-
-refused-requires-4 : tie.Need-refused-requires-4
-refused-requires-4 c κs = search needs
 
 returns-4 : tie.Need-returns-4
 returns-4 c =
@@ -202,28 +175,10 @@ returns-4 c =
     replied-refused (c .refused4 .result) 10 (st .args .out .now) (c .refused4 .ensures)
     (space-reply (names st) (st .args .out .now) (fine (e .before .before)) (none e) (made-rule (means st .lengths) small) (omega (arith, room n, made-count (means st .lengths) small)))
 
-count-requires-2 : tie.Need-count-requires-2
-count-requires-2 c κs = search needs
-
-count-requires-3 : tie.Need-count-requires-3
-count-requires-3 c κs = search needs
-
-sub-join-into : tie.Need-sub-join-into
-sub-join-into c = search needs
-
-part-join-into-start : tie.Need-part-join-into-start
-part-join-into-start c = search needs
-
 part-join-into-end : tie.Need-part-join-into-end
 part-join-into-end c =
     let g = good-left (c .before .before .before .before .before .before .before .before .before .before .before .before .before .before) in
     omega (arith, g .room, g .count-is, c .before .before .before .count2 .ensures)
-
-sub-join-into-2 : tie.Need-sub-join-into-2
-sub-join-into-2 c = search needs
-
-part-join-into-start-2 : tie.Need-part-join-into-start-2
-part-join-into-start-2 c = search needs
 
 part-join-into-end-2 : tie.Need-part-join-into-end-2
 part-join-into-end-2 c =
@@ -255,9 +210,6 @@ join-into-requires c κs =
       ),
     )
 
-same-length : tie.Need-same-length
-same-length c = search needs
-
 returns-5 : tie.Need-returns-5
 returns-5 c =
     let q = c .before .before .before .before .before .before .before in
@@ -275,31 +227,31 @@ pub catenate-spec : {M : Type 1} → statement M
 catenate-spec =
     tie.close
     (tie.spec
-    early-two-requires
-    refused-requires
+    (λ c κs. search needs)
+    (λ c κs. search needs)
     returns
     catenate-refusal-requires
-    refused-requires-2
+    (λ c κs. search needs)
     returns-2
-    higher-requires
-    position-requires
+    (λ c κs. search needs)
+    (λ c κs. search needs)
     extent-requires
     extent-requires-2
     add-with-length
-    with-length-requires
-    count-requires
-    refused-requires-3
+    (λ c κs. search needs)
+    (λ c κs. search needs)
+    (λ c κs. search needs)
     returns-3
-    refused-requires-4
+    (λ c κs. search needs)
     returns-4
-    count-requires-2
-    count-requires-3
-    sub-join-into
-    part-join-into-start
+    (λ c κs. search needs)
+    (λ c κs. search needs)
+    (λ c. search needs)
+    (λ c. search needs)
     part-join-into-end
-    sub-join-into-2
-    part-join-into-start-2
+    (λ c. search needs)
+    (λ c. search needs)
     part-join-into-end-2
     join-into-requires
-    same-length
+    (λ c. search needs)
     returns-5)

@@ -100,12 +100,6 @@ right-agrees c x y =
 ranks-fit-requires : tie.Need-ranks-fit-requires
 ranks-fit-requires c κs = (good-rank (c .args .ls) (c .pre .0), good-rank (c .args .rs) (c .pre .1))
 
-higher-requires : tie.Need-higher-requires
-higher-requires c κs = search needs
-
-position-requires : tie.Need-position-requires
-position-requires c κs = search needs
-
 returns : tie.Need-returns
 returns c x y =
     let p = c .before .before in
@@ -164,8 +158,8 @@ catenate-refusal-spec =
     tie.close
     (tie.spec
     ranks-fit-requires
-    higher-requires
-    position-requires
+    (λ c κs. search needs)
+    (λ c κs. search needs)
     returns
     agrees-requires
     agrees-requires-2

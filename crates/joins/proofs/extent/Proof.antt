@@ -6,12 +6,6 @@ use Rattle.joins.proofs.extent.Tie as tie
 use Rattle.joins.proofs.extent.Reads as reads
 use Rattle.joins.proofs.extent.Lts as lts
 
-mul-result : tie.Need-mul-result
-mul-result c = search needs
-
-element-copy-out-result : tie.Need-element-copy-out-result
-element-copy-out-result c = search needs
-
 returns : tie.Need-returns
 returns c = let st = c .before .before in sym (rw (eq-eqb (st .args .t1 .rank) (st .args .rank) (c .before .if1 .taken)))
 
@@ -19,4 +13,4 @@ returns-2 : tie.Need-returns-2
 returns-2 c = let st = c .before in sym (rw (ne-eqb (st .args .t1 .rank) (st .args .rank) (c .if1 .left)))
 
 pub extent-spec : {M : Type 1} → statement M
-extent-spec = tie.close (tie.spec mul-result element-copy-out-result returns returns-2)
+extent-spec = tie.close (tie.spec (λ c. search needs) (λ c. search needs) returns returns-2)

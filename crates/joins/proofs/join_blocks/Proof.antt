@@ -37,9 +37,6 @@ inside c =
       ),
     )
 
-add-made : tie.Need-add-made Inv-loop μ-loop
-add-made c = search needs
-
 loop-holds : tie.Need-loop-holds Inv-loop μ-loop
 loop-holds c = (omega arith, (refl, filled-start _ (c .args .v + c .args .w) _))
 
@@ -103,12 +100,6 @@ put-side-requires-2 c κs =
       (omega arith, omega (arith, sized-le (st .args .y) (o * w + w) (st .args .outer * w) (i .1 .1))),
     )
 
-add-o : tie.Need-add-o Inv-loop μ-loop
-add-o c = search needs
-
-loop-less : tie.Need-loop-less Inv-loop μ-loop
-loop-less c = search needs
-
 loop-again : tie.Need-loop-again Inv-loop μ-loop
 loop-again c =
     let q = c .before .before .before .before in
@@ -126,9 +117,6 @@ loop-again c =
     let d = right-more v w f g o _ out₀ _ _ e (part-kept _ out₀ (o * (v + w) + v) w (ap length e ∙ length-filled _ (o * (v + w) + v) out₀ (omega arith)) (omega arith)) (c .before .put-side2 .ensures) in
     (omega arith, (ap length d ∙ length-filled _ ((o + 1) * (v + w)) out₀ (omega arith), d))
 
-same-length : tie.Need-same-length Inv-loop μ-loop
-same-length c = search needs
-
 returns : tie.Need-returns Inv-loop μ-loop
 returns c =
     let lp = c .before .loop in
@@ -144,7 +132,7 @@ join-blocks-spec =
     (tie.spec
     Inv-loop
     μ-loop
-    add-made
+    (λ c. search needs)
     loop-holds
     mul-at
     add-mid
@@ -159,8 +147,8 @@ join-blocks-spec =
     part-put-side-start-2
     part-put-side-end-2
     put-side-requires-2
-    add-o
-    loop-less
+    (λ c. search needs)
+    (λ c. search needs)
     loop-again
-    same-length
+    (λ c. search needs)
     returns)

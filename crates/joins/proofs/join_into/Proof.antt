@@ -36,9 +36,6 @@ around-widths c =
 returns : tie.Need-returns
 returns c = filled-zero _ _ _ (c .if1 .taken)
 
-around-requires : tie.Need-around-requires
-around-requires c κs = search needs
-
 mul-join-blocks : tie.Need-mul-join-blocks
 mul-join-blocks c = rw (c .around .ensures) (omega (arith, around-widths (c .before) .left-small, c .before .before .pre .1 .1 .1 .0))
 
@@ -65,9 +62,6 @@ join-blocks-requires c κs =
       ),
     )
 
-same-length : tie.Need-same-length
-same-length c = search needs
-
 returns-2 : tie.Need-returns-2
 returns-2 c =
     let e = c .before .before .before .before in
@@ -86,9 +80,9 @@ join-into-spec =
     tie.close
     (tie.spec
     returns
-    around-requires
+    (λ c κs. search needs)
     mul-join-blocks
     mul-join-blocks-2
     join-blocks-requires
-    same-length
+    (λ c. search needs)
     returns-2)

@@ -20,12 +20,6 @@ use Rattle.copying.proofs.fill_run.Reads as fill-run-reads
 shared-slice-copy-out-fill-run : tie.Need-shared-slice-copy-out-fill-run
 shared-slice-copy-out-fill-run c = let h = rw (c .if1 .taken) at (c .before .pre .1 .1) in omega arith
 
-fill-run-requires : tie.Need-fill-run-requires
-fill-run-requires c κs = search needs
-
-same-length : tie.Need-same-length
-same-length c = search needs
-
 returns : tie.Need-returns
 returns c =
     let st = c .before .before .before .before .before in
@@ -35,29 +29,8 @@ returns c =
     one-run src (st .args .out .now) _ (st .args .width) (st .args .o * st .args .width) (st .pre .0) (c .before .fill-run .ensures ∙ ap (λ z. replicate (length (st .args .out .now)) z) e)
     ∙ ap (λ b. filled (λ i. sideAt b src (st .args .o * st .args .width + i)) (st .args .width) (st .args .out .now)) (sym (t .if1 .taken))
 
-mul-from : tie.Need-mul-from
-mul-from c = search needs
-
-add-to : tie.Need-add-to
-add-to c = search needs
-
-mul-copy-run : tie.Need-mul-copy-run
-mul-copy-run c = search needs
-
-sub-copy-run : tie.Need-sub-copy-run
-sub-copy-run c = search needs
-
-part-copy-run-start : tie.Need-part-copy-run-start
-part-copy-run-start c = search needs
-
 part-copy-run-end : tie.Need-part-copy-run-end
 part-copy-run-end c = let h = rw (c .if1 .left) at (c .before .pre .1 .1) in omega arith
-
-copy-run-requires : tie.Need-copy-run-requires
-copy-run-requires c κs = search needs
-
-same-length-2 : tie.Need-same-length-2
-same-length-2 c = search needs
 
 returns-2 : tie.Need-returns-2
 returns-2 c =
@@ -72,15 +45,15 @@ put-side-spec =
     tie.close
     (tie.spec
     shared-slice-copy-out-fill-run
-    fill-run-requires
-    same-length
+    (λ c κs. search needs)
+    (λ c. search needs)
     returns
-    mul-from
-    add-to
-    mul-copy-run
-    sub-copy-run
-    part-copy-run-start
+    (λ c. search needs)
+    (λ c. search needs)
+    (λ c. search needs)
+    (λ c. search needs)
+    (λ c. search needs)
     part-copy-run-end
-    copy-run-requires
-    same-length-2
+    (λ c κs. search needs)
+    (λ c. search needs)
     returns-2)

@@ -19,16 +19,10 @@ returns-2 c = let st = c .before .before in sym (rw (ne-eqb (st .args .a) 0 (c .
 returns-3 : tie.Need-returns-3
 returns-3 c = let st = c .before .before .before in sym (rw (ne-eqb (st .args .a) 0 (c .before .before .if1 .left), ne-eqb (st .args .b) 0 (c .before .if2 .left), eq-eqb (st .args .a) (st .args .b) (c .if3 .taken)))
 
-add-if4 : tie.Need-add-if4
-add-if4 c = search needs
-
 returns-4 : tie.Need-returns-4
 returns-4 c =
     let st = c .before .before .before .before in
     sym (rw (ne-eqb (st .args .a) 0 (c .before .before .before .if1 .left), ne-eqb (st .args .b) 0 (c .before .before .if2 .left), ne-eqb (st .args .a) (st .args .b) (c .before .if3 .left), eq-eqb (suc (st .args .a)) (st .args .b) (omega (arith, c .if4 .taken))))
-
-add-result : tie.Need-add-result
-add-result c = search needs
 
 returns-5 : tie.Need-returns-5
 returns-5 c =
@@ -38,4 +32,4 @@ returns-5 c =
 
 pub ranks-fit-spec : {M : Type 1} → statement M
 ranks-fit-spec =
-    tie.close (tie.spec returns returns-2 returns-3 add-if4 returns-4 add-result returns-5)
+    tie.close (tie.spec returns returns-2 returns-3 (λ c. search needs) returns-4 (λ c. search needs) returns-5)

@@ -22,24 +22,6 @@ abbrev μ-loop : tie.MeasureT-loop
 loop-holds : tie.Need-loop-holds Inv-loop μ-loop
 loop-holds c = (omega arith, ap₂ (λ x y. sameLengths (slice x (c .args .i + c .args .n) (c .args .t1)) (slice y (c .args .j + c .args .n) (c .args .t3))) (sym (add-zero (c .args .i))) (sym (add-zero (c .args .j))))
 
-add-if1 : tie.Need-add-if1 Inv-loop μ-loop
-add-if1 c = search needs
-
-mul-if1 : tie.Need-mul-if1 Inv-loop μ-loop
-mul-if1 c = search needs
-
-array-read-if1 : tie.Need-array-read-if1 Inv-loop μ-loop
-array-read-if1 c = search needs
-
-add-if1-2 : tie.Need-add-if1-2 Inv-loop μ-loop
-add-if1-2 c = search needs
-
-mul-if1-2 : tie.Need-mul-if1-2 Inv-loop μ-loop
-mul-if1-2 c = search needs
-
-array-read-if1-2 : tie.Need-array-read-if1-2 Inv-loop μ-loop
-array-read-if1-2 c = search needs
-
 returns : tie.Need-returns Inv-loop μ-loop
 returns c =
     let lp = c .before .before in
@@ -47,12 +29,6 @@ returns c =
     let p : length (st .args .t1) ≡ maxRank = search needs in
     let q : length (st .args .t3) ≡ maxRank = search needs in
     sym (lp .loop .inv .1 ∙ same-stop (st .args .t1) (st .args .t3) (st .args .i) (st .args .j) (st .args .n) (lp .loop .t) (omega arith) (omega arith) (omega arith) (c .if1 .taken))
-
-add-t : tie.Need-add-t Inv-loop μ-loop
-add-t c = search needs
-
-loop-less : tie.Need-loop-less Inv-loop μ-loop
-loop-less c = search needs
 
 loop-again : tie.Need-loop-again Inv-loop μ-loop
 loop-again c =
@@ -77,14 +53,14 @@ same-part-spec =
     Inv-loop
     μ-loop
     loop-holds
-    add-if1
-    mul-if1
-    array-read-if1
-    add-if1-2
-    mul-if1-2
-    array-read-if1-2
+    (λ c. search needs)
+    (λ c. search needs)
+    (λ c. search needs)
+    (λ c. search needs)
+    (λ c. search needs)
+    (λ c. search needs)
     returns
-    add-t
-    loop-less
+    (λ c. search needs)
+    (λ c. search needs)
     loop-again
     returns-2)

@@ -31,24 +31,12 @@ call-one-requires c κs = between 11 15 _ (c .before .before .if1 .left) (c .bef
 call-two-requires : tie.Need-call-two-requires
 call-two-requires c κs = between 21 31 _ (c .before .before .if3 .left) (c .before .if4 .taken)
 
--- src/lib.rt:21:14
-refused-requires : tie.Need-refused-requires
-refused-requires c κs = search needs
-
--- src/lib.rt:13:1
-same-length : tie.Need-same-length
-same-length c = search needs
-
 -- src/lib.rt:13:1
 returns : tie.Need-returns
 returns c =
     let st = c .before .before .before .before .before in
     carried (lent (st .args .ls) (st .args .l .now)) (lent (st .args .rs) (st .args .r .now)) (st .args .out .now)
     (read32 _ (st .fits .number)) (read32 _ (st .fits .g)) (read32 _ (st .fits .k)) (c .before .call-one .ensures (lent (st .args .ls) (st .args .l .now)))
-
--- src/lib.rt:13:1
-same-length-2 : tie.Need-same-length-2
-same-length-2 c = search needs
 
 -- src/lib.rt:13:1
 returns-2 : tie.Need-returns-2
@@ -74,9 +62,9 @@ call-spec =
     (tie.spec
     call-one-requires
     call-two-requires
-    refused-requires
-    same-length
+    (λ c κs. search needs)
+    (λ c. search needs)
     returns
-    same-length-2
+    (λ c. search needs)
     returns-2
     returns-3)

@@ -16,39 +16,11 @@ use Rattle.vectors.proofs.interval.Reads as interval-reads
 use Rattle.vectors.proofs.ravel.Reads as ravel-reads
 use Rattle.vectors.proofs.shape_of.Reads as shape-of-reads
 
--- src/lib.rt:19:15
-shape-of-requires : tie.Need-shape-of-requires
-shape-of-requires c κs = search needs
-
--- src/lib.rt:20:15
-ravel-requires : tie.Need-ravel-requires
-ravel-requires c κs = search needs
-
--- src/lib.rt:21:15
-interval-requires : tie.Need-interval-requires
-interval-requires c κs = search needs
-
--- src/lib.rt:22:15
-reverse-requires : tie.Need-reverse-requires
-reverse-requires c κs = search needs
-
--- src/lib.rt:23:14
-transpose-requires : tie.Need-transpose-requires
-transpose-requires c κs = search needs
-
--- src/lib.rt:12:1
-same-length : tie.Need-same-length
-same-length c = search needs
-
 -- src/lib.rt:12:1
 returns : tie.Need-returns
 returns c L =
     let st = c .before .before .before .before in
     carried L (lent (st .args .rs) (st .args .r .now)) (st .args .out .now) (sym (key 11 (st .fits .number) (lit< tt) (c .before .before .before .match .keys1))) (read32 _ (st .fits .g)) refl (c .before .shape-of .ensures (st .args .k) L)
-
--- src/lib.rt:12:1
-same-length-2 : tie.Need-same-length-2
-same-length-2 c = search needs
 
 -- src/lib.rt:12:1
 returns-2 : tie.Need-returns-2
@@ -57,28 +29,16 @@ returns-2 c L =
     carried L (lent (st .args .rs) (st .args .r .now)) (st .args .out .now) (sym (key 12 (st .fits .number) (lit< tt) (c .before .before .before .match .keys2))) (read32 _ (st .fits .g)) refl (c .before .ravel .ensures (st .args .k) L)
 
 -- src/lib.rt:12:1
-same-length-3 : tie.Need-same-length-3
-same-length-3 c = search needs
-
--- src/lib.rt:12:1
 returns-3 : tie.Need-returns-3
 returns-3 c L =
     let st = c .before .before .before .before in
     carried L (lent (st .args .rs) (st .args .r .now)) (st .args .out .now) (sym (key 13 (st .fits .number) (lit< tt) (c .before .before .before .match .keys3))) (read32 _ (st .fits .g)) refl (c .before .interval .ensures (st .args .k) L)
 
 -- src/lib.rt:12:1
-same-length-4 : tie.Need-same-length-4
-same-length-4 c = search needs
-
--- src/lib.rt:12:1
 returns-4 : tie.Need-returns-4
 returns-4 c L =
     let st = c .before .before .before .before in
     carried L (lent (st .args .rs) (st .args .r .now)) (st .args .out .now) (sym (key 14 (st .fits .number) (lit< tt) (c .before .before .before .match .keys4))) (read32 _ (st .fits .g)) (read32 _ (st .fits .k)) (c .before .reverse .ensures L)
-
--- src/lib.rt:12:1
-same-length-5 : tie.Need-same-length-5
-same-length-5 c = search needs
 
 -- src/lib.rt:12:1
 returns-5 : tie.Need-returns-5
@@ -95,18 +55,18 @@ pub call-one-spec : {M : Type 1} → statement M
 call-one-spec =
     tie.close
     (tie.spec
-    shape-of-requires
-    ravel-requires
-    interval-requires
-    reverse-requires
-    transpose-requires
-    same-length
+    (λ c κs. search needs)
+    (λ c κs. search needs)
+    (λ c κs. search needs)
+    (λ c κs. search needs)
+    (λ c κs. search needs)
+    (λ c. search needs)
     returns
-    same-length-2
+    (λ c. search needs)
     returns-2
-    same-length-3
+    (λ c. search needs)
     returns-3
-    same-length-4
+    (λ c. search needs)
     returns-4
-    same-length-5
+    (λ c. search needs)
     returns-5)

@@ -9,50 +9,11 @@ use Rattle.kernel.proofs.Numbered.{carried, not-key, past}
 use Rattle.kernel.proofs.call_two.Statement.{statement}
 use Rattle.kernel.proofs.call_two.Tie as tie
 
-reshape-requires : tie.Need-reshape-requires
-reshape-requires c κs = search needs
-
-catenate-requires : tie.Need-catenate-requires
-catenate-requires c κs = search needs
-
-take-requires : tie.Need-take-requires
-take-requires c κs = search needs
-
-drop-requires : tie.Need-drop-requires
-drop-requires c κs = search needs
-
-rotate-requires : tie.Need-rotate-requires
-rotate-requires c κs = search needs
-
-transpose-by-requires : tie.Need-transpose-by-requires
-transpose-by-requires c κs = search needs
-
-compress-requires : tie.Need-compress-requires
-compress-requires c κs = search needs
-
-expand-requires : tie.Need-expand-requires
-expand-requires c κs = search needs
-
-index-of-requires : tie.Need-index-of-requires
-index-of-requires c κs = search needs
-
-member-requires : tie.Need-member-requires
-member-requires c κs = search needs
-
-select-requires : tie.Need-select-requires
-select-requires c κs = search needs
-
-same-length : tie.Need-same-length
-same-length c = search needs
-
 returns : tie.Need-returns
 returns c =
     let st = c .before .before .before .before in
     carried (lent (st .args .ls) (st .args .l .now)) (lent (st .args .rs) (st .args .r .now)) (st .args .out .now)
     (sym (key 21 (st .fits .number) (lit< tt) (c .before .before .before .match .keys1))) (read32 _ (st .fits .g)) refl (c .before .reshape .ensures (st .args .k))
-
-same-length-2 : tie.Need-same-length-2
-same-length-2 c = search needs
 
 returns-2 : tie.Need-returns-2
 returns-2 c =
@@ -60,17 +21,11 @@ returns-2 c =
     carried (lent (st .args .ls) (st .args .l .now)) (lent (st .args .rs) (st .args .r .now)) (st .args .out .now)
     (sym (key 22 (st .fits .number) (lit< tt) (c .before .before .before .match .keys2))) (read32 _ (st .fits .g)) (read32 _ (st .fits .k)) (c .before .catenate .ensures)
 
-same-length-3 : tie.Need-same-length-3
-same-length-3 c = search needs
-
 returns-3 : tie.Need-returns-3
 returns-3 c =
     let st = c .before .before .before .before in
     carried (lent (st .args .ls) (st .args .l .now)) (lent (st .args .rs) (st .args .r .now)) (st .args .out .now)
     (sym (key 23 (st .fits .number) (lit< tt) (c .before .before .before .match .keys3))) (read32 _ (st .fits .g)) refl (c .before .take .ensures (st .args .k))
-
-same-length-4 : tie.Need-same-length-4
-same-length-4 c = search needs
 
 returns-4 : tie.Need-returns-4
 returns-4 c =
@@ -78,17 +33,11 @@ returns-4 c =
     carried (lent (st .args .ls) (st .args .l .now)) (lent (st .args .rs) (st .args .r .now)) (st .args .out .now)
     (sym (key 24 (st .fits .number) (lit< tt) (c .before .before .before .match .keys4))) (read32 _ (st .fits .g)) refl (c .before .drop .ensures (st .args .k))
 
-same-length-5 : tie.Need-same-length-5
-same-length-5 c = search needs
-
 returns-5 : tie.Need-returns-5
 returns-5 c =
     let st = c .before .before .before .before in
     carried (lent (st .args .ls) (st .args .l .now)) (lent (st .args .rs) (st .args .r .now)) (st .args .out .now)
     (sym (key 25 (st .fits .number) (lit< tt) (c .before .before .before .match .keys5))) (read32 _ (st .fits .g)) (read32 _ (st .fits .k)) (c .before .rotate .ensures)
-
-same-length-6 : tie.Need-same-length-6
-same-length-6 c = search needs
 
 returns-6 : tie.Need-returns-6
 returns-6 c =
@@ -96,17 +45,11 @@ returns-6 c =
     carried (lent (st .args .ls) (st .args .l .now)) (lent (st .args .rs) (st .args .r .now)) (st .args .out .now)
     (sym (key 26 (st .fits .number) (lit< tt) (c .before .before .before .match .keys6))) (read32 _ (st .fits .g)) refl (c .before .transpose-by .ensures (st .args .k))
 
-same-length-7 : tie.Need-same-length-7
-same-length-7 c = search needs
-
 returns-7 : tie.Need-returns-7
 returns-7 c =
     let st = c .before .before .before .before in
     carried (lent (st .args .ls) (st .args .l .now)) (lent (st .args .rs) (st .args .r .now)) (st .args .out .now)
     (sym (key 27 (st .fits .number) (lit< tt) (c .before .before .before .match .keys7))) (read32 _ (st .fits .g)) (read32 _ (st .fits .k)) (c .before .compress .ensures)
-
-same-length-8 : tie.Need-same-length-8
-same-length-8 c = search needs
 
 returns-8 : tie.Need-returns-8
 returns-8 c =
@@ -114,26 +57,17 @@ returns-8 c =
     carried (lent (st .args .ls) (st .args .l .now)) (lent (st .args .rs) (st .args .r .now)) (st .args .out .now)
     (sym (key 28 (st .fits .number) (lit< tt) (c .before .before .before .match .keys8))) (read32 _ (st .fits .g)) (read32 _ (st .fits .k)) (c .before .expand .ensures)
 
-same-length-9 : tie.Need-same-length-9
-same-length-9 c = search needs
-
 returns-9 : tie.Need-returns-9
 returns-9 c =
     let st = c .before .before .before .before in
     carried (lent (st .args .ls) (st .args .l .now)) (lent (st .args .rs) (st .args .r .now)) (st .args .out .now)
     (sym (key 29 (st .fits .number) (lit< tt) (c .before .before .before .match .keys9))) (read32 _ (st .fits .g)) refl (c .before .index-of .ensures (st .args .k))
 
-same-length-10 : tie.Need-same-length-10
-same-length-10 c = search needs
-
 returns-10 : tie.Need-returns-10
 returns-10 c =
     let st = c .before .before .before .before in
     carried (lent (st .args .ls) (st .args .l .now)) (lent (st .args .rs) (st .args .r .now)) (st .args .out .now)
     (sym (key 30 (st .fits .number) (lit< tt) (c .before .before .before .match .keys10))) (read32 _ (st .fits .g)) refl (c .before .member .ensures (st .args .k))
-
-same-length-11 : tie.Need-same-length-11
-same-length-11 c = search needs
 
 returns-11 : tie.Need-returns-11
 returns-11 c =
@@ -159,36 +93,36 @@ pub call-two-spec : {M : Type 1} → statement M
 call-two-spec =
     tie.close
     (tie.spec
-    reshape-requires
-    catenate-requires
-    take-requires
-    drop-requires
-    rotate-requires
-    transpose-by-requires
-    compress-requires
-    expand-requires
-    index-of-requires
-    member-requires
-    select-requires
-    same-length
+    (λ c κs. search needs)
+    (λ c κs. search needs)
+    (λ c κs. search needs)
+    (λ c κs. search needs)
+    (λ c κs. search needs)
+    (λ c κs. search needs)
+    (λ c κs. search needs)
+    (λ c κs. search needs)
+    (λ c κs. search needs)
+    (λ c κs. search needs)
+    (λ c κs. search needs)
+    (λ c. search needs)
     returns
-    same-length-2
+    (λ c. search needs)
     returns-2
-    same-length-3
+    (λ c. search needs)
     returns-3
-    same-length-4
+    (λ c. search needs)
     returns-4
-    same-length-5
+    (λ c. search needs)
     returns-5
-    same-length-6
+    (λ c. search needs)
     returns-6
-    same-length-7
+    (λ c. search needs)
     returns-7
-    same-length-8
+    (λ c. search needs)
     returns-8
-    same-length-9
+    (λ c. search needs)
     returns-9
-    same-length-10
+    (λ c. search needs)
     returns-10
-    same-length-11
+    (λ c. search needs)
     returns-11)

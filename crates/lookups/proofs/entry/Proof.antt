@@ -21,12 +21,6 @@ returns-2 c =
     let st = c .before .before in
     sym (rw (c .before .if1 .taken, le-ltb (st .args .at) (length (st .args .l .now)) (c .if2 .left)))
 
-add-result : tie.Need-add-result
-add-result c = search needs
-
-cast-result : tie.Need-cast-result
-cast-result c = search needs
-
 returns-3 : tie.Need-returns-3
 unfolding entry
 returns-3 c =
@@ -34,4 +28,4 @@ returns-3 c =
     read-pos (st .args .first + st .args .at) (omega (arith, st .pre .0, st .pre .1)) ∙ sym (rw (c .if1 .left))
 
 pub entry-spec : {M : Type 1} → statement M
-entry-spec = tie.close (tie.spec returns returns-2 add-result cast-result returns-3)
+entry-spec = tie.close (tie.spec returns returns-2 (λ c. search needs) (λ c. search needs) returns-3)

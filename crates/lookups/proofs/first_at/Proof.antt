@@ -35,27 +35,12 @@ found st n e = e ∙ ap (λ z. firstAt z (st .args .l .now)) (read32 (st .args .
 loop-holds : tie.Need-loop-holds Inv-loop μ-loop
 loop-holds c = (omega arith, omega arith)
 
-mul-same : tie.Need-mul-same Inv-loop μ-loop
-mul-same c = search needs
-
-shared-slice-copy-out-same : tie.Need-shared-slice-copy-out-same Inv-loop μ-loop
-shared-slice-copy-out-same c = search needs
-
-same-requires : tie.Need-same-requires Inv-loop μ-loop
-same-requires c κs = search needs
-
 returns : tie.Need-returns Inv-loop μ-loop
 returns c =
     let lp = c .before .before .before .before in
     let st = lp .before in
     found st (lp .loop .i)
     (omega (arith, lp .loop .inv .1, first-here (sought st) (st .args .l .now) (lp .loop .i) (omega arith) (sym (same-is (c .before)) ∙ c .if1 .taken)))
-
-add-i : tie.Need-add-i Inv-loop μ-loop
-add-i c = search needs
-
-loop-less : tie.Need-loop-less Inv-loop μ-loop
-loop-less c = search needs
 
 loop-again : tie.Need-loop-again Inv-loop μ-loop
 loop-again c =
@@ -78,11 +63,11 @@ first-at-spec =
     Inv-loop
     μ-loop
     loop-holds
-    mul-same
-    shared-slice-copy-out-same
-    same-requires
+    (λ c. search needs)
+    (λ c. search needs)
+    (λ c κs. search needs)
     returns
-    add-i
-    loop-less
+    (λ c. search needs)
+    (λ c. search needs)
     loop-again
     returns-2)

@@ -45,20 +45,11 @@ none-own c = index-none _ _ _ (fine (c .before .before) .left .rank-is ∙ c .if
 first-is : (c : tie.After-size) → c .size .result ≡ natAbs (c .before .before .before .before .before .before .before .before .args .g)
 first-is c = c .size .ensures ∙ ap natAbs (read32 _ (c .before .before .before .before .before .before .before .before .fits .g))
 
-early-two-requires : tie.Need-early-two-requires
-early-two-requires c κs = search needs
-
-refused-requires : tie.Need-refused-requires
-refused-requires c κs = search needs
-
 returns : tie.Need-returns
 returns c K =
     let st = c .before .before .before in
     replied-refused (c .refused .result) _ (st .args .out .now) (c .refused .ensures)
     (early-reply (index-names (st .args .g) K (left st) (right st)) (st .args .out .now) _ (early-is (c .before .before)) (c .before .if1 .taken))
-
-refused-requires-2 : tie.Need-refused-requires-2
-refused-requires-2 c κs = search needs
 
 returns-2 : tie.Need-returns-2
 returns-2 c K =
@@ -67,15 +58,6 @@ returns-2 c K =
     replied-refused (c .refused2 .result) 4 (st .args .out .now) (c .refused2 .ensures)
     (own-reply (index-names (st .args .g) K (left st) (right st)) (st .args .out .now) (fine e .none) 4
     (sym (index-rank (st .args .g) (arrayOf (left st)) (arrayOf (right st)) (λ h. c .before .if2 .taken (sym (fine e .left .rank-is) ∙ h)))) (λ z. omega arith))
-
-count-requires : tie.Need-count-requires
-count-requires c κs = search needs
-
-count-requires-2 : tie.Need-count-requires-2
-count-requires-2 c κs = search needs
-
-refused-requires-3 : tie.Need-refused-requires-3
-refused-requires-3 c κs = search needs
 
 returns-3 : tie.Need-returns-3
 returns-3 c K =
@@ -90,26 +72,11 @@ returns-3 c K =
     (space-reply (index-names (st .args .g) K (left st) (right st)) (st .args .out .now) (fine e .none) (none-own o) (index-rule (st .args .g) l r (g .rule))
     (rw (index-count (st .args .g) l r) (omega (arith, g .count-is, m .count2 .ensures, c .before .if3 .taken))))
 
-size-requires : tie.Need-size-requires
-size-requires c κs = search needs
-
-sub-put-positions : tie.Need-sub-put-positions
-sub-put-positions c = search needs
-
-part-put-positions-start : tie.Need-part-put-positions-start
-part-put-positions-start c = search needs
-
 part-put-positions-end : tie.Need-part-put-positions-end
 part-put-positions-end c =
     let n = c .before .before .before in
     let g = fine (n .before .before .before) .left in
     omega (arith, g .room, g .count-is, n .count .ensures)
-
-sub-put-positions-2 : tie.Need-sub-put-positions-2
-sub-put-positions-2 c = search needs
-
-part-put-positions-start-2 : tie.Need-part-put-positions-start-2
-part-put-positions-start-2 c = search needs
 
 part-put-positions-end-2 : tie.Need-part-put-positions-end-2
 part-put-positions-end-2 c =
@@ -129,12 +96,6 @@ put-positions-requires c κs =
     let b = ap length (lent-part (st .args .rs) (st .args .r .now) gr _ (m .count2 .ensures)) ∙ gr .whole in
     let f = origin-is (st .args .g) (fine e .origin) in
     (omega (arith, first-is z, f .1), (omega (arith, a, gl .count-small), omega (arith, b, gr .count-is, m .count2 .ensures, z .before .if3 .left)))
-
-of-lengths-requires : tie.Need-of-lengths-requires
-of-lengths-requires c κs = search needs
-
-same-length : tie.Need-same-length
-same-length c = search needs
 
 returns-4 : tie.Need-returns-4
 returns-4 c K =
@@ -162,23 +123,23 @@ pub index-of-spec : {M : Type 1} → statement M
 index-of-spec =
     tie.close
     (tie.spec
-    early-two-requires
-    refused-requires
+    (λ c κs. search needs)
+    (λ c κs. search needs)
     returns
-    refused-requires-2
+    (λ c κs. search needs)
     returns-2
-    count-requires
-    count-requires-2
-    refused-requires-3
+    (λ c κs. search needs)
+    (λ c κs. search needs)
+    (λ c κs. search needs)
     returns-3
-    size-requires
-    sub-put-positions
-    part-put-positions-start
+    (λ c κs. search needs)
+    (λ c. search needs)
+    (λ c. search needs)
     part-put-positions-end
-    sub-put-positions-2
-    part-put-positions-start-2
+    (λ c. search needs)
+    (λ c. search needs)
     part-put-positions-end-2
     put-positions-requires
-    of-lengths-requires
-    same-length
+    (λ c κs. search needs)
+    (λ c. search needs)
     returns-4)

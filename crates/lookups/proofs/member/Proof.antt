@@ -34,26 +34,11 @@ fine c =
     let b : length (st .args .rs .lens) ≡ maxRank = search needs in
     fine-two (st .args .g) (st .args .ls) (st .args .l .now) (st .args .rs) (st .args .r .now) a b (sym (early-is (c .before)) ∙ c .if1 .left)
 
-early-two-requires : tie.Need-early-two-requires
-early-two-requires c κs = search needs
-
-refused-requires : tie.Need-refused-requires
-refused-requires c κs = search needs
-
 returns : tie.Need-returns
 returns c K =
     let st = c .before .before .before in
     replied-refused (c .refused .result) _ (st .args .out .now) (c .refused .ensures)
     (early-reply (member-names (st .args .g) K (left st) (right st)) (st .args .out .now) _ (early-is (c .before .before)) (c .before .if1 .taken))
-
-count-requires : tie.Need-count-requires
-count-requires c κs = search needs
-
-count-requires-2 : tie.Need-count-requires-2
-count-requires-2 c κs = search needs
-
-refused-requires-2 : tie.Need-refused-requires-2
-refused-requires-2 c κs = search needs
 
 returns-2 : tie.Need-returns-2
 returns-2 c K =
@@ -66,20 +51,8 @@ returns-2 c K =
     (member-rule (arrayOf (left st)) (arrayOf (right st)) (g .rule))
     (rw (member-count (arrayOf (left st)) (arrayOf (right st))) (omega (arith, g .count-is, n .count .ensures, c .before .if2 .taken))))
 
-sub-put-found : tie.Need-sub-put-found
-sub-put-found c = search needs
-
-part-put-found-start : tie.Need-part-put-found-start
-part-put-found-start c = search needs
-
 part-put-found-end : tie.Need-part-put-found-end
 part-put-found-end c = let g = fine (c .before .before .before) .left in omega (arith, g .room, g .count-is, c .before .before .count .ensures)
-
-sub-put-found-2 : tie.Need-sub-put-found-2
-sub-put-found-2 c = search needs
-
-part-put-found-start-2 : tie.Need-part-put-found-start-2
-part-put-found-start-2 c = search needs
 
 part-put-found-end-2 : tie.Need-part-put-found-end-2
 part-put-found-end-2 c = let g = fine (c .before .before .before .before) .right in omega (arith, g .room, g .count-is, c .before .before .count2 .ensures)
@@ -95,12 +68,6 @@ put-found-requires c κs =
     let a = ap length (lent-part (st .args .ls) (st .args .l .now) gl _ (m .before .count .ensures)) ∙ gl .whole in
     let b = ap length (lent-part (st .args .rs) (st .args .r .now) gr _ (m .count2 .ensures)) ∙ gr .whole in
     (omega (arith, b, gr .count-small), omega (arith, a, gl .count-is, m .before .count .ensures, z .if2 .left))
-
-of-lengths-requires : tie.Need-of-lengths-requires
-of-lengths-requires c κs = search needs
-
-same-length : tie.Need-same-length
-same-length c = search needs
 
 returns-3 : tie.Need-returns-3
 returns-3 c K =
@@ -125,20 +92,20 @@ pub member-spec : {M : Type 1} → statement M
 member-spec =
     tie.close
     (tie.spec
-    early-two-requires
-    refused-requires
+    (λ c κs. search needs)
+    (λ c κs. search needs)
     returns
-    count-requires
-    count-requires-2
-    refused-requires-2
+    (λ c κs. search needs)
+    (λ c κs. search needs)
+    (λ c κs. search needs)
     returns-2
-    sub-put-found
-    part-put-found-start
+    (λ c. search needs)
+    (λ c. search needs)
     part-put-found-end
-    sub-put-found-2
-    part-put-found-start-2
+    (λ c. search needs)
+    (λ c. search needs)
     part-put-found-end-2
     put-found-requires
-    of-lengths-requires
-    same-length
+    (λ c κs. search needs)
+    (λ c. search needs)
     returns-3)

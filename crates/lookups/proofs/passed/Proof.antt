@@ -20,32 +20,8 @@ abbrev μ-loop : tie.MeasureT-loop
 loop-holds : tie.Need-loop-holds Inv-loop μ-loop
 loop-holds c = (omega arith, (c .pre, refl))
 
-sub-loop : tie.Need-sub-loop Inv-loop μ-loop
-sub-loop c = search needs
-
-add-end : tie.Need-add-end Inv-loop μ-loop
-add-end c = search needs
-
-mul-may-have : tie.Need-mul-may-have Inv-loop μ-loop
-mul-may-have c = search needs
-
-sub-may-have : tie.Need-sub-may-have Inv-loop μ-loop
-sub-may-have c = search needs
-
-part-may-have-start : tie.Need-part-may-have-start Inv-loop μ-loop
-part-may-have-start c = search needs
-
-part-may-have-end : tie.Need-part-may-have-end Inv-loop μ-loop
-part-may-have-end c = search needs
-
-may-have-requires : tie.Need-may-have-requires Inv-loop μ-loop
-may-have-requires c κs = search needs
-
 returns : tie.Need-returns Inv-loop μ-loop
 returns c = let lp = c .before .before .before .before in rw (read32 (lp .before .args .x) (lp .before .fits .x)) at (lp .loop .inv)
-
-loop-less : tie.Need-loop-less Inv-loop μ-loop
-loop-less c = search needs
 
 loop-again : tie.Need-loop-again Inv-loop μ-loop
 loop-again c =
@@ -64,14 +40,14 @@ passed-spec =
     Inv-loop
     μ-loop
     loop-holds
-    sub-loop
-    add-end
-    mul-may-have
-    sub-may-have
-    part-may-have-start
-    part-may-have-end
-    may-have-requires
+    (λ c. search needs)
+    (λ c. search needs)
+    (λ c. search needs)
+    (λ c. search needs)
+    (λ c. search needs)
+    (λ c. search needs)
+    (λ c κs. search needs)
     returns
-    loop-less
+    (λ c. search needs)
     loop-again
     returns-2)

@@ -22,32 +22,14 @@ sought st = toZ w32 (ofZ w32 (st .args .x))
 found : (st : tie.Start) (n : ℕ) → n ≡ firstAt (sought st) (st .args .l .now) → n ≡ firstAt (st .args .x) (st .args .l .now)
 found st n e = e ∙ ap (λ z. firstAt z (st .args .l .now)) (read32 (st .args .x) (st .fits .x))
 
-first-at-requires : tie.Need-first-at-requires
-first-at-requires c κs = search needs
-
 returns : tie.Need-returns
 returns c = found (c .before .before) (c .first-at .result) (c .first-at .ensures)
-
-sub-first-at : tie.Need-sub-first-at
-sub-first-at c = search needs
-
-part-first-at-start : tie.Need-part-first-at-start
-part-first-at-start c = search needs
-
-part-first-at-end : tie.Need-part-first-at-end
-part-first-at-end c = search needs
-
-first-at-requires-2 : tie.Need-first-at-requires-2
-first-at-requires-2 c κs = search needs
 
 returns-2 : tie.Need-returns-2
 returns-2 c =
     let f = c .before in
     let st = f .before .before .before in
     found st (f .first-at2 .result) (omega (arith, f .first-at2 .ensures, first-part (sought st) (st .args .l .now) 0 near (omega arith) (omega arith) (omega arith)))
-
-position-from-requires : tie.Need-position-from-requires
-position-from-requires c κs = search needs
 
 returns-3 : tie.Need-returns-3
 returns-3 c =
@@ -60,12 +42,12 @@ pub position-spec : {M : Type 1} → statement M
 position-spec =
     tie.close
     (tie.spec
-    first-at-requires
+    (λ c κs. search needs)
     returns
-    sub-first-at
-    part-first-at-start
-    part-first-at-end
-    first-at-requires-2
+    (λ c. search needs)
+    (λ c. search needs)
+    (λ c. search needs)
+    (λ c κs. search needs)
     returns-2
-    position-from-requires
+    (λ c κs. search needs)
     returns-3)

@@ -16,24 +16,6 @@ use Rattle.lookups.proofs.position_from.Tie as tie
 abbrev sought : tie.Start → ℤ
 sought st = toZ w32 (ofZ w32 (st .args .x))
 
-passed-requires : tie.Need-passed-requires
-passed-requires c κs = search needs
-
-mul-first-at : tie.Need-mul-first-at
-mul-first-at c = search needs
-
-sub-first-at : tie.Need-sub-first-at
-sub-first-at c = search needs
-
-part-first-at-start : tie.Need-part-first-at-start
-part-first-at-start c = search needs
-
-part-first-at-end : tie.Need-part-first-at-end
-part-first-at-end c = search needs
-
-first-at-requires : tie.Need-first-at-requires
-first-at-requires c κs = search needs
-
 add-result : tie.Need-add-result
 add-result c =
     let p = c .before .before in
@@ -53,11 +35,11 @@ pub position-from-spec : {M : Type 1} → statement M
 position-from-spec =
     tie.close
     (tie.spec
-    passed-requires
-    mul-first-at
-    sub-first-at
-    part-first-at-start
-    part-first-at-end
-    first-at-requires
+    (λ c κs. search needs)
+    (λ c. search needs)
+    (λ c. search needs)
+    (λ c. search needs)
+    (λ c. search needs)
+    (λ c κs. search needs)
     add-result
     returns)

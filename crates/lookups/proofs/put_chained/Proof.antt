@@ -11,14 +11,5 @@ link-requires c κs =
     let p = c .before .before .pre in
     (p .1 .0, (length-replicate chains past, (length-replicate maxCount past, λ h b. omega (arith, p .1 .0, getD-replicate chains h past 0 b))))
 
-put-looked-up-requires : tie.Need-put-looked-up-requires
-put-looked-up-requires c κs = search needs
-
-same-length : tie.Need-same-length
-same-length c = search needs
-
-returns : tie.Need-returns
-returns c = search needs
-
 pub put-chained-spec : {M : Type 1} → statement M
-put-chained-spec = tie.close (tie.spec link-requires put-looked-up-requires same-length returns)
+put-chained-spec = tie.close (tie.spec link-requires (λ c κs. search needs) (λ c. search needs) (λ c. search needs))

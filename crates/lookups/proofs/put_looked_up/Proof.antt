@@ -34,29 +34,11 @@ at-small c =
 loop-holds : tie.Need-loop-holds Inv-loop μ-loop
 loop-holds c = (omega arith, (refl, filled-none _ _))
 
-mul-look : tie.Need-mul-look Inv-loop μ-loop
-mul-look c = search needs
-
-shared-slice-copy-out-look : tie.Need-shared-slice-copy-out-look Inv-loop μ-loop
-shared-slice-copy-out-look c = search needs
-
 look-requires : tie.Need-look-requires Inv-loop μ-loop
 look-requires c κs = (c .before .before .before .pre .1 .0, c .before .before .before .pre .1 .1 .1)
 
 entry-requires : tie.Need-entry-requires Inv-loop μ-loop
 entry-requires c κs = (c .before .before .before .before .pre .0, at-small c)
-
-mul-t12 : tie.Need-mul-t12 Inv-loop μ-loop
-mul-t12 c = search needs
-
-slice-set-from-out : tie.Need-slice-set-from-out Inv-loop μ-loop
-slice-set-from-out c = search needs
-
-add-j : tie.Need-add-j Inv-loop μ-loop
-add-j c = search needs
-
-loop-less : tie.Need-loop-less Inv-loop μ-loop
-loop-less c = search needs
 
 loop-again : tie.Need-loop-again Inv-loop μ-loop
 loop-again c =
@@ -66,9 +48,6 @@ loop-again c =
       omega arith,
       (simp length-set (lp .loop .inv .1 .0), rw (lp .loop .inv .1 .1) (filled-one _ (pos 0) _ (lp .loop .j) (st .args .out .now) (omega arith) e)),
     )
-
-same-length : tie.Need-same-length Inv-loop μ-loop
-same-length c = search needs
 
 returns : tie.Need-returns Inv-loop μ-loop
 returns c =
@@ -82,14 +61,14 @@ put-looked-up-spec =
     Inv-loop
     μ-loop
     loop-holds
-    mul-look
-    shared-slice-copy-out-look
+    (λ c. search needs)
+    (λ c. search needs)
     look-requires
     entry-requires
-    mul-t12
-    slice-set-from-out
-    add-j
-    loop-less
+    (λ c. search needs)
+    (λ c. search needs)
+    (λ c. search needs)
+    (λ c. search needs)
     loop-again
-    same-length
+    (λ c. search needs)
     returns)

@@ -33,44 +33,17 @@ at-small c =
     let st = lp .before .before in
     omega (arith, at-is c, first-le (getD (st .args .r .now) (lp .loop .j) (pos 0)) (st .args .l .now), st .pre .1 .0)
 
-tests-allowed-requires : tie.Need-tests-allowed-requires Inv-loop μ-loop
-tests-allowed-requires c κs = search needs
-
 loop-holds : tie.Need-loop-holds Inv-loop μ-loop
 loop-holds c = (omega arith, (refl, filled-none _ _))
-
-same-length : tie.Need-same-length Inv-loop μ-loop
-same-length c = search needs
 
 returns : tie.Need-returns Inv-loop μ-loop
 returns c = let v = c .before .before .loop .inv in (v .0, v .1 .1)
 
-mul-position : tie.Need-mul-position Inv-loop μ-loop
-mul-position c = search needs
-
-shared-slice-copy-out-position : tie.Need-shared-slice-copy-out-position Inv-loop μ-loop
-shared-slice-copy-out-position c = search needs
-
-position-requires : tie.Need-position-requires Inv-loop μ-loop
-position-requires c κs = search needs
-
 entry-requires : tie.Need-entry-requires Inv-loop μ-loop
 entry-requires c κs = (c .before .before .before .before .before .before .pre .0, at-small c)
 
-mul-t12 : tie.Need-mul-t12 Inv-loop μ-loop
-mul-t12 c = search needs
-
-slice-set-from-out : tie.Need-slice-set-from-out Inv-loop μ-loop
-slice-set-from-out c = search needs
-
 add-tests : tie.Need-add-tests Inv-loop μ-loop
 add-tests c = let h = at-small (c .before) in search needs
-
-add-j : tie.Need-add-j Inv-loop μ-loop
-add-j c = search needs
-
-loop-less : tie.Need-loop-less Inv-loop μ-loop
-loop-less c = search needs
 
 loop-again : tie.Need-loop-again Inv-loop μ-loop
 loop-again c =
@@ -80,9 +53,6 @@ loop-again c =
       omega arith,
       (simp length-set (lp .loop .inv .1 .0), rw (lp .loop .inv .1 .1) (filled-one _ (pos 0) _ (lp .loop .j) (st .args .out .now) (omega arith) e)),
     )
-
-same-length-2 : tie.Need-same-length-2 Inv-loop μ-loop
-same-length-2 c = search needs
 
 returns-2 : tie.Need-returns-2 Inv-loop μ-loop
 returns-2 c =
@@ -95,19 +65,19 @@ put-searched-spec =
     (tie.spec
     Inv-loop
     μ-loop
-    tests-allowed-requires
+    (λ c κs. search needs)
     loop-holds
-    same-length
+    (λ c. search needs)
     returns
-    mul-position
-    shared-slice-copy-out-position
-    position-requires
+    (λ c. search needs)
+    (λ c. search needs)
+    (λ c κs. search needs)
     entry-requires
-    mul-t12
-    slice-set-from-out
+    (λ c. search needs)
+    (λ c. search needs)
     add-tests
-    add-j
-    loop-less
+    (λ c. search needs)
+    (λ c. search needs)
     loop-again
-    same-length-2
+    (λ c. search needs)
     returns-2)

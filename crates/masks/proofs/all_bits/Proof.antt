@@ -26,26 +26,6 @@ test c = c .is-bit .ensures ∙ ap isBit (read32 (getD (c .before .before .befor
 loop-holds : tie.Need-loop-holds Inv-loop μ-loop
 loop-holds c = (omega arith, refl)
 
--- src/lib.rt:49:27
-mul-is-bit : tie.Need-mul-is-bit Inv-loop μ-loop
-mul-is-bit c = search needs
-
--- src/lib.rt:49:27
-shared-slice-copy-out-is-bit : tie.Need-shared-slice-copy-out-is-bit Inv-loop μ-loop
-shared-slice-copy-out-is-bit c = search needs
-
--- src/lib.rt:49:12
-is-bit-requires : tie.Need-is-bit-requires Inv-loop μ-loop
-is-bit-requires c κs = search needs
-
--- src/lib.rt:50:13
-add-i : tie.Need-add-i Inv-loop μ-loop
-add-i c = search needs
-
--- src/lib.rt:48:5
-loop-less : tie.Need-loop-less Inv-loop μ-loop
-loop-less c = search needs
-
 -- src/lib.rt:48:5
 loop-again : tie.Need-loop-again Inv-loop μ-loop
 loop-again c =
@@ -72,11 +52,11 @@ all-bits-spec =
     Inv-loop
     μ-loop
     loop-holds
-    mul-is-bit
-    shared-slice-copy-out-is-bit
-    is-bit-requires
-    add-i
-    loop-less
+    (λ c. search needs)
+    (λ c. search needs)
+    (λ c κs. search needs)
+    (λ c. search needs)
+    (λ c. search needs)
     loop-again
     returns
     returns-2)

@@ -8,10 +8,6 @@ use Rattle.masks.proofs.as_vector.Lts as lts
 use Rattle.shape.proofs.Shape.vector.Reads as vector-reads
 
 -- src/lib.rt:29:9
-vector-requires : tie.Need-vector-requires
-vector-requires c κs = search needs
-
--- src/lib.rt:29:9
 returns : tie.Need-returns
 returns c = c .vector .ensures ∙ scalar-vector _ (c .before .if1 .taken)
 
@@ -20,4 +16,4 @@ returns-2 : tie.Need-returns-2
 returns-2 c = array-vector _ (c .if1 .left)
 
 pub as-vector-spec : {M : Type 1} → statement M
-as-vector-spec = tie.close (tie.spec vector-requires returns returns-2)
+as-vector-spec = tie.close (tie.spec (λ c κs. search needs) returns returns-2)

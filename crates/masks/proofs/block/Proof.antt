@@ -28,18 +28,10 @@ expand-rows-requires c κs =
     (expand-source _ _ _ _ _ _ _ b h _ refl, expand-room _ _ _ _ _ _ _ b h _ refl)
 
 -- src/lib.rt:97:9
-same-length : tie.Need-same-length
-same-length c = search needs
-
--- src/lib.rt:97:9
 returns : tie.Need-returns
 returns c =
     let e = c .before .before .before in
     c .before .expand-line .ensures ∙ expand-block _ _ _ _ _ _ _ (e .before .before .pre .1) (e .before .if1 .taken) (e .before .before .args .r .now) 1 (e .if2 .taken)
-
--- src/lib.rt:97:9
-same-length-2 : tie.Need-same-length-2
-same-length-2 c = search needs
 
 -- src/lib.rt:97:9
 returns-2 : tie.Need-returns-2
@@ -53,10 +45,6 @@ repeat-row-requires c κs =
     let e = c .before in
     let st = e .before .before in
     (st .pre .0, (repeat-source _ _ _ _ _ _ _ (st .pre .1) (e .before .if1 .left) (e .if3 .taken), st .pre .1 .room))
-
--- src/lib.rt:101:9
-same-length-3 : tie.Need-same-length-3
-same-length-3 c = search needs
 
 -- src/lib.rt:101:9
 returns-3 : tie.Need-returns-3
@@ -81,18 +69,10 @@ compress-rows-requires c κs =
     (compress-source _ _ _ _ _ _ _ b h (e .if3 .left) _ refl, compress-room _ _ _ _ _ _ _ b h (e .if3 .left) _ refl)
 
 -- src/lib.rt:83:1
-same-length-4 : tie.Need-same-length-4
-same-length-4 c = search needs
-
--- src/lib.rt:83:1
 returns-4 : tie.Need-returns-4
 returns-4 c =
     let e = c .before .before .before .before in
     c .before .compress-line .ensures ∙ compress-block _ _ _ _ _ _ _ (e .before .before .pre .1) (e .before .if1 .left) (e .if3 .left) (e .before .before .args .r .now) 1 (c .before .before .before .if4 .taken)
-
--- src/lib.rt:83:1
-same-length-5 : tie.Need-same-length-5
-same-length-5 c = search needs
 
 -- src/lib.rt:83:1
 returns-5 : tie.Need-returns-5
@@ -106,16 +86,16 @@ block-spec =
     (tie.spec
     expand-line-requires
     expand-rows-requires
-    same-length
+    (λ c. search needs)
     returns
-    same-length-2
+    (λ c. search needs)
     returns-2
     repeat-row-requires
-    same-length-3
+    (λ c. search needs)
     returns-3
     compress-line-requires
     compress-rows-requires
-    same-length-4
+    (λ c. search needs)
     returns-4
-    same-length-5
+    (λ c. search needs)
     returns-5)

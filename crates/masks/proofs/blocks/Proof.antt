@@ -54,28 +54,12 @@ mul-block : tie.Need-mul-block Inv-loop μ-loop
 mul-block c = omega (arith, inside c)
 
 -- src/lib.rt:127:27
-sub-block : tie.Need-sub-block Inv-loop μ-loop
-sub-block c = search needs
-
--- src/lib.rt:127:27
-part-block-start : tie.Need-part-block-start Inv-loop μ-loop
-part-block-start c = search needs
-
--- src/lib.rt:127:27
 part-block-end : tie.Need-part-block-end Inv-loop μ-loop
 part-block-end c = omega (arith, inside c)
 
 -- src/lib.rt:127:56
 mul-block-2 : tie.Need-mul-block-2 Inv-loop μ-loop
 mul-block-2 c = omega (arith, room (c .before))
-
--- src/lib.rt:127:56
-sub-block-2 : tie.Need-sub-block-2 Inv-loop μ-loop
-sub-block-2 c = search needs
-
--- src/lib.rt:127:56
-part-block-start-2 : tie.Need-part-block-start-2 Inv-loop μ-loop
-part-block-start-2 c = search needs
 
 -- src/lib.rt:127:56
 part-block-end-2 : tie.Need-part-block-end-2 Inv-loop μ-loop
@@ -87,14 +71,6 @@ block-requires c κs =
     let lp = c .before .before .before .loop in
     let st = c .before .before .before .before in
     (st .pre .row, passed-block _ _ _ _ _ _ _ _ (st .pre) (lp .out) (lp .from) (lp .to) (lp .o) (lp .inv) (omega arith))
-
--- src/lib.rt:130:9
-add-o : tie.Need-add-o Inv-loop μ-loop
-add-o c = search needs
-
--- src/lib.rt:124:5
-loop-less : tie.Need-loop-less Inv-loop μ-loop
-loop-less c = search needs
 
 -- src/lib.rt:124:5
 loop-again : tie.Need-loop-again Inv-loop μ-loop
@@ -123,16 +99,16 @@ blocks-spec =
     add-stop
     add-end
     mul-block
-    sub-block
-    part-block-start
+    (λ c. search needs)
+    (λ c. search needs)
     part-block-end
     mul-block-2
-    sub-block-2
-    part-block-start-2
+    (λ c. search needs)
+    (λ c. search needs)
     part-block-end-2
     block-requires
-    add-o
-    loop-less
+    (λ c. search needs)
+    (λ c. search needs)
     loop-again
     same-length
     returns)

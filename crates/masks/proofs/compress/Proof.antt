@@ -6,14 +6,6 @@ use Rattle.masks.proofs.compress.Reads as reads
 use Rattle.masks.proofs.compress.Lts as lts
 use Rattle.masks.proofs.masked.Reads as masked-reads
 
--- src/lib.rt:334:5
-masked-requires : tie.Need-masked-requires
-masked-requires c κs = search needs
-
--- src/lib.rt:329:1
-same-length : tie.Need-same-length
-same-length c = search needs
-
 -- src/lib.rt:329:1
 returns : tie.Need-returns
 returns c =
@@ -21,4 +13,4 @@ returns c =
     rw (read32 _ (st .fits .g), read32 _ (st .fits .k)) at (c .before .masked .ensures)
 
 pub compress-spec : {M : Type 1} → statement M
-compress-spec = tie.close (tie.spec masked-requires same-length returns)
+compress-spec = tie.close (tie.spec (λ c κs. search needs) (λ c. search needs) returns)

@@ -16,28 +16,12 @@ long : (st : tie.Start) → length (st .args .s .lens) ≡ maxRank
 long st = search needs
 
 -- src/lib.rt:196:27
-sub-copy-run : tie.Need-sub-copy-run
-sub-copy-run c = search needs
-
--- src/lib.rt:196:27
-part-copy-run-start : tie.Need-part-copy-run-start
-part-copy-run-start c = search needs
-
--- src/lib.rt:196:27
 part-copy-run-end : tie.Need-part-copy-run-end
 part-copy-run-end c = let st = c .before in omega (arith, single-inside _ _ _ _ _ _ _ (st .pre) (long st) (c .if1 .taken))
-
--- src/lib.rt:196:9
-copy-run-requires : tie.Need-copy-run-requires
-copy-run-requires c κs = search needs
 
 -- src/lib.rt:198:9
 lines-requires : tie.Need-lines-requires
 lines-requires c κs = let st = c .before .before in list-along _ _ _ _ _ _ _ (st .pre) (long st) (c .before .if1 .left)
-
--- src/lib.rt:186:1
-same-length : tie.Need-same-length
-same-length c = search needs
 
 -- src/lib.rt:186:1
 returns : tie.Need-returns
@@ -45,10 +29,6 @@ returns c =
     let e = c .before .before .before .before in
     let st = e .before in
     single-out _ _ _ _ _ _ _ (st .pre) (long st) (e .if1 .taken) (st .args .out .now) _ refl (c .before .copy-run .ensures)
-
--- src/lib.rt:186:1
-same-length-2 : tie.Need-same-length-2
-same-length-2 c = search needs
 
 -- src/lib.rt:186:1
 returns-2 : tie.Need-returns-2
@@ -62,12 +42,12 @@ pub compress-into-spec : {M : Type 1} → statement M
 compress-into-spec =
     tie.close
     (tie.spec
-    sub-copy-run
-    part-copy-run-start
+    (λ c. search needs)
+    (λ c. search needs)
     part-copy-run-end
-    copy-run-requires
+    (λ c κs. search needs)
     lines-requires
-    same-length
+    (λ c. search needs)
     returns
-    same-length-2
+    (λ c. search needs)
     returns-2)

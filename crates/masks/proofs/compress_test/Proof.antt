@@ -11,14 +11,6 @@ use Rattle.masks.proofs.compress_test.Lts as lts
 use Rattle.masks.proofs.all_bits.Reads as all-bits-reads
 use Rattle.masks.proofs.compress_fits.Reads as compress-fits-reads
 
--- src/lib.rt:91:8
-compress-fits-requires : tie.Need-compress-fits-requires
-compress-fits-requires c κs = search needs
-
--- src/lib.rt:92:12
-all-bits-requires : tie.Need-all-bits-requires
-all-bits-requires c κs = search needs
-
 -- src/lib.rt:88:1
 returns : tie.Need-returns
 unfolding compressTest
@@ -40,4 +32,4 @@ returns-3 c = sym (ap {B = ℕ} (λ f. cond f (cond (every isBit (c .before .bef
 
 pub compress-test-spec : {M : Type 1} → statement M
 compress-test-spec =
-    tie.close (tie.spec compress-fits-requires all-bits-requires returns returns-2 returns-3)
+    tie.close (tie.spec (λ c κs. search needs) (λ c κs. search needs) returns returns-2 returns-3)

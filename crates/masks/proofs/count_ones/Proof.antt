@@ -30,25 +30,9 @@ other c = test-other _ (sfits-of (c .before .if12 .given)) (c .if1 .left)
 loop-holds : tie.Need-loop-holds Inv-loop μ-loop
 loop-holds c = (omega arith, before-none (c .args .l .now))
 
--- src/lib.rt:64:12
-mul-if1 : tie.Need-mul-if1 Inv-loop μ-loop
-mul-if1 c = search needs
-
--- src/lib.rt:64:12
-shared-slice-copy-out-if1 : tie.Need-shared-slice-copy-out-if1 Inv-loop μ-loop
-shared-slice-copy-out-if1 c = search needs
-
 -- src/lib.rt:65:13
 add-n : tie.Need-add-n Inv-loop μ-loop
 add-n c = let lp = c .before .before .before .loop in omega (arith, before-le (c .before .before .before .before .args .l .now) (lp .i))
-
--- src/lib.rt:67:9
-add-i : tie.Need-add-i Inv-loop μ-loop
-add-i c = search needs
-
--- src/lib.rt:63:5
-loop-less : tie.Need-loop-less Inv-loop μ-loop
-loop-less c = search needs
 
 -- src/lib.rt:63:5
 loop-again : tie.Need-loop-again Inv-loop μ-loop
@@ -73,10 +57,10 @@ count-ones-spec =
     Inv-loop
     μ-loop
     loop-holds
-    mul-if1
-    shared-slice-copy-out-if1
+    (λ c. search needs)
+    (λ c. search needs)
     add-n
-    add-i
-    loop-less
+    (λ c. search needs)
+    (λ c. search needs)
     loop-again
     returns)

@@ -16,10 +16,6 @@ use Rattle.masks.proofs.count_ones.Reads as count-ones-reads
 returns : tie.Need-returns
 returns c = sym (or-left _ _ (eq-eqb (c .before .args .rank) 0 (c .if1 .taken)))
 
--- src/lib.rt:120:9
-count-ones-requires : tie.Need-count-ones-requires
-count-ones-requires c κs = search needs
-
 -- src/lib.rt:114:1
 returns-2 : tie.Need-returns-2
 returns-2 c =
@@ -28,4 +24,4 @@ returns-2 c =
     ∙ ap (λ b. b || eqb (length (ones (a .l .now))) (a .n)) (sym (ne-eqb (a .rank) 0 (c .before .if1 .left)))
 
 pub expand-fits-spec : {M : Type 1} → statement M
-expand-fits-spec = tie.close (tie.spec returns count-ones-requires returns-2)
+expand-fits-spec = tie.close (tie.spec returns (λ c κs. search needs) returns-2)

@@ -30,20 +30,12 @@ lines-requires : tie.Need-lines-requires
 lines-requires c κs = let st = c .before .before in array-along _ _ _ _ _ _ _ (st .pre) (long st) (c .before .if1 .left)
 
 -- src/lib.rt:269:1
-same-length : tie.Need-same-length
-same-length c = search needs
-
--- src/lib.rt:269:1
 returns : tie.Need-returns
 returns c =
     let e = c .before .before .before .before in
     let st = e .before in
     scalar-out _ _ _ _ _ _ _ (st .pre) (long st) (e .if1 .taken) (st .args .out .now) _ _
     (read32 (getD (st .args .r .now) 0 (pos 0)) (sfits-of (c .before .before .before .spread-arg .given))) (c .before .spread .ensures)
-
--- src/lib.rt:269:1
-same-length-2 : tie.Need-same-length-2
-same-length-2 c = search needs
 
 -- src/lib.rt:269:1
 returns-2 : tie.Need-returns-2
@@ -59,7 +51,7 @@ expand-into-spec =
     shared-slice-copy-out-spread
     spread-requires
     lines-requires
-    same-length
+    (λ c. search needs)
     returns
-    same-length-2
+    (λ c. search needs)
     returns-2)

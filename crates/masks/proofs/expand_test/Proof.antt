@@ -13,14 +13,6 @@ use Rattle.masks.proofs.expand_test.Lts as lts
 use Rattle.masks.proofs.all_bits.Reads as all-bits-reads
 use Rattle.masks.proofs.expand_fits.Reads as expand-fits-reads
 
--- src/lib.rt:113:8
-all-bits-requires : tie.Need-all-bits-requires
-all-bits-requires c κs = search needs
-
--- src/lib.rt:114:12
-expand-fits-requires : tie.Need-expand-fits-requires
-expand-fits-requires c κs = search needs
-
 -- src/lib.rt:110:1
 returns : tie.Need-returns
 unfolding expandTest
@@ -44,4 +36,4 @@ returns-3 c =
 
 pub expand-test-spec : {M : Type 1} → statement M
 expand-test-spec =
-    tie.close (tie.spec all-bits-requires expand-fits-requires returns returns-2 returns-3)
+    tie.close (tie.spec (λ c κs. search needs) (λ c κs. search needs) returns returns-2 returns-3)

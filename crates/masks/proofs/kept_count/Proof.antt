@@ -17,20 +17,8 @@ test : (c : tie.After-is-one) → c .is-one .result ≡ eqZ (getD (c .before .be
 test c = c .is-one .ensures ∙ ap (λ z. eqZ z (pos 1)) (read32 (getD (c .before .before .before .args .l .now) 0 (pos 0)) (sfits-of (c .before .is-one-arg .given)))
 
 -- src/lib.rt:77:9
-count-ones-requires : tie.Need-count-ones-requires
-count-ones-requires c κs = search needs
-
--- src/lib.rt:77:9
 returns : tie.Need-returns
 returns c = let a = c .before .before .args in c .count-ones .ensures ∙ kept-list (a .l .now) (a .n) (c .before .if1 .taken)
-
--- src/lib.rt:79:23
-shared-slice-copy-out-is-one : tie.Need-shared-slice-copy-out-is-one
-shared-slice-copy-out-is-one c = search needs
-
--- src/lib.rt:79:8
-is-one-requires : tie.Need-is-one-requires
-is-one-requires c κs = search needs
 
 -- src/lib.rt:73:1
 returns-2 : tie.Need-returns-2
@@ -50,9 +38,9 @@ pub kept-count-spec : {M : Type 1} → statement M
 kept-count-spec =
     tie.close
     (tie.spec
-    count-ones-requires
+    (λ c κs. search needs)
     returns
-    shared-slice-copy-out-is-one
-    is-one-requires
+    (λ c. search needs)
+    (λ c κs. search needs)
     returns-2
     returns-3)

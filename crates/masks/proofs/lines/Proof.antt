@@ -10,9 +10,6 @@ use Rattle.masks.proofs.lines.Tie as tie
 returns : tie.Need-returns
 returns c = lined-none _ _ _ _ _ _ _ _ (c .before .pre) (c .if1 .taken) (c .before .args .out .now)
 
-around-requires : tie.Need-around-requires
-around-requires c κs = search needs
-
 blocks-requires : tie.Need-blocks-requires
 blocks-requires c κs =
     let st = c .before .before .before .before .before .before in
@@ -31,26 +28,17 @@ blocks-requires-3 c κs =
     let long : length (st .args .s .lens) ≡ maxRank = search needs in
     lined-blocks _ _ _ _ _ _ _ _ (st .pre) long (omega arith) _ (c .before .before .before .around .ensures)
 
-same-length : tie.Need-same-length
-same-length c = search needs
-
 returns-2 : tie.Need-returns-2
 returns-2 c =
     let st = c .before .before .before .before .before .before .before .before in
     let long : length (st .args .s .lens) ≡ maxRank = search needs in
     rw (c .before .before .before .if3 .taken) (c .before .blocks2 .ensures ∙ (rw (c .before .before .before .if3 .taken, c .before .before .before .before .if2 .taken) at (lined-all _ _ _ _ _ _ _ _ (st .pre) long (omega arith) _ (c .before .before .before .before .before .before .around .ensures) (st .args .out .now))))
 
-same-length-2 : tie.Need-same-length-2
-same-length-2 c = search needs
-
 returns-3 : tie.Need-returns-3
 returns-3 c =
     let st = c .before .before .before .before .before .before .before .before in
     let long : length (st .args .s .lens) ≡ maxRank = search needs in
     rw (c .before .before .before .if3 .left) (c .before .blocks3 .ensures ∙ (rw (c .before .before .before .if3 .left, c .before .before .before .before .if2 .taken) at (lined-all _ _ _ _ _ _ _ _ (st .pre) long (omega arith) _ (c .before .before .before .before .before .before .around .ensures) (st .args .out .now))))
-
-same-length-3 : tie.Need-same-length-3
-same-length-3 c = search needs
 
 returns-4 : tie.Need-returns-4
 returns-4 c =
@@ -63,13 +51,13 @@ lines-spec =
     tie.close
     (tie.spec
     returns
-    around-requires
+    (λ c κs. search needs)
     blocks-requires
     blocks-requires-2
     blocks-requires-3
-    same-length
+    (λ c. search needs)
     returns-2
-    same-length-2
+    (λ c. search needs)
     returns-3
-    same-length-3
+    (λ c. search needs)
     returns-4)

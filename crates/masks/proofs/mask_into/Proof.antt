@@ -19,19 +19,11 @@ compress-into-requires : tie.Need-compress-into-requires
 compress-into-requires c κs = let st = c .before .before in compressing-ready _ _ _ _ _ _ _ _ _ (st .pre) (c .before .if1 .left)
 
 -- src/lib.rt:280:1
-same-length : tie.Need-same-length
-same-length c = search needs
-
--- src/lib.rt:280:1
 returns : tie.Need-returns
 returns c =
     let e = c .before .before .before in
     let a = e .before .args in
     c .before .expand-into .ensures ∙ ap (λ x. x ++ drop (a .total) (a .out .now)) (expanding-element _ _ _ _ _ _ _ _ _ (e .before .pre) (e .if1 .taken))
-
--- src/lib.rt:280:1
-same-length-2 : tie.Need-same-length-2
-same-length-2 c = search needs
 
 -- src/lib.rt:280:1
 returns-2 : tie.Need-returns-2
@@ -46,7 +38,7 @@ mask-into-spec =
     (tie.spec
     expand-into-requires
     compress-into-requires
-    same-length
+    (λ c. search needs)
     returns
-    same-length-2
+    (λ c. search needs)
     returns-2)

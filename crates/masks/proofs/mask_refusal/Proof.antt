@@ -100,14 +100,6 @@ returns c b =
     (sym (by-shape st s refl b)
     ∙ masking-rank (st .args .expands) (st .args .g) (st .args .k) (left st) (eqb (st .args .rs .rank) 0) (arrayOf (lent s b)) (omega (arith, good st .rank-is)))
 
--- src/lib.rt:130:13
-as-vector-requires : tie.Need-as-vector-requires
-as-vector-requires c κs = search needs
-
--- src/lib.rt:132:9
-position-requires : tie.Need-position-requires
-position-requires c κs = search needs
-
 -- src/lib.rt:134:9
 returns-2 : tie.Need-returns-2
 returns-2 c b =
@@ -119,10 +111,6 @@ returns-2 c b =
     ∙ masking-axis (st .args .expands) (st .args .g) (st .args .k) (left st) (eqb (st .args .rs .rank) 0) (arrayOf (lent s b)) (list (v .before))
     (axis-unnamed (st .args .g) (st .args .k) s (s-long v) (s-high v) _ (at-is (c .before)) (omega arith)))
 
--- src/lib.rt:136:9
-count-requires : tie.Need-count-requires
-count-requires c κs = search needs
-
 -- src/lib.rt:137:13
 mul-n : tie.Need-mul-n
 mul-n c = omega (arith, s-high (c .before .before .before))
@@ -132,36 +120,12 @@ element-copy-out-n : tie.Need-element-copy-out-n
 element-copy-out-n c = omega (arith, s-high (c .before .before .before))
 
 -- src/lib.rt:139:21
-sub-expand-test : tie.Need-sub-expand-test
-sub-expand-test c = search needs
-
--- src/lib.rt:139:21
-part-expand-test-start : tie.Need-part-expand-test-start
-part-expand-test-start c = search needs
-
--- src/lib.rt:139:21
 part-expand-test-end : tie.Need-part-expand-test-end
 part-expand-test-end c = omega (arith, inside (c .before .before))
-
--- src/lib.rt:139:9
-expand-test-requires : tie.Need-expand-test-requires
-expand-test-requires c κs = search needs
-
--- src/lib.rt:141:23
-sub-compress-test : tie.Need-sub-compress-test
-sub-compress-test c = search needs
-
--- src/lib.rt:141:23
-part-compress-test-start : tie.Need-part-compress-test-start
-part-compress-test-start c = search needs
 
 -- src/lib.rt:141:23
 part-compress-test-end : tie.Need-part-compress-test-end
 part-compress-test-end c = omega (arith, inside (c .before .before))
-
--- src/lib.rt:141:9
-compress-test-requires : tie.Need-compress-test-requires
-compress-test-requires c κs = search needs
 
 -- src/lib.rt:121:1
 returns-3 : tie.Need-returns-3
@@ -196,19 +160,19 @@ mask-refusal-spec =
     tie.close
     (tie.spec
     returns
-    as-vector-requires
-    position-requires
+    (λ c κs. search needs)
+    (λ c κs. search needs)
     returns-2
-    count-requires
+    (λ c κs. search needs)
     mul-n
     element-copy-out-n
-    sub-expand-test
-    part-expand-test-start
+    (λ c. search needs)
+    (λ c. search needs)
     part-expand-test-end
-    expand-test-requires
-    sub-compress-test
-    part-compress-test-start
+    (λ c κs. search needs)
+    (λ c. search needs)
+    (λ c. search needs)
     part-compress-test-end
-    compress-test-requires
+    (λ c κs. search needs)
     returns-3
     returns-4)

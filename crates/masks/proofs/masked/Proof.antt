@@ -147,14 +147,6 @@ rule c = given-rule (meaning (at-axis (c .before))) (lengths (c .before)) (lengt
 size : (c : tie.Else3) → count (meaning (at-axis (c .before)) .lengths) ≡ c .before .count2 .result
 size c = given-count (meaning (at-axis (c .before))) (lengths (c .before)) (lengths-is (c .before)) _ (total-is (c .before)) (small c)
 
--- src/lib.rt:303:9
-early-two-requires : tie.Need-early-two-requires
-early-two-requires c κs = search needs
-
--- src/lib.rt:305:9
-refused-requires : tie.Need-refused-requires
-refused-requires c κs = search needs
-
 -- src/lib.rt:305:9
 returns : tie.Need-returns
 returns c =
@@ -168,10 +160,6 @@ mask-refusal-requires : tie.Need-mask-refusal-requires
 mask-refusal-requires c κs = (forms c .0, good-right c .good)
 
 -- src/lib.rt:309:9
-refused-requires-2 : tie.Need-refused-requires-2
-refused-requires-2 c κs = search needs
-
--- src/lib.rt:309:9
 returns-2 : tie.Need-returns-2
 returns-2 c =
     let o = c .before .before in
@@ -181,26 +169,6 @@ returns-2 c =
     replied-refused (c .refused2 .result) _ out (c .refused2 .ensures)
     (own-reply (masking-names e (st .args .g) (st .args .k) (left st) (right st) _ _ refl refl) out (fine (o .before)) _
     (own-is o ∙ ap (λ (m : Meaning). own (numbered e) (m .refusals)) (masking-is e (st .args .g) (st .args .k) (arrayOf (left st)) (arrayOf (right st)))) (c .before .if2 .taken))
-
--- src/lib.rt:311:13
-as-vector-requires : tie.Need-as-vector-requires
-as-vector-requires c κs = search needs
-
--- src/lib.rt:312:9
-position-requires : tie.Need-position-requires
-position-requires c κs = search needs
-
--- src/lib.rt:313:9
-count-requires : tie.Need-count-requires
-count-requires c κs = search needs
-
--- src/lib.rt:314:31
-sub-width-of : tie.Need-sub-width-of
-sub-width-of c = search needs
-
--- src/lib.rt:314:31
-part-width-of-start : tie.Need-part-width-of-start
-part-width-of-start c = search needs
 
 -- src/lib.rt:314:31
 part-width-of-end : tie.Need-part-width-of-end
@@ -214,22 +182,6 @@ mul-width-of c = let p = c .before .before in omega (arith, has p, high p)
 element-copy-out-width-of : tie.Need-element-copy-out-width-of
 element-copy-out-width-of c = let p = c .before .before in omega (arith, has p, high p)
 
--- src/lib.rt:314:9
-width-of-requires : tie.Need-width-of-requires
-width-of-requires c κs = search needs
-
--- src/lib.rt:315:9
-with-length-requires : tie.Need-with-length-requires
-with-length-requires c κs = search needs
-
--- src/lib.rt:316:9
-count-requires-2 : tie.Need-count-requires-2
-count-requires-2 c κs = search needs
-
--- src/lib.rt:318:9
-refused-requires-3 : tie.Need-refused-requires-3
-refused-requires-3 c κs = search needs
-
 -- src/lib.rt:318:9
 returns-3 : tie.Need-returns-3
 returns-3 c =
@@ -240,10 +192,6 @@ returns-3 c =
     (limit-reply (names p) out (fine (p .before .before .before .before)) (none p) (given-limit (meaning p) (lengths t) (lengths-is t) _ (total-is t) (omega arith)))
 
 -- src/lib.rt:321:9
-refused-requires-4 : tie.Need-refused-requires-4
-refused-requires-4 c κs = search needs
-
--- src/lib.rt:321:9
 returns-4 : tie.Need-returns-4
 returns-4 c =
     let e = c .before .before in
@@ -251,14 +199,6 @@ returns-4 c =
     let out = start p .args .out .now in
     replied-refused (c .refused4 .result) 10 out (c .refused4 .ensures)
     (space-reply (names p) out (fine (p .before .before .before .before)) (none p) (rule e) (omega (arith, size e)))
-
--- src/lib.rt:324:32
-sub-mask-into : tie.Need-sub-mask-into
-sub-mask-into c = search needs
-
--- src/lib.rt:324:32
-part-mask-into-start : tie.Need-part-mask-into-start
-part-mask-into-start c = search needs
 
 -- src/lib.rt:324:32
 part-mask-into-end : tie.Need-part-mask-into-end
@@ -271,10 +211,6 @@ mask-into-requires c κs =
     let t = e .before in
     let p = at-axis t in
     masking-ready (call p) _ (t .before .before .before .before .before .count .ensures) _ (none p) _ (t .before .before .width-of .ensures) _ _ (total-is t) (small e) (omega arith)
-
--- src/lib.rt:297:1
-same-length : tie.Need-same-length
-same-length c = search needs
 
 -- src/lib.rt:297:1
 returns-5 : tie.Need-returns-5
@@ -292,30 +228,30 @@ pub masked-spec : {M : Type 1} → statement M
 masked-spec =
     tie.close
     (tie.spec
-    early-two-requires
-    refused-requires
+    (λ c κs. search needs)
+    (λ c κs. search needs)
     returns
     mask-refusal-requires
-    refused-requires-2
+    (λ c κs. search needs)
     returns-2
-    as-vector-requires
-    position-requires
-    count-requires
-    sub-width-of
-    part-width-of-start
+    (λ c κs. search needs)
+    (λ c κs. search needs)
+    (λ c κs. search needs)
+    (λ c. search needs)
+    (λ c. search needs)
     part-width-of-end
     mul-width-of
     element-copy-out-width-of
-    width-of-requires
-    with-length-requires
-    count-requires-2
-    refused-requires-3
+    (λ c κs. search needs)
+    (λ c κs. search needs)
+    (λ c κs. search needs)
+    (λ c κs. search needs)
     returns-3
-    refused-requires-4
+    (λ c κs. search needs)
     returns-4
-    sub-mask-into
-    part-mask-into-start
+    (λ c. search needs)
+    (λ c. search needs)
     part-mask-into-end
     mask-into-requires
-    same-length
+    (λ c. search needs)
     returns-5)

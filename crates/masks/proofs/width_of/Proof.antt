@@ -12,14 +12,10 @@ returns : tie.Need-returns
 unfolding resultWidth
 returns c = let a = c .before .args in ap (λ b. resultWidth b (a .l .now) (a .n)) (sym (c .if1 .taken))
 
--- src/lib.rt:152:5
-kept-count-requires : tie.Need-kept-count-requires
-kept-count-requires c κs = search needs
-
 -- src/lib.rt:146:1
 returns-2 : tie.Need-returns-2
 unfolding resultWidth
 returns-2 c = let a = c .before .before .args in c .kept-count .ensures ∙ ap (λ b. resultWidth b (a .l .now) (a .n)) (sym (c .before .if1 .left))
 
 pub width-of-spec : {M : Type 1} → statement M
-width-of-spec = tie.close (tie.spec returns kept-count-requires returns-2)
+width-of-spec = tie.close (tie.spec returns (λ c κs. search needs) returns-2)

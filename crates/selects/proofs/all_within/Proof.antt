@@ -42,26 +42,11 @@ read st = ap (λ G. every (λ z. within (z -ℤ G) (st .args .n)) (st .args .l .
 loop-holds : tie.Need-loop-holds Inv-loop μ-loop
 loop-holds c = (omega arith, refl)
 
-mul-position : tie.Need-mul-position Inv-loop μ-loop
-mul-position c = search needs
-
-shared-slice-copy-out-position : tie.Need-shared-slice-copy-out-position Inv-loop μ-loop
-shared-slice-copy-out-position c = search needs
-
-position-requires : tie.Need-position-requires Inv-loop μ-loop
-position-requires c κs = search needs
-
 returns : tie.Need-returns Inv-loop μ-loop
 returns c =
     let lp = c .before .before .before .before in
     let st = lp .before in
     sym (sym (read st) ∙ lp .loop .inv .1 ∙ every-stop (test st) (st .args .l .now) (lp .loop .i) (pos 0) (omega arith) (position-none _ _ (omega (arith, found (c .before), c .if1 .taken))))
-
-add-i : tie.Need-add-i Inv-loop μ-loop
-add-i c = search needs
-
-loop-less : tie.Need-loop-less Inv-loop μ-loop
-loop-less c = search needs
 
 loop-again : tie.Need-loop-again Inv-loop μ-loop
 loop-again c =
@@ -82,11 +67,11 @@ all-within-spec =
     Inv-loop
     μ-loop
     loop-holds
-    mul-position
-    shared-slice-copy-out-position
-    position-requires
+    (λ c. search needs)
+    (λ c. search needs)
+    (λ c κs. search needs)
     returns
-    add-i
-    loop-less
+    (λ c. search needs)
+    (λ c. search needs)
     loop-again
     returns-2)

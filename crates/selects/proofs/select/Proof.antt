@@ -107,12 +107,6 @@ made c =
 room : (c : tie.After-count2) → let st = c .before .before .before .before .before .before .before .before in c .count2 .result ≡ countOf (shapeOf (means st .lengths))
 room c = c .count2 .ensures ∙ ap countOf (made (c .before))
 
-early-two-requires : tie.Need-early-two-requires
-early-two-requires c κs = search needs
-
-refused-requires : tie.Need-refused-requires
-refused-requires c κs = search needs
-
 returns : tie.Need-returns
 returns c =
     let st = c .before .before .before in
@@ -121,20 +115,11 @@ returns c =
 select-refusal-requires : tie.Need-select-refusal-requires
 select-refusal-requires c κs = (forms c .0, good-right c .good)
 
-refused-requires-2 : tie.Need-refused-requires-2
-refused-requires-2 c κs = search needs
-
 returns-2 : tie.Need-returns-2
 returns-2 c =
     let e = c .before .before .before in
     let st = e .before .before in
     replied-refused (c .refused2 .result) _ (st .args .out .now) (c .refused2 .ensures) (own-reply (names st) (st .args .out .now) (fine e) _ (own-is (c .before .before)) (c .before .if2 .taken))
-
-position-requires : tie.Need-position-requires
-position-requires c κs = search needs
-
-count-requires : tie.Need-count-requires
-count-requires c κs = search needs
 
 selected-requires : tie.Need-selected-requires
 selected-requires c κs =
@@ -142,12 +127,6 @@ selected-requires c κs =
     let st = e .before .before .before .before in
     let g = good-right (e .before .before) in
     (g .high, axis-in (st .args .g) (st .args .k) (st .args .ls) (st .args .rs) (st .args .l .now) (st .args .r .now) (good-left (e .before .before)) g (fits e) _ _ (axis-is (c .before)) (count-is c))
-
-count-requires-2 : tie.Need-count-requires-2
-count-requires-2 c κs = search needs
-
-refused-requires-3 : tie.Need-refused-requires-3
-refused-requires-3 c κs = search needs
 
 returns-3 : tie.Need-returns-3
 returns-3 c =
@@ -157,9 +136,6 @@ returns-3 c =
     replied-refused (c .refused3 .result) 9 (st .args .out .now) (c .refused3 .ensures)
     (limit-reply (names st) (st .args .out .now) (fine (e .before .before)) (none e) (made-no-rule (means st .lengths) (omega (arith, room n))))
 
-refused-requires-4 : tie.Need-refused-requires-4
-refused-requires-4 c κs = search needs
-
 returns-4 : tie.Need-returns-4
 returns-4 c =
     let n = c .before .before .before in
@@ -168,12 +144,6 @@ returns-4 c =
     let small : countOf (shapeOf (means st .lengths)) ≤ maxCount = omega (arith, room n) in
     replied-refused (c .refused4 .result) 10 (st .args .out .now) (c .refused4 .ensures)
     (space-reply (names st) (st .args .out .now) (fine (e .before .before)) (none e) (made-rule (means st .lengths) small) (omega (arith, room n, made-count (means st .lengths) small)))
-
-sub-select-into : tie.Need-sub-select-into
-sub-select-into c = search needs
-
-part-select-into-start : tie.Need-part-select-into-start
-part-select-into-start c = search needs
 
 part-select-into-end : tie.Need-part-select-into-end
 part-select-into-end c =
@@ -206,9 +176,6 @@ select-into-requires c κs =
       ),
     )
 
-same-length : tie.Need-same-length
-same-length c = search needs
-
 returns-5 : tie.Need-returns-5
 returns-5 c =
     let w = c .before .before .before .before .before .before in
@@ -230,23 +197,23 @@ pub select-spec : {M : Type 1} → statement M
 select-spec =
     tie.close
     (tie.spec
-    early-two-requires
-    refused-requires
+    (λ c κs. search needs)
+    (λ c κs. search needs)
     returns
     select-refusal-requires
-    refused-requires-2
+    (λ c κs. search needs)
     returns-2
-    position-requires
-    count-requires
+    (λ c κs. search needs)
+    (λ c κs. search needs)
     selected-requires
-    count-requires-2
-    refused-requires-3
+    (λ c κs. search needs)
+    (λ c κs. search needs)
     returns-3
-    refused-requires-4
+    (λ c κs. search needs)
     returns-4
-    sub-select-into
-    part-select-into-start
+    (λ c. search needs)
+    (λ c. search needs)
     part-select-into-end
     select-into-requires
-    same-length
+    (λ c. search needs)
     returns-5)

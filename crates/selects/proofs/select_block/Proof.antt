@@ -28,12 +28,6 @@ select-line-requires c κs =
       (omega (arith, one e (st .args .n)), omega (arith, one e (length (st .args .l .now)))),
     )
 
-select-rows-requires : tie.Need-select-rows-requires
-select-rows-requires c κs = search needs
-
-same-length : tie.Need-same-length
-same-length c = search needs
-
 returns : tie.Need-returns
 returns c =
     let st = c .before .before .before .before in
@@ -44,9 +38,6 @@ returns c =
     ∙ ap (λ G. filled (λ i. getD r (chosen G l i) (pos 0)) (length l) out) (read32 _ (st .fits .g))
     ∙ one-row r (chosen (st .args .g) l) (length l) out
     ∙ ap (λ w. filled (λ i. getD r (inBlock w (chosen (st .args .g) l) i) (pos 0)) (length l * w) out) (sym (c .before .before .before .if1 .taken))
-
-same-length-2 : tie.Need-same-length-2
-same-length-2 c = search needs
 
 returns-2 : tie.Need-returns-2
 returns-2 c =
@@ -60,8 +51,8 @@ select-block-spec =
     tie.close
     (tie.spec
     select-line-requires
-    select-rows-requires
-    same-length
+    (λ c κs. search needs)
+    (λ c. search needs)
     returns
-    same-length-2
+    (λ c. search needs)
     returns-2)

@@ -45,12 +45,6 @@ inside c =
       omega (arith, mul-le-mul-right {m = o + 1} {n = st .args .outer} (length (st .args .l .now) * st .args .inner) (omega arith)),
     )
 
-mul-taken : tie.Need-mul-taken Inv-loop μ-loop
-mul-taken c = search needs
-
-mul-made : tie.Need-mul-made Inv-loop μ-loop
-mul-made c = search needs
-
 loop-holds : tie.Need-loop-holds Inv-loop μ-loop
 loop-holds c = (omega arith, (refl, filled-start _ (length (c .args .l .now) * c .args .inner) _))
 
@@ -99,12 +93,6 @@ select-block-requires c κs =
     let y = part-long (lp .out) (lp .o * (length (st .args .l .now) * st .args .inner)) (length (st .args .l .now) * st .args .inner) (omega arith) in
     (positions st, (omega arith, (omega arith, (omega arith, omega arith))))
 
-add-o : tie.Need-add-o Inv-loop μ-loop
-add-o c = search needs
-
-loop-less : tie.Need-loop-less Inv-loop μ-loop
-loop-less c = search needs
-
 loop-again : tie.Need-loop-again Inv-loop μ-loop
 loop-again c =
     let p = c .before .before .before .before in
@@ -119,9 +107,6 @@ loop-again c =
     (st .args .r .now) (lp .out) out₀ _ _ (λ i h. within-lt (getD l i (pos 0) -ℤ toZ w32 (ofZ w32 (st .args .g))) n (positions st i h))
     (lp .inv .1 .1) refl refl refl refl (part-long (lp .out) (lp .o * (length l * w)) (length l * w) (omega arith)) (c .before .select-block .ensures) in
     (omega arith, (ap length e ∙ length-filled _ ((lp .o + 1) * (length l * w)) out₀ (omega arith), e))
-
-same-length : tie.Need-same-length Inv-loop μ-loop
-same-length c = search needs
 
 returns : tie.Need-returns Inv-loop μ-loop
 returns c =
@@ -139,8 +124,8 @@ select-blocks-spec =
     (tie.spec
     Inv-loop
     μ-loop
-    mul-taken
-    mul-made
+    (λ c. search needs)
+    (λ c. search needs)
     loop-holds
     mul-from
     add-to
@@ -155,8 +140,8 @@ select-blocks-spec =
     part-select-block-start-2
     part-select-block-end-2
     select-block-requires
-    add-o
-    loop-less
+    (λ c. search needs)
+    (λ c. search needs)
     loop-again
-    same-length
+    (λ c. search needs)
     returns)

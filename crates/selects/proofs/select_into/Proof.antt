@@ -51,9 +51,6 @@ positions c i h =
 returns : tie.Need-returns
 returns c = let st = c .before in none-made _ _ (st .args .total) (st .args .out .now) (st .pre .1 .1 .1 .0) (c .if1 .taken)
 
-around-requires : tie.Need-around-requires
-around-requires c κs = search needs
-
 select-blocks-requires : tie.Need-select-blocks-requires
 select-blocks-requires c κs =
     let e = c .before .before in
@@ -62,9 +59,6 @@ select-blocks-requires c κs =
     let b = held e in
     let p = around-parts e in
     rw a (λ i h. ap (λ G. within (getD (st .args .l .now) i (pos 0) -ℤ G) (aroundOf (st .args .rs) (st .args .k) .length)) (read32 _ (st .fits .g)) ∙ positions e i h, (omega (arith, p .outer-small), (b .taken-small, (b .made-small, (b .taken, omega (arith, b .made))))))
-
-same-length : tie.Need-same-length
-same-length c = search needs
 
 returns-2 : tie.Need-returns-2
 returns-2 c =
@@ -85,4 +79,4 @@ returns-2 c =
 
 pub select-into-spec : {M : Type 1} → statement M
 select-into-spec =
-    tie.close (tie.spec returns around-requires select-blocks-requires same-length returns-2)
+    tie.close (tie.spec returns (λ c κs. search needs) select-blocks-requires (λ c. search needs) returns-2)

@@ -38,12 +38,6 @@ found c =
 loop-holds : tie.Need-loop-holds Inv-loop μ-loop
 loop-holds c = (omega arith, (refl, filled-none _ _))
 
-mul-chosen-at : tie.Need-mul-chosen-at Inv-loop μ-loop
-mul-chosen-at c = search needs
-
-shared-slice-copy-out-chosen-at : tie.Need-shared-slice-copy-out-chosen-at Inv-loop μ-loop
-shared-slice-copy-out-chosen-at c = search needs
-
 chosen-at-requires : tie.Need-chosen-at-requires Inv-loop μ-loop
 chosen-at-requires c κs =
     let st = c .before .before .before in
@@ -55,18 +49,6 @@ mul-out c = let f = found c .1 in search needs
 
 shared-slice-copy-out-out : tie.Need-shared-slice-copy-out-out Inv-loop μ-loop
 shared-slice-copy-out-out c = let f = found c .1 in omega arith
-
-mul-t13 : tie.Need-mul-t13 Inv-loop μ-loop
-mul-t13 c = search needs
-
-slice-set-from-out : tie.Need-slice-set-from-out Inv-loop μ-loop
-slice-set-from-out c = search needs
-
-add-i : tie.Need-add-i Inv-loop μ-loop
-add-i c = search needs
-
-loop-less : tie.Need-loop-less Inv-loop μ-loop
-loop-less c = search needs
 
 loop-again : tie.Need-loop-again Inv-loop μ-loop
 loop-again c =
@@ -82,9 +64,6 @@ loop-again c =
             ∙ filled-one _ (pos 0) _ (lp .i) (st .args .out .now) (omega arith) refl,
       ),
     )
-
-same-length : tie.Need-same-length Inv-loop μ-loop
-same-length c = search needs
 
 returns : tie.Need-returns Inv-loop μ-loop
 returns c =
@@ -102,15 +81,15 @@ select-line-spec =
     Inv-loop
     μ-loop
     loop-holds
-    mul-chosen-at
-    shared-slice-copy-out-chosen-at
+    (λ c. search needs)
+    (λ c. search needs)
     chosen-at-requires
     mul-out
     shared-slice-copy-out-out
-    mul-t13
-    slice-set-from-out
-    add-i
-    loop-less
+    (λ c. search needs)
+    (λ c. search needs)
+    (λ c. search needs)
+    (λ c. search needs)
     loop-again
-    same-length
+    (λ c. search needs)
     returns)

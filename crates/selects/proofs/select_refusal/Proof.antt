@@ -87,9 +87,6 @@ returns-2 c b =
     let st = e .before in
     sym (select-rank (st .args .g) (st .args .k) (left st) (right st b) (some e b) (omega (arith, good st .rank-is)))
 
-position-requires : tie.Need-position-requires
-position-requires c κs = search needs
-
 returns-3 : tie.Need-returns-3
 returns-3 c b =
     let e = c .before .before in
@@ -103,20 +100,8 @@ mul-n c = let h = high (c .before .before .before .before .before) in search nee
 element-copy-out-n : tie.Need-element-copy-out-n
 element-copy-out-n c = let h = high (c .before .before .before .before .before) in omega arith
 
-count-requires : tie.Need-count-requires
-count-requires c κs = search needs
-
-sub-all-within : tie.Need-sub-all-within
-sub-all-within c = search needs
-
-part-all-within-start : tie.Need-part-all-within-start
-part-all-within-start c = search needs
-
 part-all-within-end : tie.Need-part-all-within-end
 part-all-within-end c = let g = good (c .before .before .before .before .before .before .before) in omega (arith, g .room, g .count-is, c .count .ensures)
-
-all-within-requires : tie.Need-all-within-requires
-all-within-requires c κs = search needs
 
 returns-4 : tie.Need-returns-4
 returns-4 c b =
@@ -138,14 +123,14 @@ select-refusal-spec =
     (tie.spec
     returns
     returns-2
-    position-requires
+    (λ c κs. search needs)
     returns-3
     mul-n
     element-copy-out-n
-    count-requires
-    sub-all-within
-    part-all-within-start
+    (λ c κs. search needs)
+    (λ c. search needs)
+    (λ c. search needs)
     part-all-within-end
-    all-within-requires
+    (λ c κs. search needs)
     returns-4
     returns-5)

@@ -53,12 +53,6 @@ inside c =
 loop-holds : tie.Need-loop-holds Inv-loop μ-loop
 loop-holds c = (omega arith, (refl, filled-start _ (c .args .inner) _))
 
-mul-chosen-at : tie.Need-mul-chosen-at Inv-loop μ-loop
-mul-chosen-at c = search needs
-
-shared-slice-copy-out-chosen-at : tie.Need-shared-slice-copy-out-chosen-at Inv-loop μ-loop
-shared-slice-copy-out-chosen-at c = search needs
-
 chosen-at-requires : tie.Need-chosen-at-requires Inv-loop μ-loop
 chosen-at-requires c κs =
     let st = c .before .before .before in
@@ -101,15 +95,6 @@ part-copy-run-start-2 c = omega (arith, inside (c .before))
 part-copy-run-end-2 : tie.Need-part-copy-run-end-2 Inv-loop μ-loop
 part-copy-run-end-2 c = omega (arith, inside (c .before))
 
-copy-run-requires : tie.Need-copy-run-requires Inv-loop μ-loop
-copy-run-requires c κs = search needs
-
-add-q : tie.Need-add-q Inv-loop μ-loop
-add-q c = search needs
-
-loop-less : tie.Need-loop-less Inv-loop μ-loop
-loop-less c = search needs
-
 loop-again : tie.Need-loop-again Inv-loop μ-loop
 loop-again c =
     let p = c .before .before .before .before in
@@ -121,9 +106,6 @@ loop-again c =
     let e = row-more w (chosen (toZ w32 (ofZ w32 (st .args .g))) (st .args .l .now)) (lp .q) (lp .q * w + w) (p .chosen-at .result * w) (p .chosen-at .result * w + w) (st .args .r .now) (lp .out) out₀ _
     (lp .inv .1 .1) refl (omega arith) (ap (λ x. x * w) (found p .0)) refl (omega arith) (c .before .copy-run .ensures) in
     (omega arith, (ap length e ∙ length-filled _ ((lp .q + 1) * w) out₀ (omega arith), e))
-
-same-length : tie.Need-same-length Inv-loop μ-loop
-same-length c = search needs
 
 returns : tie.Need-returns Inv-loop μ-loop
 returns c =
@@ -142,8 +124,8 @@ select-rows-spec =
     Inv-loop
     μ-loop
     loop-holds
-    mul-chosen-at
-    shared-slice-copy-out-chosen-at
+    (λ c. search needs)
+    (λ c. search needs)
     chosen-at-requires
     mul-from
     add-to
@@ -157,9 +139,9 @@ select-rows-spec =
     sub-copy-run-2
     part-copy-run-start-2
     part-copy-run-end-2
-    copy-run-requires
-    add-q
-    loop-less
+    (λ c κs. search needs)
+    (λ c. search needs)
+    (λ c. search needs)
     loop-again
-    same-length
+    (λ c. search needs)
     returns)

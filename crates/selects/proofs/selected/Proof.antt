@@ -9,12 +9,6 @@ use Rattle.shape.proofs.Made.{with-length-is, without-axis-is}
 use Rattle.shape.proofs.Shape.without_axis.Reads as without-axis-reads
 use Rattle.shape.proofs.Shape.with_length.Reads as with-length-reads
 
-without-axis-requires : tie.Need-without-axis-requires
-without-axis-requires c κs = search needs
-
-with-length-requires : tie.Need-with-length-requires
-with-length-requires c κs = search needs
-
 returns : tie.Need-returns
 returns c =
     let st = c .before .before in
@@ -28,4 +22,4 @@ returns-2 c =
     ∙ rw (ne-eqb (st .args .left) 0 (c .before .if1 .left))
 
 pub selected-spec : {M : Type 1} → statement M
-selected-spec = tie.close (tie.spec without-axis-requires with-length-requires returns returns-2)
+selected-spec = tie.close (tie.spec (λ c κs. search needs) (λ c κs. search needs) returns returns-2)

@@ -24,30 +24,6 @@ loop-holds : tie.Need-loop-holds Inv-loop μ-loop
 unfolding count
 loop-holds c = (omega arith, (omega arith, rw (slice-empty (c .args .from) (c .args .t1))))
 
--- src/lib.rt:130:36
-mul-held : tie.Need-mul-held Inv-loop μ-loop
-mul-held c = search needs
-
--- src/lib.rt:130:36
-array-read-held : tie.Need-array-read-held Inv-loop μ-loop
-array-read-held c = search needs
-
--- src/lib.rt:130:31
-held-requires : tie.Need-held-requires Inv-loop μ-loop
-held-requires c κs = search needs
-
--- src/lib.rt:130:9
-capped-requires : tie.Need-capped-requires Inv-loop μ-loop
-capped-requires c κs = search needs
-
--- src/lib.rt:131:9
-add-i : tie.Need-add-i Inv-loop μ-loop
-add-i c = search needs
-
--- src/lib.rt:129:5
-loop-less : tie.Need-loop-less Inv-loop μ-loop
-loop-less c = search needs
-
 -- src/lib.rt:129:5
 loop-again : tie.Need-loop-again Inv-loop μ-loop
 loop-again c =
@@ -76,11 +52,11 @@ held-count-spec =
     Inv-loop
     μ-loop
     loop-holds
-    mul-held
-    array-read-held
-    held-requires
-    capped-requires
-    add-i
-    loop-less
+    (λ c. search needs)
+    (λ c. search needs)
+    (λ c κs. search needs)
+    (λ c κs. search needs)
+    (λ c. search needs)
+    (λ c. search needs)
     loop-again
     returns)

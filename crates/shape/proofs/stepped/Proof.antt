@@ -28,15 +28,6 @@ loop-holds c =
     let st = c .before .before in
     carry-start (st .args .t1) (st .args .t2) (stands st) (c .cleared .result) (c .cleared .ensures)
 
-sub-i : tie.Need-sub-i Inv-loop μ-loop
-sub-i c = search needs
-
-mul-next : tie.Need-mul-next Inv-loop μ-loop
-mul-next c = search needs
-
-element-copy-out-next : tie.Need-element-copy-out-next Inv-loop μ-loop
-element-copy-out-next c = search needs
-
 add-next : tie.Need-add-next Inv-loop μ-loop
 add-next c =
     let st = c .before .before .before .before .before in
@@ -44,41 +35,17 @@ add-next c =
     let f : Fits w64 (getD (st .args .t2 .lens) (lp .i - 1) 0) = search needs in
     omega (arith, carry-below (st .args .t1) (st .args .t2) (stands st) (lp .q) (lp .i) (lp .i - 1) (omega arith) (lp .inv))
 
-mul-if1 : tie.Need-mul-if1 Inv-loop μ-loop
-mul-if1 c = search needs
-
-element-copy-out-if1 : tie.Need-element-copy-out-if1 Inv-loop μ-loop
-element-copy-out-if1 c = search needs
-
-mul-q : tie.Need-mul-q Inv-loop μ-loop
-mul-q c = search needs
-
-array-write-q : tie.Need-array-write-q Inv-loop μ-loop
-array-write-q c = search needs
-
 returns : tie.Need-returns Inv-loop μ-loop
 returns c =
     let st = c .before .before .before .before .before .before .before in
     let lp = c .before .before .before .before .loop in
     sym (carry-stop (st .args .t1) (st .args .t2) (stands st) (lp .q) (lp .i) (lp .i - 1) (omega arith) (lp .inv) (omega arith))
 
-mul-q-2 : tie.Need-mul-q-2 Inv-loop μ-loop
-mul-q-2 c = search needs
-
-array-write-q-2 : tie.Need-array-write-q-2 Inv-loop μ-loop
-array-write-q-2 c = search needs
-
-loop-less : tie.Need-loop-less Inv-loop μ-loop
-loop-less c = search needs
-
 loop-again : tie.Need-loop-again Inv-loop μ-loop
 loop-again c =
     let st = c .before .before .before .before .before .before .before in
     let lp = c .before .before .before .before .loop in
     carry-on (st .args .t1) (st .args .t2) (stands st) (lp .q) (lp .i) (lp .i - 1) (omega arith) (lp .inv) (omega arith)
-
-at-end-requires : tie.Need-at-end-requires Inv-loop μ-loop
-at-end-requires c κs = search needs
 
 returns-2 : tie.Need-returns-2 Inv-loop μ-loop
 returns-2 c =
@@ -95,18 +62,18 @@ stepped-spec =
     μ-loop
     cleared-requires
     loop-holds
-    sub-i
-    mul-next
-    element-copy-out-next
+    (λ c. search needs)
+    (λ c. search needs)
+    (λ c. search needs)
     add-next
-    mul-if1
-    element-copy-out-if1
-    mul-q
-    array-write-q
+    (λ c. search needs)
+    (λ c. search needs)
+    (λ c. search needs)
+    (λ c. search needs)
     returns
-    mul-q-2
-    array-write-q-2
-    loop-less
+    (λ c. search needs)
+    (λ c. search needs)
+    (λ c. search needs)
     loop-again
-    at-end-requires
+    (λ c κs. search needs)
     returns-2)

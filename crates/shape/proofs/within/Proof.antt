@@ -16,33 +16,12 @@ Inv-loop p s i₀ i = (i ≤ s .rank) × ((k : ℕ) → k < i → getD (p .posit
 abbrev μ-loop : tie.MeasureT-loop
 μ-loop p s i₀ i = s .rank - i
 
-loop-holds : tie.Need-loop-holds Inv-loop μ-loop
-loop-holds c = search needs
-
-mul-if1 : tie.Need-mul-if1 Inv-loop μ-loop
-mul-if1 c = search needs
-
-element-copy-out-if1 : tie.Need-element-copy-out-if1 Inv-loop μ-loop
-element-copy-out-if1 c = search needs
-
-mul-if1-2 : tie.Need-mul-if1-2 Inv-loop μ-loop
-mul-if1-2 c = search needs
-
-element-copy-out-if1-2 : tie.Need-element-copy-out-if1-2 Inv-loop μ-loop
-element-copy-out-if1-2 c = search needs
-
 returns : tie.Need-returns Inv-loop μ-loop
 returns c =
     let a = c .before .before .before .before .before .args in
     let ll : length (a .t2 .lens) ≡ maxRank = search needs in
     let lp : length (a .t1 .positions) ≡ maxRank = search needs in
     sym (inside-not (a .t2 .lens) (a .t1 .positions) (a .t2 .rank) (omega arith) (omega arith) (c .before .before .before .before .loop .i) (omega arith) (omega arith))
-
-add-i : tie.Need-add-i Inv-loop μ-loop
-add-i c = search needs
-
-loop-less : tie.Need-loop-less Inv-loop μ-loop
-loop-less c = search needs
 
 loop-again : tie.Need-loop-again Inv-loop μ-loop
 loop-again c = (search needs, below-more _ _ (c .before .before .before .before .loop .inv .1) (omega arith))
@@ -61,13 +40,13 @@ within-spec =
     (tie.spec
     Inv-loop
     μ-loop
-    loop-holds
-    mul-if1
-    element-copy-out-if1
-    mul-if1-2
-    element-copy-out-if1-2
+    (λ c. search needs)
+    (λ c. search needs)
+    (λ c. search needs)
+    (λ c. search needs)
+    (λ c. search needs)
     returns
-    add-i
-    loop-less
+    (λ c. search needs)
+    (λ c. search needs)
     loop-again
     returns-2)

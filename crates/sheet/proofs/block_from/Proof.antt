@@ -15,29 +15,8 @@ abbrev μ-loop : tie.MeasureT-loop
 loop-holds : tie.Need-loop-holds Inv-loop μ-loop
 loop-holds c = (omega arith, (omega arith, free-none (c .before .args .chunk .now) (c .before .args .at)))
 
-sub-loop : tie.Need-sub-loop Inv-loop μ-loop
-sub-loop c = search needs
-
-add-end : tie.Need-add-end Inv-loop μ-loop
-add-end c = search needs
-
-sub-has-newline : tie.Need-sub-has-newline Inv-loop μ-loop
-sub-has-newline c = search needs
-
-part-has-newline-start : tie.Need-part-has-newline-start Inv-loop μ-loop
-part-has-newline-start c = search needs
-
-part-has-newline-end : tie.Need-part-has-newline-end Inv-loop μ-loop
-part-has-newline-end c = search needs
-
-has-newline-requires : tie.Need-has-newline-requires Inv-loop μ-loop
-has-newline-requires c κs = search needs
-
 returns : tie.Need-returns Inv-loop μ-loop
 returns c = let inv = c .before .before .before .before .loop .inv in ((inv .0, inv .1 .0), inv .1 .1)
-
-loop-less : tie.Need-loop-less Inv-loop μ-loop
-loop-less c = search needs
 
 loop-again : tie.Need-loop-again Inv-loop μ-loop
 loop-again c =
@@ -55,13 +34,13 @@ block-from-spec =
     Inv-loop
     μ-loop
     loop-holds
-    sub-loop
-    add-end
-    sub-has-newline
-    part-has-newline-start
-    part-has-newline-end
-    has-newline-requires
+    (λ c. search needs)
+    (λ c. search needs)
+    (λ c. search needs)
+    (λ c. search needs)
+    (λ c. search needs)
+    (λ c κs. search needs)
     returns
-    loop-less
+    (λ c. search needs)
     loop-again
     returns-2)

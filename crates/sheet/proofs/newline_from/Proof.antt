@@ -12,23 +12,11 @@ Inv-loop chunk at i₀ i = (at ≤ i) × ((i ≤ length chunk) × Free chunk at 
 abbrev μ-loop : tie.MeasureT-loop
 μ-loop chunk at i₀ i = length chunk - i
 
-block-from-requires : tie.Need-block-from-requires Inv-loop μ-loop
-block-from-requires c κs = search needs
-
 loop-holds : tie.Need-loop-holds Inv-loop μ-loop
 loop-holds c = (omega arith, (omega arith, c .block-from .ensures .1))
 
-shared-slice-read-if1 : tie.Need-shared-slice-read-if1 Inv-loop μ-loop
-shared-slice-read-if1 c = search needs
-
 returns : tie.Need-returns Inv-loop μ-loop
 returns c = let inv = c .before .before .before .loop .inv in ((inv .0, inv .1 .0), (inv .1 .1, λ h. c .if1 .taken))
-
-add-i : tie.Need-add-i Inv-loop μ-loop
-add-i c = search needs
-
-loop-less : tie.Need-loop-less Inv-loop μ-loop
-loop-less c = search needs
 
 loop-again : tie.Need-loop-again Inv-loop μ-loop
 loop-again c =
@@ -45,11 +33,11 @@ newline-from-spec =
     (tie.spec
     Inv-loop
     μ-loop
-    block-from-requires
+    (λ c κs. search needs)
     loop-holds
-    shared-slice-read-if1
+    (λ c. search needs)
     returns
-    add-i
-    loop-less
+    (λ c. search needs)
+    (λ c. search needs)
     loop-again
     returns-2)

@@ -11,28 +11,10 @@ use borrow.Author.Needs.{needs}
 use Rattle.sheet_answer.proofs.print_bad.Statement.{statement}
 use Rattle.sheet_answer.proofs.print_bad.Tie as tie
 
-width-requires : tie.Need-width-requires
-width-requires c κs = search needs
-
-add-need : tie.Need-add-need
-add-need c = search needs
-
 returns : tie.Need-returns
 returns c =
     let st = c .before .before .before in
     no-room (badLine (st .args .line-number)) (st .args .text .now) (omega (arith, bad-length (st .args .line-number), c .before .width .ensures .0))
-
-put-byte-requires : tie.Need-put-byte-requires
-put-byte-requires c κs = search needs
-
-put-byte-requires-2 : tie.Need-put-byte-requires-2
-put-byte-requires-2 c κs = search needs
-
-put-head-requires : tie.Need-put-head-requires
-put-head-requires c κs = search needs
-
-same-length : tie.Need-same-length
-same-length c = search needs
 
 returns-2 : tie.Need-returns-2
 returns-2 c =
@@ -53,11 +35,11 @@ pub print-bad-spec : {M : Type 1} → statement M
 print-bad-spec =
     tie.close
     (tie.spec
-    width-requires
-    add-need
+    (λ c κs. search needs)
+    (λ c. search needs)
     returns
-    put-byte-requires
-    put-byte-requires-2
-    put-head-requires
-    same-length
+    (λ c κs. search needs)
+    (λ c κs. search needs)
+    (λ c κs. search needs)
+    (λ c. search needs)
     returns-2)

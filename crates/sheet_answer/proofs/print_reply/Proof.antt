@@ -3,20 +3,8 @@ use borrow.Author.Needs.{needs}
 use Rattle.sheet_answer.proofs.print_reply.Statement.{statement}
 use Rattle.sheet_answer.proofs.print_reply.Tie as tie
 
-print-ok-requires : tie.Need-print-ok-requires
-print-ok-requires c κs = search needs
-
-same-length : tie.Need-same-length
-same-length c = search needs
-
 returns : tie.Need-returns
 returns c = rw (c .before .before .before .before .if1 .taken) (c .before .before .print-ok .ensures)
-
-print-no-requires : tie.Need-print-no-requires
-print-no-requires c κs = search needs
-
-same-length-2 : tie.Need-same-length-2
-same-length-2 c = search needs
 
 returns-2 : tie.Need-returns-2
 returns-2 c =
@@ -26,4 +14,4 @@ returns-2 c =
 pub print-reply-spec : {M : Type 1} → statement M
 print-reply-spec =
     tie.close
-    (tie.spec print-ok-requires same-length returns print-no-requires same-length-2 returns-2)
+    (tie.spec (λ c κs. search needs) (λ c. search needs) returns (λ c κs. search needs) (λ c. search needs) returns-2)

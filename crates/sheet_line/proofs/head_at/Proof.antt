@@ -18,24 +18,12 @@ second-fits c = search needs
 third-fits : (c : tie.After-struct-told3) → SFits w32 (c .before .number-at3 .result .value)
 third-fits c = search needs
 
-number-at-requires : tie.Need-number-at-requires
-number-at-requires c κs = search needs
-
-no-head-requires : tie.Need-no-head-requires
-no-head-requires c κs = search needs
-
 returns : tie.Need-returns
 returns c =
     let st = c .before .before .before .before .before in
     let line = st .args .line .now in
     let n = c .before .before .before .number-at in
     rw (c .no-head .ensures) (no-primitive (left line (st .args .at)) (n .result .good) (n .result .value) (left line (n .result .next)) (n .ensures) (not-true (n .result .good) (c .before .if1 .taken)))
-
-number-at-requires-2 : tie.Need-number-at-requires-2
-number-at-requires-2 c κs = search needs
-
-no-head-requires-2 : tie.Need-no-head-requires-2
-no-head-requires-2 c κs = search needs
 
 returns-2 : tie.Need-returns-2
 returns-2 c =
@@ -44,12 +32,6 @@ returns-2 c =
     let n = c .before .before .before .before .before .before .number-at in
     let g = c .before .before .before .number-at2 in
     rw (c .no-head2 .ensures) (no-origin (left line (st .args .at)) (n .result .good) (n .result .value) (left line (n .result .next)) (n .ensures) (not-false (n .result .good) (c .before .before .before .before .if1 .left)) (g .result .good) (g .result .value) (left line (g .result .next)) (g .ensures) (not-true (g .result .good) (c .before .if2 .taken)))
-
-number-at-requires-3 : tie.Need-number-at-requires-3
-number-at-requires-3 c κs = search needs
-
-no-head-requires-3 : tie.Need-no-head-requires-3
-no-head-requires-3 c κs = search needs
 
 returns-3 : tie.Need-returns-3
 returns-3 c =
@@ -76,13 +58,13 @@ pub head-at-spec : {M : Type 1} → statement M
 head-at-spec =
     tie.close
     (tie.spec
-    number-at-requires
-    no-head-requires
+    (λ c κs. search needs)
+    (λ c κs. search needs)
     returns
-    number-at-requires-2
-    no-head-requires-2
+    (λ c κs. search needs)
+    (λ c κs. search needs)
     returns-2
-    number-at-requires-3
-    no-head-requires-3
+    (λ c κs. search needs)
+    (λ c κs. search needs)
     returns-3
     returns-4)

@@ -11,9 +11,6 @@ use borrow.Author.Needs.{needs}
 use Rattle.sheet_line.proofs.read_line.Statement.{statement}
 use Rattle.sheet_line.proofs.read_line.Tie as tie
 
-bad-requires : tie.Need-bad-requires
-bad-requires c κs = search needs
-
 returns : tie.Need-returns
 returns c =
     let st = c .before .before .before in
@@ -21,12 +18,6 @@ returns c =
     let l = st .args .l .now in
     let r = st .args .r .now in
     bad-line line l l r r (c .bad .result) (refl, refl) (c .bad .ensures) (too-long (room l) (room r) line (c .before .if1 .taken))
-
-head-at-requires : tie.Need-head-at-requires
-head-at-requires c κs = search needs
-
-bad-requires-2 : tie.Need-bad-requires-2
-bad-requires-2 c κs = search needs
 
 returns-2 : tie.Need-returns-2
 returns-2 c =
@@ -37,15 +28,6 @@ returns-2 c =
     let h = c .before .before .head-at in
     bad-line line l l r r (c .bad2 .result) (refl, refl) (c .bad2 .ensures)
     (no-call (room l) (room r) line (c .before .before .before .if1 .left) (no-head (room l) (room r) (left line 0) (h .result .good) (record { primitive = h .result .number; origin = h .result .origin; axis = h .result .axis }) (left line (h .result .next)) (h .ensures) (not-true (h .result .good) (c .before .if2 .taken))))
-
-operand-at-requires : tie.Need-operand-at-requires
-operand-at-requires c κs = search needs
-
-bad-requires-3 : tie.Need-bad-requires-3
-bad-requires-3 c κs = search needs
-
-same-length : tie.Need-same-length
-same-length c = search needs
 
 returns-3 : tie.Need-returns-3
 returns-3 c =
@@ -58,18 +40,6 @@ returns-3 c =
     let l′ = L .last .1 .1 .0 in
     bad-line line l l′ r r (c .bad3 .result) (L .kept .1 .1 .0, refl) (c .bad3 .ensures)
     (no-call (room l) (room r) line (c .before .before .before .before .before .before .before .if1 .left) (no-left (room l) (room r) (left line 0) (h .result .good) (record { primitive = h .result .number; origin = h .result .origin; axis = h .result .axis }) (left line (h .result .next)) (h .ensures) (not-false (h .result .good) (c .before .before .before .before .before .if2 .left)) (L .result .good) (record { lengths = counted (L .result .shape); elements = take (count (counted (L .result .shape))) l′ }) (left line (L .result .next)) (L .ensures .read) (not-true (L .result .good) (c .before .if3 .taken))))
-
-operand-at-requires-2 : tie.Need-operand-at-requires-2
-operand-at-requires-2 c κs = search needs
-
-bad-requires-4 : tie.Need-bad-requires-4
-bad-requires-4 c κs = search needs
-
-same-length-2 : tie.Need-same-length-2
-same-length-2 c = search needs
-
-same-length-3 : tie.Need-same-length-3
-same-length-3 c = search needs
 
 returns-4 : tie.Need-returns-4
 returns-4 c =
@@ -85,15 +55,6 @@ returns-4 c =
     bad-line line l l′ r r′ (c .bad4 .result) (L .kept .1 .1 .0, R .kept .1 .1 .0) (c .bad4 .ensures)
     (no-call (room l) (room r) line (c .before .before .before .before .before .before .before .before .before .before .before .if1 .left) (no-right (room l) (room r) (left line 0) (h .result .good) (record { primitive = h .result .number; origin = h .result .origin; axis = h .result .axis }) (left line (h .result .next)) (h .ensures) (not-false (h .result .good) (c .before .before .before .before .before .before .before .before .before .if2 .left)) (L .result .good) (record { lengths = counted (L .result .shape); elements = take (count (counted (L .result .shape))) l′ }) (left line (L .result .next)) (L .ensures .read) (not-false (L .result .good) (c .before .before .before .before .before .if3 .left)) (R .result .good) (record { lengths = counted (R .result .shape); elements = take (count (counted (R .result .shape))) r′ }) (left line (R .result .next)) (R .ensures .read) (not-true (R .result .good) (c .before .if4 .taken))))
 
-bad-requires-5 : tie.Need-bad-requires-5
-bad-requires-5 c κs = search needs
-
-same-length-4 : tie.Need-same-length-4
-same-length-4 c = search needs
-
-same-length-5 : tie.Need-same-length-5
-same-length-5 c = search needs
-
 returns-5 : tie.Need-returns-5
 returns-5 c =
     let st = c .before .before .before .before .before .before .before .before .before .before .before .before .before .before in
@@ -107,15 +68,6 @@ returns-5 c =
     let r′ = R .last .1 .1 .0 in
     bad-line line l l′ r r′ (c .bad5 .result) (L .kept .1 .1 .0, R .kept .1 .1 .0) (c .bad5 .ensures)
     (left-over (room l) (room r) line (c .before .before .before .before .before .before .before .before .before .before .before .before .if1 .left) _ (R .result .next) (whole-call (room l) (room r) (left line 0) (h .result .good) (record { primitive = h .result .number; origin = h .result .origin; axis = h .result .axis }) (left line (h .result .next)) (h .ensures) (not-false (h .result .good) (c .before .before .before .before .before .before .before .before .before .before .if2 .left)) (L .result .good) (record { lengths = counted (L .result .shape); elements = take (count (counted (L .result .shape))) l′ }) (left line (L .result .next)) (L .ensures .read) (not-false (L .result .good) (c .before .before .before .before .before .before .if3 .left)) (R .result .good) (record { lengths = counted (R .result .shape); elements = take (count (counted (R .result .shape))) r′ }) (left line (R .result .next)) (R .ensures .read) (not-false (R .result .good) (c .before .before .if4 .left))) (omega (arith, c .before .if5 .taken)))
-
-answered-requires : tie.Need-answered-requires
-answered-requires c κs = search needs
-
-same-length-6 : tie.Need-same-length-6
-same-length-6 c = search needs
-
-same-length-7 : tie.Need-same-length-7
-same-length-7 c = search needs
 
 returns-6 : tie.Need-returns-6
 returns-6 c =
@@ -141,25 +93,25 @@ pub read-line-spec : {M : Type 1} → statement M
 read-line-spec =
     tie.close
     (tie.spec
-    bad-requires
+    (λ c κs. search needs)
     returns
-    head-at-requires
-    bad-requires-2
+    (λ c κs. search needs)
+    (λ c κs. search needs)
     returns-2
-    operand-at-requires
-    bad-requires-3
-    same-length
+    (λ c κs. search needs)
+    (λ c κs. search needs)
+    (λ c. search needs)
     returns-3
-    operand-at-requires-2
-    bad-requires-4
-    same-length-2
-    same-length-3
+    (λ c κs. search needs)
+    (λ c κs. search needs)
+    (λ c. search needs)
+    (λ c. search needs)
     returns-4
-    bad-requires-5
-    same-length-4
-    same-length-5
+    (λ c κs. search needs)
+    (λ c. search needs)
+    (λ c. search needs)
     returns-5
-    answered-requires
-    same-length-6
-    same-length-7
+    (λ c κs. search needs)
+    (λ c. search needs)
+    (λ c. search needs)
     returns-6)

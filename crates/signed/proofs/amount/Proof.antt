@@ -25,26 +25,11 @@ below c = sym (sign-is (c .before)) ∙ c .if2 .taken
 returns : tie.Need-returns
 returns c = rw (eq-eqb (c .before .args .n) 0 (omega arith))
 
-size-requires : tie.Need-size-requires
-size-requires c κs = search needs
-
-negative-requires : tie.Need-negative-requires
-negative-requires c κs = search needs
-
-sub-result : tie.Need-sub-result
-sub-result c = search needs
-
 sub-result-2 : tie.Need-sub-result-2
 sub-result-2 c = omega (arith, size-is (c .before), size-pos (c .before .before .before .before .args .a) (below c))
 
-rem-result : tie.Need-rem-result
-rem-result c = search needs
-
 sub-result-3 : tie.Need-sub-result-3
 sub-result-3 c = omega (arith, mod-lt (c .before .before .size .result - 1) {m = c .before .before .before .before .args .n} (omega arith))
-
-rem-result-2 : tie.Need-rem-result-2
-rem-result-2 c = search needs
 
 returns-2 : tie.Need-returns-2
 returns-2 c =
@@ -62,12 +47,12 @@ amount-spec =
     tie.close
     (tie.spec
     returns
-    size-requires
-    negative-requires
-    sub-result
+    (λ c κs. search needs)
+    (λ c κs. search needs)
+    (λ c. search needs)
     sub-result-2
-    rem-result
+    (λ c. search needs)
     sub-result-3
-    rem-result-2
+    (λ c. search needs)
     returns-2
     returns-3)

@@ -6,12 +6,9 @@ use Rattle.signed.proofs.Reading.{read32}
 use Rattle.signed.proofs.is_origin.Statement.{statement}
 use Rattle.signed.proofs.is_origin.Tie as tie
 
-is-bit-requires : tie.Need-is-bit-requires
-is-bit-requires c κs = search needs
-
 returns : tie.Need-returns
 unfolding isOrigin
 returns c = c .is-bit .ensures ∙ ap isBit (read32 _ (c .before .fits .g))
 
 pub is-origin-spec : {M : Type 1} → statement M
-is-origin-spec = tie.close (tie.spec is-bit-requires returns)
+is-origin-spec = tie.close (tie.spec (λ c κs. search needs) returns)

@@ -5,9 +5,6 @@ use Rattle.signed.proofs.Reading.{read-pos}
 use Rattle.signed.proofs.whole.Statement.{statement}
 use Rattle.signed.proofs.whole.Tie as tie
 
-cast-result : tie.Need-cast-result
-cast-result c = search needs
-
 returns : tie.Need-returns
 returns c = let n = c .before .args .n in rw (read-pos n (omega arith), le-leb n 2147483647 (omega arith))
 
@@ -15,4 +12,4 @@ returns-2 : tie.Need-returns-2
 returns-2 c = rw (lt-leb (c .before .args .n) 2147483647 (omega arith))
 
 pub whole-spec : {M : Type 1} → statement M
-whole-spec = tie.close (tie.spec cast-result returns returns-2)
+whole-spec = tie.close (tie.spec (λ c. search needs) returns returns-2)

@@ -62,14 +62,8 @@ put-blocks-shared-slice-read-n t c = omega (arith, c .before .before .before .pr
 put-blocks-shared-slice-read-apart : (t : ℕ) → put-blocks-lts.Need-shared-slice-read-apart (claims t) (put-blocks-at t) put-blocks.Post put-blocks-Inv-loop put-blocks-μ-loop
 put-blocks-shared-slice-read-apart t c = omega (arith, c .before .before .before .before .pre .1 .some, c .before .before .before .before .pre .1 .axes)
 
-put-blocks-last-axis-requires : (t : ℕ) → put-blocks-lts.Need-last-axis-requires (claims t) (put-blocks-at t) put-blocks.Post put-blocks-Inv-loop put-blocks-μ-loop
-put-blocks-last-axis-requires t c κs = search needs
-
 put-blocks-put-block-requires : (t : ℕ) → put-blocks-lts.Need-put-block-requires (claims t) (put-blocks-at t) put-blocks.Post put-blocks-Inv-loop put-blocks-μ-loop
 put-blocks-put-block-requires t c κs = rw (c .before .last-axis .ensures) (reach-block _ _ _ _ _ _ _ _ (c .before .before .before .before .before .before .before .pre .1) (c .before .before .if1 .taken))
-
-put-blocks-same-length : (t : ℕ) → put-blocks-lts.Need-same-length (claims t) (put-blocks-at t) put-blocks.Post put-blocks-Inv-loop put-blocks-μ-loop
-put-blocks-same-length t c = search needs
 
 put-blocks-returns : (t : ℕ) → put-blocks-lts.Need-returns (claims t) (put-blocks-at t) put-blocks.Post put-blocks-Inv-loop put-blocks-μ-loop
 put-blocks-returns t c =
@@ -95,21 +89,6 @@ put-blocks-mul-place t c = omega (arith, known t (c .before .before) .from (c .b
 put-blocks-add-place : (t : ℕ) → put-blocks-lts.Need-add-place (claims t) (put-blocks-at t) put-blocks.Post put-blocks-Inv-loop put-blocks-μ-loop
 put-blocks-add-place t c = omega (arith, known t (c .before .before) .from (c .before .loop .i) (omega arith) .1)
 
-put-blocks-sub-put-blocks : (t : ℕ) → put-blocks-lts.Need-sub-put-blocks (claims t) (put-blocks-at t) put-blocks.Post put-blocks-Inv-loop put-blocks-μ-loop
-put-blocks-sub-put-blocks t c = search needs
-
-put-blocks-part-put-blocks-start : (t : ℕ) → put-blocks-lts.Need-part-put-blocks-start (claims t) (put-blocks-at t) put-blocks.Post put-blocks-Inv-loop put-blocks-μ-loop
-put-blocks-part-put-blocks-start t c = search needs
-
-put-blocks-part-put-blocks-end : (t : ℕ) → put-blocks-lts.Need-part-put-blocks-end (claims t) (put-blocks-at t) put-blocks.Post put-blocks-Inv-loop put-blocks-μ-loop
-put-blocks-part-put-blocks-end t c = search needs
-
-put-blocks-sub-put-blocks-2 : (t : ℕ) → put-blocks-lts.Need-sub-put-blocks-2 (claims t) (put-blocks-at t) put-blocks.Post put-blocks-Inv-loop put-blocks-μ-loop
-put-blocks-sub-put-blocks-2 t c = search needs
-
-put-blocks-part-put-blocks-start-2 : (t : ℕ) → put-blocks-lts.Need-part-put-blocks-start-2 (claims t) (put-blocks-at t) put-blocks.Post put-blocks-Inv-loop put-blocks-μ-loop
-put-blocks-part-put-blocks-start-2 t c = search needs
-
 put-blocks-part-put-blocks-end-2 : (t : ℕ) → put-blocks-lts.Need-part-put-blocks-end-2 (claims t) (put-blocks-at t) put-blocks.Post put-blocks-Inv-loop put-blocks-μ-loop
 put-blocks-part-put-blocks-end-2 t c = omega (arith, c .before .before .before .before .before .before .before .before .pre .1 .axes)
 
@@ -124,9 +103,6 @@ put-blocks-put-blocks-requires t c κs =
 
 put-blocks-add-i : (t : ℕ) → put-blocks-lts.Need-add-i (claims t) (put-blocks-at t) put-blocks.Post put-blocks-Inv-loop put-blocks-μ-loop
 put-blocks-add-i t c = omega (arith, c .before .before .before .before .before .loop-test, c .before .before .before .before .before .before .before .before .before .shared-slice-known3 .given 0)
-
-put-blocks-loop-less : (t : ℕ) → put-blocks-lts.Need-loop-less (claims t) (put-blocks-at t) put-blocks.Post put-blocks-Inv-loop put-blocks-μ-loop
-put-blocks-loop-less t c = search needs
 
 put-blocks-loop-again : (t : ℕ) → put-blocks-lts.Need-loop-again (claims t) (put-blocks-at t) put-blocks.Post put-blocks-Inv-loop put-blocks-μ-loop
 put-blocks-loop-again t c =
@@ -154,9 +130,9 @@ pub +put-blocks-spec : {M : Type 1} → statement M
     put-blocks-μ-loop
     (put-blocks-shared-slice-read-n t)
     (put-blocks-shared-slice-read-apart t)
-    (put-blocks-last-axis-requires t)
+    (λ c κs. search needs)
     (put-blocks-put-block-requires t)
-    (put-blocks-same-length t)
+    (λ c. search needs)
     (put-blocks-returns t)
     (put-blocks-div-step t)
     (put-blocks-loop-holds t)
@@ -164,15 +140,15 @@ pub +put-blocks-spec : {M : Type 1} → statement M
     (put-blocks-add-from t)
     (put-blocks-mul-place t)
     (put-blocks-add-place t)
-    (put-blocks-sub-put-blocks t)
-    (put-blocks-part-put-blocks-start t)
-    (put-blocks-part-put-blocks-end t)
-    (put-blocks-sub-put-blocks-2 t)
-    (put-blocks-part-put-blocks-start-2 t)
+    (λ c. search needs)
+    (λ c. search needs)
+    (λ c. search needs)
+    (λ c. search needs)
+    (λ c. search needs)
     (put-blocks-part-put-blocks-end-2 t)
     (put-blocks-put-blocks-requires t)
     (put-blocks-add-i t)
-    (put-blocks-loop-less t)
+    (λ c. search needs)
     (put-blocks-loop-again t)
     (put-blocks-same-length-2 t)
     (put-blocks-returns-2 t)

@@ -70,25 +70,16 @@ turn t c =
 walk-line-requires : (t : ℕ) → walk-lts.Need-line-requires (claims t) (walk-at t) walk.Post walk-Inv-loop walk-μ-loop
 walk-line-requires t c κs = reach-one _ _ _ _ _ (c .before .before .before .before .pre .1) (c .before .if1 .taken)
 
-walk-same-length : (t : ℕ) → walk-lts.Need-same-length (claims t) (walk-at t) walk.Post walk-Inv-loop walk-μ-loop
-walk-same-length t c = search needs
-
 walk-returns : (t : ℕ) → walk-lts.Need-returns (claims t) (walk-at t) walk.Post walk-Inv-loop walk-μ-loop
 walk-returns t c =
     let s = c .before .before .before .before .before .before in
     c .before .line .ensures ∙ walked-one _ _ _ _ _ _ (s .pre .1) (c .before .before .before .if1 .taken)
-
-walk-shared-slice-read-n : (t : ℕ) → walk-lts.Need-shared-slice-read-n (claims t) (walk-at t) walk.Post walk-Inv-loop walk-μ-loop
-walk-shared-slice-read-n t c = search needs
 
 walk-shared-slice-read-stride : (t : ℕ) → walk-lts.Need-shared-slice-read-stride (claims t) (walk-at t) walk.Post walk-Inv-loop walk-μ-loop
 walk-shared-slice-read-stride t c = omega (arith, c .before .before .before .before .before .pre .1 .axes)
 
 walk-line-requires-2 : (t : ℕ) → walk-lts.Need-line-requires-2 (claims t) (walk-at t) walk.Post walk-Inv-loop walk-μ-loop
 walk-line-requires-2 t c κs = reach-line _ _ _ _ _ (c .before .before .before .before .before .before .before .pre .1) (c .before .if2 .taken)
-
-walk-same-length-2 : (t : ℕ) → walk-lts.Need-same-length-2 (claims t) (walk-at t) walk.Post walk-Inv-loop walk-μ-loop
-walk-same-length-2 t c = search needs
 
 walk-returns-2 : (t : ℕ) → walk-lts.Need-returns-2 (claims t) (walk-at t) walk.Post walk-Inv-loop walk-μ-loop
 walk-returns-2 t c =
@@ -100,9 +91,6 @@ walk-blocks-pay-requires t c κs = (omega arith, c .before .before .before .befo
 
 walk-walk-blocks-requires : (t : ℕ) → walk-lts.Need-walk-blocks-requires (claims t) (walk-at t) walk.Post walk-Inv-loop walk-μ-loop
 walk-walk-blocks-requires t c κs = (omega arith, c .before .before .before .before .before .before .before .before .before .pre .1)
-
-walk-same-length-3 : (t : ℕ) → walk-lts.Need-same-length-3 (claims t) (walk-at t) walk.Post walk-Inv-loop walk-μ-loop
-walk-same-length-3 t c = search needs
 
 walk-returns-3 : (t : ℕ) → walk-lts.Need-returns-3 (claims t) (walk-at t) walk.Post walk-Inv-loop walk-μ-loop
 walk-returns-3 t c = c .before .walk-blocks .ensures
@@ -125,32 +113,11 @@ walk-mul-start t c = omega (arith, turn t c .0)
 walk-add-end : (t : ℕ) → walk-lts.Need-add-end (claims t) (walk-at t) walk.Post walk-Inv-loop walk-μ-loop
 walk-add-end t c = omega (arith, turn t c .0)
 
-walk-sub-walk : (t : ℕ) → walk-lts.Need-sub-walk (claims t) (walk-at t) walk.Post walk-Inv-loop walk-μ-loop
-walk-sub-walk t c = search needs
-
-walk-part-walk-start : (t : ℕ) → walk-lts.Need-part-walk-start (claims t) (walk-at t) walk.Post walk-Inv-loop walk-μ-loop
-walk-part-walk-start t c = search needs
-
-walk-part-walk-end : (t : ℕ) → walk-lts.Need-part-walk-end (claims t) (walk-at t) walk.Post walk-Inv-loop walk-μ-loop
-walk-part-walk-end t c = search needs
-
-walk-sub-walk-2 : (t : ℕ) → walk-lts.Need-sub-walk-2 (claims t) (walk-at t) walk.Post walk-Inv-loop walk-μ-loop
-walk-sub-walk-2 t c = search needs
-
-walk-part-walk-start-2 : (t : ℕ) → walk-lts.Need-part-walk-start-2 (claims t) (walk-at t) walk.Post walk-Inv-loop walk-μ-loop
-walk-part-walk-start-2 t c = search needs
-
 walk-part-walk-end-2 : (t : ℕ) → walk-lts.Need-part-walk-end-2 (claims t) (walk-at t) walk.Post walk-Inv-loop walk-μ-loop
 walk-part-walk-end-2 t c = omega (arith, c .before .before .before .before .before .before .before .before .before .before .before .pre .1 .axes)
 
 walk-mul-walk : (t : ℕ) → walk-lts.Need-mul-walk (claims t) (walk-at t) walk.Post walk-Inv-loop walk-μ-loop
 walk-mul-walk t c = omega (arith, turn t (c .before .before) .0)
-
-walk-sub-walk-3 : (t : ℕ) → walk-lts.Need-sub-walk-3 (claims t) (walk-at t) walk.Post walk-Inv-loop walk-μ-loop
-walk-sub-walk-3 t c = search needs
-
-walk-part-walk-start-3 : (t : ℕ) → walk-lts.Need-part-walk-start-3 (claims t) (walk-at t) walk.Post walk-Inv-loop walk-μ-loop
-walk-part-walk-start-3 t c = search needs
 
 walk-part-walk-end-3 : (t : ℕ) → walk-lts.Need-part-walk-end-3 (claims t) (walk-at t) walk.Post walk-Inv-loop walk-μ-loop
 walk-part-walk-end-3 t c = omega (arith, turn t (c .before .before) .0, c .before .before .before .loop .inv .1 .0)
@@ -170,9 +137,6 @@ walk-add-i t c =
     let l = c .before .before .before .before .before in
     omega (arith, l .loop-test, known t (l .before .before .before .before) .few)
 
-walk-loop-less : (t : ℕ) → walk-lts.Need-loop-less (claims t) (walk-at t) walk.Post walk-Inv-loop walk-μ-loop
-walk-loop-less t c = search needs
-
 walk-loop-again : (t : ℕ) → walk-lts.Need-loop-again (claims t) (walk-at t) walk.Post walk-Inv-loop walk-μ-loop
 walk-loop-again t c =
     let l = c .before .before .before .before .before in
@@ -182,9 +146,6 @@ walk-loop-again t c =
     let k = known t (l .before .before .before .before) in
     let more = walked-more (a .lens .now) (a .strides .now) (a .r .now) (lp .out) (a .out .now) _ (a .at) (lp .i) _ _ (omega arith) (s .pre .1 .axes) (k .size) (lp .inv .1 .1) refl (c .before .walk .ensures) in
     (omega arith, (ap length more ∙ length-filled _ _ (a .out .now) (omega (arith, turn t l .0)), more))
-
-walk-same-length-4 : (t : ℕ) → walk-lts.Need-same-length-4 (claims t) (walk-at t) walk.Post walk-Inv-loop walk-μ-loop
-walk-same-length-4 t c = search needs
 
 walk-returns-4 : (t : ℕ) → walk-lts.Need-returns-4 (claims t) (walk-at t) walk.Post walk-Inv-loop walk-μ-loop
 walk-returns-4 t c =
@@ -203,16 +164,16 @@ pub +walk-spec : {M : Type 1} → statement M
     walk-Inv-loop
     walk-μ-loop
     (walk-line-requires t)
-    (walk-same-length t)
+    (λ c. search needs)
     (walk-returns t)
-    (walk-shared-slice-read-n t)
+    (λ c. search needs)
     (walk-shared-slice-read-stride t)
     (walk-line-requires-2 t)
-    (walk-same-length-2 t)
+    (λ c. search needs)
     (walk-returns-2 t)
     (walk-blocks-pay-requires t)
     (walk-walk-blocks-requires t)
-    (walk-same-length-3 t)
+    (λ c. search needs)
     (walk-returns-3 t)
     (walk-div-size t)
     (walk-loop-holds t)
@@ -220,19 +181,19 @@ pub +walk-spec : {M : Type 1} → statement M
     (walk-add-from t)
     (walk-mul-start t)
     (walk-add-end t)
-    (walk-sub-walk t)
-    (walk-part-walk-start t)
-    (walk-part-walk-end t)
-    (walk-sub-walk-2 t)
-    (walk-part-walk-start-2 t)
+    (λ c. search needs)
+    (λ c. search needs)
+    (λ c. search needs)
+    (λ c. search needs)
+    (λ c. search needs)
     (walk-part-walk-end-2 t)
     (walk-mul-walk t)
-    (walk-sub-walk-3 t)
-    (walk-part-walk-start-3 t)
+    (λ c. search needs)
+    (λ c. search needs)
     (walk-part-walk-end-3 t)
     (walk-walk-requires t)
     (walk-add-i t)
-    (walk-loop-less t)
+    (λ c. search needs)
     (walk-loop-again t)
-    (walk-same-length-4 t)
+    (λ c. search needs)
     (walk-returns-4 t)

@@ -16,27 +16,6 @@ Inv-loop rank to₀ i₀ to i = (i ≤ rank) × (to ≡ take i (backwards rank) 
 abbrev μ-loop : tie.MeasureT-loop
 μ-loop rank to₀ i₀ to i = rank - i
 
-loop-holds : tie.Need-loop-holds Inv-loop μ-loop
-loop-holds c = search needs
-
-sub-to : tie.Need-sub-to Inv-loop μ-loop
-sub-to c = search needs
-
-sub-to-2 : tie.Need-sub-to-2 Inv-loop μ-loop
-sub-to-2 c = search needs
-
-mul-to : tie.Need-mul-to Inv-loop μ-loop
-mul-to c = search needs
-
-array-write-to : tie.Need-array-write-to Inv-loop μ-loop
-array-write-to c = search needs
-
-add-i : tie.Need-add-i Inv-loop μ-loop
-add-i c = search needs
-
-loop-less : tie.Need-loop-less Inv-loop μ-loop
-loop-less c = search needs
-
 loop-again : tie.Need-loop-again Inv-loop μ-loop
 loop-again c =
     let lp = c .before .loop in
@@ -53,12 +32,12 @@ backwards-spec =
     (tie.spec
     Inv-loop
     μ-loop
-    loop-holds
-    sub-to
-    sub-to-2
-    mul-to
-    array-write-to
-    add-i
-    loop-less
+    (λ c. search needs)
+    (λ c. search needs)
+    (λ c. search needs)
+    (λ c. search needs)
+    (λ c. search needs)
+    (λ c. search needs)
+    (λ c. search needs)
     loop-again
     returns)

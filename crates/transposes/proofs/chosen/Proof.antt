@@ -39,29 +39,8 @@ loop-holds : tie.Need-loop-holds Inv-loop μ-loop
 unfolding axesTo
 loop-holds c = search needs
 
-mul-position : tie.Need-mul-position Inv-loop μ-loop
-mul-position c = search needs
-
-shared-slice-copy-out-position : tie.Need-shared-slice-copy-out-position Inv-loop μ-loop
-shared-slice-copy-out-position c = search needs
-
-position-requires : tie.Need-position-requires Inv-loop μ-loop
-position-requires c κs = search needs
-
-mul-to : tie.Need-mul-to Inv-loop μ-loop
-mul-to c = search needs
-
-array-write-to : tie.Need-array-write-to Inv-loop μ-loop
-array-write-to c = search needs
-
 add-axes : tie.Need-add-axes Inv-loop μ-loop
 add-axes c = omega (arith, named (c .before), axis-le (toZ w32 (ofZ w32 (c .before .before .before .before .before .args .g))) (length (c .before .before .before .before .before .args .l .now)) (getD (c .before .before .before .before .before .args .l .now) (c .before .before .before .before .loop .i) (pos 0)))
-
-add-i : tie.Need-add-i Inv-loop μ-loop
-add-i c = search needs
-
-loop-less : tie.Need-loop-less Inv-loop μ-loop
-loop-less c = search needs
 
 loop-again : tie.Need-loop-again Inv-loop μ-loop
 loop-again c =
@@ -93,13 +72,13 @@ chosen-spec =
     Inv-loop
     μ-loop
     loop-holds
-    mul-position
-    shared-slice-copy-out-position
-    position-requires
-    mul-to
-    array-write-to
+    (λ c. search needs)
+    (λ c. search needs)
+    (λ c κs. search needs)
+    (λ c. search needs)
+    (λ c. search needs)
     add-axes
-    add-i
-    loop-less
+    (λ c. search needs)
+    (λ c. search needs)
     loop-again
     returns)

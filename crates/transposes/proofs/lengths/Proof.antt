@@ -27,28 +27,10 @@ axis c =
     let s = c .before .before in
     omega (arith, s .pre .high, sends-lt (s .args .t1) (s .args .t2 .rank) (c .before .loop .i - 1) (s .pre) (longs s .0) (omega arith))
 
-add-lens : tie.Need-add-lens Inv-loop μ-loop
-add-lens c = search needs
-
 loop-holds : tie.Need-loop-holds Inv-loop μ-loop
 loop-holds c =
     let l = longs c in
     (omega arith, shortest-none maxRank (c .args .t2 .rank) (c .args .t1) (c .args .t2 .lens) (l .0) (l .1))
-
-sub-i : tie.Need-sub-i Inv-loop μ-loop
-sub-i c = search needs
-
-mul-t : tie.Need-mul-t Inv-loop μ-loop
-mul-t c = search needs
-
-array-read-t : tie.Need-array-read-t Inv-loop μ-loop
-array-read-t c = search needs
-
-mul-n : tie.Need-mul-n Inv-loop μ-loop
-mul-n c = search needs
-
-element-copy-out-n : tie.Need-element-copy-out-n Inv-loop μ-loop
-element-copy-out-n c = search needs
 
 mul-if1 : tie.Need-mul-if1 Inv-loop μ-loop
 mul-if1 c = omega (arith, axis (c .before))
@@ -62,18 +44,12 @@ mul-lens c = omega (arith, axis (c .before .before))
 array-write-lens : tie.Need-array-write-lens Inv-loop μ-loop
 array-write-lens c = axis (c .before .before)
 
-loop-less : tie.Need-loop-less Inv-loop μ-loop
-loop-less c = search needs
-
 loop-again : tie.Need-loop-again Inv-loop μ-loop
 loop-again c =
     let s = c .before .before .before .before in
     let lp = c .before .before .before .loop in
     let l = longs s in
     (omega arith, shorter maxRank (s .args .t2 .rank) (s .args .t1) (s .args .t2 .lens) (l .0) (l .1) (lp .i) (lp .i - 1) (omega arith) (lp .inv .0) (lp .lens) (lp .inv .1) (omega arith))
-
-loop-less-2 : tie.Need-loop-less-2 Inv-loop μ-loop
-loop-less-2 c = search needs
 
 loop-again-2 : tie.Need-loop-again-2 Inv-loop μ-loop
 loop-again-2 c =
@@ -93,19 +69,19 @@ lengths-spec =
     (tie.spec
     Inv-loop
     μ-loop
-    add-lens
+    (λ c. search needs)
     loop-holds
-    sub-i
-    mul-t
-    array-read-t
-    mul-n
-    element-copy-out-n
+    (λ c. search needs)
+    (λ c. search needs)
+    (λ c. search needs)
+    (λ c. search needs)
+    (λ c. search needs)
     mul-if1
     array-read-if1
     mul-lens
     array-write-lens
-    loop-less
+    (λ c. search needs)
     loop-again
-    loop-less-2
+    (λ c. search needs)
     loop-again-2
     returns)

@@ -20,20 +20,8 @@ add-end c = omega (arith, ends c)
 mul-copy-run : tie.Need-mul-copy-run
 mul-copy-run c = omega (arith, ends c)
 
-sub-copy-run : tie.Need-sub-copy-run
-sub-copy-run c = search needs
-
-part-copy-run-start : tie.Need-part-copy-run-start
-part-copy-run-start c = search needs
-
 part-copy-run-end : tie.Need-part-copy-run-end
 part-copy-run-end c = ends c
-
-copy-run-requires : tie.Need-copy-run-requires
-copy-run-requires c κs = search needs
-
-same-length : tie.Need-same-length
-same-length c = search needs
 
 returns : tie.Need-returns
 returns c =
@@ -41,27 +29,18 @@ returns c =
     let a = t .before .args in
     run-spaced (a .r .now) (a .out .now) _ (a .at) (a .stride) _ (t .if1 .taken) refl (ends t) (c .before .copy-run .ensures)
 
-spread-requires : tie.Need-spread-requires
-spread-requires c κs = search needs
-
-same-length-2 : tie.Need-same-length-2
-same-length-2 c = search needs
-
-returns-2 : tie.Need-returns-2
-returns-2 c = search needs
-
 pub line-spec : {M : Type 1} → statement M
 line-spec =
     tie.close
     (tie.spec
     add-end
     mul-copy-run
-    sub-copy-run
-    part-copy-run-start
+    (λ c. search needs)
+    (λ c. search needs)
     part-copy-run-end
-    copy-run-requires
-    same-length
+    (λ c κs. search needs)
+    (λ c. search needs)
     returns
-    spread-requires
-    same-length-2
-    returns-2)
+    (λ c κs. search needs)
+    (λ c. search needs)
+    (λ c. search needs))

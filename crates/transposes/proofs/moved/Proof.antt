@@ -18,9 +18,6 @@ longs c =
     let ls : length (c .args .shape .lens) ≡ maxRank = search needs in
     (lr, (length-take-le (c .args .rs .rank) (c .args .to) (omega (arith, c .pre .sends .high)), ls))
 
-refused-requires : tie.Need-refused-requires
-refused-requires c κs = search needs
-
 returns : tie.Need-returns
 returns c =
     let s = c .before .before in
@@ -39,23 +36,11 @@ strides-requires c κs =
     let l = longs s in
     (s .pre .sends, moved-positive (take (s .args .rs .rank) (s .args .to)) (s .args .shape) (s .args .count) (s .args .rs) (s .args .r .now) (s .args .out .now) (l .0) (l .1 .0) (s .pre) (omega arith))
 
-sub-walk : tie.Need-sub-walk
-sub-walk c = search needs
-
-part-walk-start : tie.Need-part-walk-start
-part-walk-start c = search needs
-
 part-walk-end : tie.Need-part-walk-end
 part-walk-end c =
     let s = c .before .before .before .before .before in
     let l = longs s in
     omega (arith, l .1 .1, axes-is (take (s .args .rs .rank) (s .args .to)) (s .args .shape) (s .args .count) (s .args .rs) (s .args .r .now) (s .args .out .now) (l .0) (l .1 .0) (s .pre), s .pre .sends .below, s .pre .sends .high)
-
-sub-walk-2 : tie.Need-sub-walk-2
-sub-walk-2 c = search needs
-
-part-walk-start-2 : tie.Need-part-walk-start-2
-part-walk-start-2 c = search needs
 
 part-walk-end-2 : tie.Need-part-walk-end-2
 part-walk-end-2 c =
@@ -64,24 +49,12 @@ part-walk-end-2 c =
     let w : length (c .before .before .before .strides .result) ≡ maxRank = search needs in
     omega (arith, axes-is (take (s .args .rs .rank) (s .args .to)) (s .args .shape) (s .args .count) (s .args .rs) (s .args .r .now) (s .args .out .now) (l .0) (l .1 .0) (s .pre), s .pre .sends .below, s .pre .sends .high)
 
-sub-walk-3 : tie.Need-sub-walk-3
-sub-walk-3 c = search needs
-
-part-walk-start-3 : tie.Need-part-walk-start-3
-part-walk-start-3 c = search needs
-
-part-walk-end-3 : tie.Need-part-walk-end-3
-part-walk-end-3 c = search needs
-
 walk-requires : tie.Need-walk-requires
 walk-requires c κs =
     let s = c .before .before .before .before .before .before .before .before .before in
     let l = longs s in
     let room = length-take-le (s .args .count - 0) (s .args .out .now) (rw sub-zero (omega arith)) ∙ sub-zero (s .args .count) in
     moved-walk (take (s .args .rs .rank) (s .args .to)) (s .args .shape) (s .args .count) (s .args .rs) (s .args .r .now) (s .args .out .now) (l .0) (l .1 .0) (s .pre) _ _ (c .before .before .before .before .before .strides .ensures) (omega arith) room
-
-same-length : tie.Need-same-length
-same-length c = search needs
 
 returns-3 : tie.Need-returns-3
 returns-3 c =
@@ -94,19 +67,19 @@ pub moved-spec : {M : Type 1} → statement M
 moved-spec =
     tie.close
     (tie.spec
-    refused-requires
+    (λ c κs. search needs)
     returns
     returns-2
     strides-requires
-    sub-walk
-    part-walk-start
+    (λ c. search needs)
+    (λ c. search needs)
     part-walk-end
-    sub-walk-2
-    part-walk-start-2
+    (λ c. search needs)
+    (λ c. search needs)
     part-walk-end-2
-    sub-walk-3
-    part-walk-start-3
-    part-walk-end-3
+    (λ c. search needs)
+    (λ c. search needs)
+    (λ c. search needs)
     walk-requires
-    same-length
+    (λ c. search needs)
     returns-3)

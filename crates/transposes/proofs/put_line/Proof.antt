@@ -51,12 +51,6 @@ mul-t16 c = omega (arith, known (c .before) .1)
 slice-set-from-out : tie.Need-slice-set-from-out Inv-loop μ-loop
 slice-set-from-out c = omega (arith, known (c .before) .1, c .before .before .loop .inv .1 .room)
 
-add-i : tie.Need-add-i Inv-loop μ-loop
-add-i c = search needs
-
-loop-less : tie.Need-loop-less Inv-loop μ-loop
-loop-less c = search needs
-
 loop-again : tie.Need-loop-again Inv-loop μ-loop
 loop-again c =
     let a = c .before .before .before .args in
@@ -89,8 +83,8 @@ put-line-spec =
     shared-slice-copy-out-out
     mul-t16
     slice-set-from-out
-    add-i
-    loop-less
+    (λ c. search needs)
+    (λ c. search needs)
     loop-again
     same-length
     returns)

@@ -44,12 +44,6 @@ put-line-requires c κs =
     let lp = c .before .before .loop in
     reach-room _ _ _ _ _ _ _ _ (lp .inv .1 .room) (reach-inner _ _ _ _ _ _ _ _ _ _ (c .before .before .before .pre) (lp .i) (omega arith))
 
-add-i : tie.Need-add-i Inv-loop μ-loop
-add-i c = search needs
-
-loop-less : tie.Need-loop-less Inv-loop μ-loop
-loop-less c = search needs
-
 loop-again : tie.Need-loop-again Inv-loop μ-loop
 loop-again c =
     let l = c .before .before .before .before in
@@ -77,8 +71,8 @@ put-plane-spec =
     mul-place
     add-place
     put-line-requires
-    add-i
-    loop-less
+    (λ c. search needs)
+    (λ c. search needs)
     loop-again
     same-length
     returns)

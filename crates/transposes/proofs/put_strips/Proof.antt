@@ -31,9 +31,6 @@ ends : (c : tie.Start Inv-loop μ-loop)
     (c .args .at + l * c .args .last .stride < length (c .args .r .now)) × (c .args .to + l * c .args .last .step < length (c .args .out .now))
 ends c = starts c (c .args .last .length - tile) (omega (arith, c .pre .0))
 
-sub-end : tie.Need-sub-end Inv-loop μ-loop
-sub-end c = search needs
-
 loop-holds : tie.Need-loop-holds Inv-loop μ-loop
 loop-holds c = (omega arith, placed-none _ _ _ _ _ _ _ _ _)
 
@@ -53,12 +50,6 @@ put-plane-requires : tie.Need-put-plane-requires Inv-loop μ-loop
 put-plane-requires c κs =
     let lp = c .before .before .loop in
     reach-across _ _ _ _ _ _ _ _ _ _ _ (lp .i) _ (c .before .before .before .before .pre .1) (lp .inv .1 .room) (omega arith) (omega arith)
-
-add-i : tie.Need-add-i Inv-loop μ-loop
-add-i c = search needs
-
-loop-less : tie.Need-loop-less Inv-loop μ-loop
-loop-less c = search needs
 
 loop-again : tie.Need-loop-again Inv-loop μ-loop
 loop-again c =
@@ -100,15 +91,15 @@ put-strips-spec =
     (tie.spec
     Inv-loop
     μ-loop
-    sub-end
+    (λ c. search needs)
     loop-holds
     mul-from
     add-from
     mul-place
     add-place
     put-plane-requires
-    add-i
-    loop-less
+    (λ c. search needs)
+    (λ c. search needs)
     loop-again
     mul-from-2
     add-from-2

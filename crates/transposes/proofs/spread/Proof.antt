@@ -33,18 +33,6 @@ mul-out c = omega (arith, c .before .before .pre (c .before .loop .i) (omega ari
 shared-slice-copy-out-out : tie.Need-shared-slice-copy-out-out Inv-loop μ-loop
 shared-slice-copy-out-out c = omega (arith, c .before .before .pre (c .before .loop .i) (omega arith))
 
-mul-t12 : tie.Need-mul-t12 Inv-loop μ-loop
-mul-t12 c = search needs
-
-slice-set-from-out : tie.Need-slice-set-from-out Inv-loop μ-loop
-slice-set-from-out c = search needs
-
-add-i : tie.Need-add-i Inv-loop μ-loop
-add-i c = search needs
-
-loop-less : tie.Need-loop-less Inv-loop μ-loop
-loop-less c = search needs
-
 loop-again : tie.Need-loop-again Inv-loop μ-loop
 loop-again c =
     let s = c .before .before .before in
@@ -55,9 +43,6 @@ loop-again c =
       omega arith,
       (simp length-set (lp .inv .1 .0), rw (e, lp .inv .1 .1) (filled-one _ (pos 0) _ (lp .i) (s .args .out .now) (omega arith) refl)),
     )
-
-same-length : tie.Need-same-length Inv-loop μ-loop
-same-length c = search needs
 
 returns : tie.Need-returns Inv-loop μ-loop
 returns c =
@@ -75,10 +60,10 @@ spread-spec =
     add-from
     mul-out
     shared-slice-copy-out-out
-    mul-t12
-    slice-set-from-out
-    add-i
-    loop-less
+    (λ c. search needs)
+    (λ c. search needs)
+    (λ c. search needs)
+    (λ c. search needs)
     loop-again
-    same-length
+    (λ c. search needs)
     returns)

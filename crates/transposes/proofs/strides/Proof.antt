@@ -43,15 +43,6 @@ loop-holds c =
     let l = longs c in
     (omega arith, (count-none maxRank (c .args .t2 .rank) (c .args .t1) (c .args .t2 .lens) (l .0) (l .1), strides-none maxRank (c .args .t2 .rank) (c .args .t1) (c .args .t2 .lens) (l .0) (l .1)))
 
-sub-i : tie.Need-sub-i Inv-loop μ-loop
-sub-i c = search needs
-
-mul-t : tie.Need-mul-t Inv-loop μ-loop
-mul-t c = search needs
-
-array-read-t : tie.Need-array-read-t Inv-loop μ-loop
-array-read-t c = search needs
-
 mul-sums : tie.Need-mul-sums Inv-loop μ-loop
 mul-sums c = omega (arith, axis c)
 
@@ -77,21 +68,12 @@ mul-sums-2 c = omega (arith, axis c)
 array-write-sums : tie.Need-array-write-sums Inv-loop μ-loop
 array-write-sums c = axis c
 
-mul-step : tie.Need-mul-step Inv-loop μ-loop
-mul-step c = search needs
-
-element-copy-out-step : tie.Need-element-copy-out-step Inv-loop μ-loop
-element-copy-out-step c = search needs
-
 mul-step-2 : tie.Need-mul-step-2 Inv-loop μ-loop
 mul-step-2 c =
     let s = c .before .before .before in
     let lp = c .before .before .loop in
     let l = longs s in
     omega (arith, next c, step-small maxRank (s .args .t2 .rank) (s .args .t1) (s .args .t2 .lens) (l .0) (l .1) (s .pre .1) (lp .i - 1))
-
-loop-less : tie.Need-loop-less Inv-loop μ-loop
-loop-less c = search needs
 
 loop-again : tie.Need-loop-again Inv-loop μ-loop
 loop-again c =
@@ -117,17 +99,17 @@ strides-spec =
     Inv-loop
     μ-loop
     loop-holds
-    sub-i
-    mul-t
-    array-read-t
+    (λ c. search needs)
+    (λ c. search needs)
+    (λ c. search needs)
     mul-sums
     array-read-sums
     add-sums
     mul-sums-2
     array-write-sums
-    mul-step
-    element-copy-out-step
+    (λ c. search needs)
+    (λ c. search needs)
     mul-step-2
-    loop-less
+    (λ c. search needs)
     loop-again
     returns)

@@ -29,12 +29,6 @@ good c =
     let long : length (s .lens) ≡ maxRank = search needs in
     lent-good s (c .before .before .args .r .now) long (form c)
 
-early-one-requires : tie.Need-early-one-requires
-early-one-requires c κs = search needs
-
-refused-requires : tie.Need-refused-requires
-refused-requires c κs = search needs
-
 returns : tie.Need-returns
 returns c K L =
     let st = c .before .before .before in
@@ -49,21 +43,12 @@ lengths-requires : tie.Need-lengths-requires
 lengths-requires c κs =
     backwards-sends (c .before .before .before .args .rs) _ (c .backwards .ensures) (good (c .before) .high)
 
-of-lengths-requires : tie.Need-of-lengths-requires
-of-lengths-requires c κs = search needs
-
-count-requires : tie.Need-count-requires
-count-requires c κs = search needs
-
 moved-requires : tie.Need-moved-requires
 moved-requires c κs =
     let e = c .before .before .before .before .before in
     let s = e .before .before in
     backwards-moves (s .args .rs) _ (c .before .before .before .before .backwards .ensures) (good e .high) (s .args .r .now) _ _ _ (form e) (good e)
     (c .before .before .before .lengths .ensures) (c .before .before .of-lengths .ensures) (c .before .count .ensures)
-
-same-length : tie.Need-same-length
-same-length c = search needs
 
 returns-2 : tie.Need-returns-2
 returns-2 c K L =
@@ -79,13 +64,13 @@ pub transpose-spec : {M : Type 1} → statement M
 transpose-spec =
     tie.close
     (tie.spec
-    early-one-requires
-    refused-requires
+    (λ c κs. search needs)
+    (λ c κs. search needs)
     returns
     backwards-requires
     lengths-requires
-    of-lengths-requires
-    count-requires
+    (λ c κs. search needs)
+    (λ c κs. search needs)
     moved-requires
-    same-length
+    (λ c. search needs)
     returns-2)

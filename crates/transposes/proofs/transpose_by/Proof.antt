@@ -54,20 +54,11 @@ named c = rw (read32 _ (c .before .before .before .before .before .before .befor
 few : (c : tie.Else4) → c .before .chosen .result .axes ≤ c .before .before .before .before .before .before .before .before .before .args .rs .rank
 few c = omega arith
 
-early-two-requires : tie.Need-early-two-requires
-early-two-requires c κs = search needs
-
-refused-requires : tie.Need-refused-requires
-refused-requires c κs = search needs
-
 returns : tie.Need-returns
 returns c K =
     let a = c .before .before .before .args in
     replied-refused (c .refused .result) _ (a .out .now) (c .refused .ensures)
     (early-reply (by-names (a .g) K (lent (a .ls) (a .l .now)) (lent (a .rs) (a .r .now))) (a .out .now) _ (early-is (c .before .before)) (c .before .if1 .taken))
-
-refused-requires-2 : tie.Need-refused-requires-2
-refused-requires-2 c κs = search needs
 
 returns-2 : tie.Need-returns-2
 returns-2 c K =
@@ -76,24 +67,12 @@ returns-2 c K =
     replied-refused (c .refused2 .result) _ (a .out .now) (c .refused2 .ensures)
     (own-reply (by-names (a .g) K (lent (a .ls) (a .l .now)) (lent (a .rs) (a .r .now))) (a .out .now) (fine e) _ (sym (sent-rank (a .g) (a .ls) (a .l .now) (a .rs) (a .r .now) (left e) (right e) (omega arith))) (λ z. omega arith))
 
-count-requires : tie.Need-count-requires
-count-requires c κs = search needs
-
-refused-requires-3 : tie.Need-refused-requires-3
-refused-requires-3 c κs = search needs
-
 returns-3 : tie.Need-returns-3
 returns-3 c K =
     let e = c .before .before .before .before .before in
     let a = e .before .before .args in
     replied-refused (c .refused3 .result) _ (a .out .now) (c .refused3 .ensures)
     (own-reply (by-names (a .g) K (lent (a .ls) (a .l .now)) (lent (a .rs) (a .r .now))) (a .out .now) (fine e) _ (sym (sent-length (a .g) (a .ls) (a .l .now) (a .rs) (a .r .now) (left e) (right e) (list (c .before .before .before)) _ (c .before .before .count .ensures) (c .before .if3 .taken))) (λ z. omega arith))
-
-sub-chosen : tie.Need-sub-chosen
-sub-chosen c = search needs
-
-part-chosen-start : tie.Need-part-chosen-start
-part-chosen-start c = search needs
 
 part-chosen-end : tie.Need-part-chosen-end
 part-chosen-end c =
@@ -108,9 +87,6 @@ chosen-requires c κs =
     let e = n .before .before .before in
     let a = e .before .before .args in
     omega (arith, xs-length (a .g) (a .ls) (a .l .now) (a .rs) (a .r .now) (left e) (right e) (list (n .before)) _ (n .count .ensures) (c .before .if3 .left), right e .high)
-
-refused-requires-4 : tie.Need-refused-requires-4
-refused-requires-4 c κs = search needs
 
 returns-4 : tie.Need-returns-4
 returns-4 c K =
@@ -130,15 +106,6 @@ lengths-requires c κs =
     let e = n .before .before .before in
     let a = e .before .before .args in
     sent-sends (a .g) (a .ls) (a .l .now) (a .rs) (a .r .now) (left e) (right e) (list (n .before)) _ (n .count .ensures) (h .before .before .if3 .left) _ _ (named h) (omega arith)
-
-of-lengths-requires : tie.Need-of-lengths-requires
-of-lengths-requires c κs = search needs
-
-count-requires-2 : tie.Need-count-requires-2
-count-requires-2 c κs = search needs
-
-refused-requires-5 : tie.Need-refused-requires-5
-refused-requires-5 c κs = search needs
 
 returns-5 : tie.Need-returns-5
 returns-5 c K =
@@ -161,9 +128,6 @@ moved-requires c κs =
     let a = e .before .before .args in
     sent-by-moves (a .g) (a .ls) (a .l .now) (a .rs) (a .r .now) (left e) (right e) (list (n .before)) _ (n .count .ensures) (h .before .before .if3 .left) _ _ (named h) (few (d .before .before .before .before)) (forms e .1) _ (d .before .before .lengths .ensures) _ (d .before .of-lengths .ensures) _ (d .count2 .ensures) (omega arith)
 
-same-length : tie.Need-same-length
-same-length c = search needs
-
 returns-6 : tie.Need-returns-6
 returns-6 c K =
     let d = c .before .before .before .before in
@@ -179,25 +143,25 @@ pub transpose-by-spec : {M : Type 1} → statement M
 transpose-by-spec =
     tie.close
     (tie.spec
-    early-two-requires
-    refused-requires
+    (λ c κs. search needs)
+    (λ c κs. search needs)
     returns
-    refused-requires-2
+    (λ c κs. search needs)
     returns-2
-    count-requires
-    refused-requires-3
+    (λ c κs. search needs)
+    (λ c κs. search needs)
     returns-3
-    sub-chosen
-    part-chosen-start
+    (λ c. search needs)
+    (λ c. search needs)
     part-chosen-end
     chosen-requires
-    refused-requires-4
+    (λ c κs. search needs)
     returns-4
     lengths-requires
-    of-lengths-requires
-    count-requires-2
-    refused-requires-5
+    (λ c κs. search needs)
+    (λ c κs. search needs)
+    (λ c κs. search needs)
     returns-5
     moved-requires
-    same-length
+    (λ c. search needs)
     returns-6)

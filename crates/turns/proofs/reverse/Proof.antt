@@ -54,32 +54,12 @@ named c =
     let st = c .before .before .before .before .before in
     axis-named (st .args .rs) (st .args .r .now) (good (c .before .before .before)) _ _ (st .args .k) (st .args .g) (c .before .before .axes-of .ensures) (position-is (c .before)) (omega arith)
 
--- src/lib.rt:26:9
-early-one-requires : tie.Need-early-one-requires
-early-one-requires c κs = search needs
-
--- src/lib.rt:28:9
-refused-requires : tie.Need-refused-requires
-refused-requires c κs = search needs
-
 -- src/lib.rt:28:9
 returns : tie.Need-returns
 returns c L =
     let st = c .before .before .before in
     replied-refused (c .refused .result) _ (st .args .out .now) (c .refused .ensures)
     (early-reply (reverse-names (st .args .g) (st .args .k) L (lent (st .args .rs) (st .args .r .now))) (st .args .out .now) _ (early-is (c .before .before)) (c .before .if1 .taken))
-
--- src/lib.rt:30:9
-axes-of-requires : tie.Need-axes-of-requires
-axes-of-requires c κs = search needs
-
--- src/lib.rt:31:9
-position-requires : tie.Need-position-requires
-position-requires c κs = search needs
-
--- src/lib.rt:33:9
-refused-requires-2 : tie.Need-refused-requires-2
-refused-requires-2 c κs = search needs
 
 -- src/lib.rt:33:9
 returns-2 : tie.Need-returns-2
@@ -92,14 +72,6 @@ returns-2 c L =
     (reverse-axis (st .args .g) (st .args .k) a
     (axis-missing (st .args .rs) (st .args .r .now) (good e) _ _ (st .args .k) (st .args .g) (c .before .before .before .axes-of .ensures) (position-is (c .before .before)) (omega arith)))
     (λ z. omega arith))
-
--- src/lib.rt:35:9
-count-requires : tie.Need-count-requires
-count-requires c κs = search needs
-
--- src/lib.rt:37:9
-refused-requires-3 : tie.Need-refused-requires-3
-refused-requires-3 c κs = search needs
 
 -- src/lib.rt:37:9
 returns-3 : tie.Need-returns-3
@@ -119,14 +91,6 @@ turn-into-requires c κs =
     let e2 = c .before .before .before in
     let e = e2 .before .before .before in
     (form e, (c .before .before .count .ensures, (omega arith, omega (arith, e2 .before .before .axes-of .ensures))))
-
--- src/lib.rt:41:9
-of-lengths-requires : tie.Need-of-lengths-requires
-of-lengths-requires c κs = search needs
-
--- src/lib.rt:21:1
-same-length : tie.Need-same-length
-same-length c = search needs
 
 -- src/lib.rt:21:1
 returns-4 : tie.Need-returns-4
@@ -148,17 +112,17 @@ pub reverse-spec : {M : Type 1} → statement M
 reverse-spec =
     tie.close
     (tie.spec
-    early-one-requires
-    refused-requires
+    (λ c κs. search needs)
+    (λ c κs. search needs)
     returns
-    axes-of-requires
-    position-requires
-    refused-requires-2
+    (λ c κs. search needs)
+    (λ c κs. search needs)
+    (λ c κs. search needs)
     returns-2
-    count-requires
-    refused-requires-3
+    (λ c κs. search needs)
+    (λ c κs. search needs)
     returns-3
     turn-into-requires
-    of-lengths-requires
-    same-length
+    (λ c κs. search needs)
+    (λ c. search needs)
     returns-4)

@@ -8,18 +8,6 @@ use Rattle.turns.proofs.reverse_block.Lts as lts
 use Rattle.copying.proofs.reverse_run.Reads as reverse-run-reads
 use Rattle.turns.proofs.reverse_rows.Reads as reverse-rows-reads
 
--- src/lib.rt:100:9
-reverse-run-requires : tie.Need-reverse-run-requires
-reverse-run-requires c κs = search needs
-
--- src/lib.rt:102:9
-reverse-rows-requires : tie.Need-reverse-rows-requires
-reverse-rows-requires c κs = search needs
-
--- src/lib.rt:95:1
-same-length : tie.Need-same-length
-same-length c = search needs
-
 -- src/lib.rt:95:1
 returns : tie.Need-returns
 returns c =
@@ -27,21 +15,13 @@ returns c =
     c .before .reverse-run .ensures
     ∙ line-reversed (st .args .r .now) (st .args .out .now) (st .args .n) (st .args .inner) (c .before .before .before .if1 .taken) (st .pre .0) (st .pre .1)
 
--- src/lib.rt:95:1
-same-length-2 : tie.Need-same-length-2
-same-length-2 c = search needs
-
--- src/lib.rt:95:1
-returns-2 : tie.Need-returns-2
-returns-2 c = search needs
-
 pub reverse-block-spec : {M : Type 1} → statement M
 reverse-block-spec =
     tie.close
     (tie.spec
-    reverse-run-requires
-    reverse-rows-requires
-    same-length
+    (λ c κs. search needs)
+    (λ c κs. search needs)
+    (λ c. search needs)
     returns
-    same-length-2
-    returns-2)
+    (λ c. search needs)
+    (λ c. search needs))

@@ -37,15 +37,8 @@ from-is c = c .fewer .ensures ∙ min-eq-left (omega (arith, row (c .before)))
 loop-holds : tie.Need-loop-holds Inv-loop μ-loop
 loop-holds c = (omega arith, (omega arith, (refl, filled-none _ _)))
 
--- src/lib.rt:113:9
-sub-i : tie.Need-sub-i Inv-loop μ-loop
-sub-i c = search needs
-
 mul-fewer : tie.Need-mul-fewer Inv-loop μ-loop
 mul-fewer c = omega (arith, row c)
-
-fewer-requires : tie.Need-fewer-requires Inv-loop μ-loop
-fewer-requires c κs = search needs
 
 -- src/lib.rt:114:20
 add-stop : tie.Need-add-stop Inv-loop μ-loop
@@ -87,14 +80,6 @@ part-copy-run-start-2 c = omega (arith, from-is (c .before), row (c .before .bef
 part-copy-run-end-2 : tie.Need-part-copy-run-end-2 Inv-loop μ-loop
 part-copy-run-end-2 c = omega (arith, from-is (c .before), row (c .before .before))
 
--- src/lib.rt:116:9
-copy-run-requires : tie.Need-copy-run-requires Inv-loop μ-loop
-copy-run-requires c κs = search needs
-
--- src/lib.rt:111:5
-loop-less : tie.Need-loop-less Inv-loop μ-loop
-loop-less c = search needs
-
 -- src/lib.rt:111:5
 loop-again : tie.Need-loop-again Inv-loop μ-loop
 loop-again c =
@@ -119,10 +104,6 @@ loop-again c =
     )
 
 -- src/lib.rt:105:1
-same-length : tie.Need-same-length Inv-loop μ-loop
-same-length c = search needs
-
--- src/lib.rt:105:1
 returns : tie.Need-returns Inv-loop μ-loop
 returns c =
     let st = c .before .before in
@@ -140,9 +121,9 @@ reverse-rows-spec =
     Inv-loop
     μ-loop
     loop-holds
-    sub-i
+    (λ c. search needs)
     mul-fewer
-    fewer-requires
+    (λ c κs. search needs)
     add-stop
     add-end
     mul-copy-run
@@ -153,8 +134,8 @@ reverse-rows-spec =
     sub-copy-run-2
     part-copy-run-start-2
     part-copy-run-end-2
-    copy-run-requires
-    loop-less
+    (λ c κs. search needs)
+    (λ c. search needs)
     loop-again
-    same-length
+    (λ c. search needs)
     returns)

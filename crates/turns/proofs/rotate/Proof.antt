@@ -66,24 +66,12 @@ named c =
     let st = c .before .before .before .before .before .before .before in
     axis-named (st .args .rs) (st .args .r .now) (right (c .before .before .before .before .before)) _ _ (st .args .k) (st .args .g) (c .before .before .axes-of .ensures) (position-is (c .before)) (omega arith)
 
--- src/lib.rt:51:9
-early-two-requires : tie.Need-early-two-requires
-early-two-requires c κs = search needs
-
--- src/lib.rt:53:9
-refused-requires : tie.Need-refused-requires
-refused-requires c κs = search needs
-
 -- src/lib.rt:53:9
 returns : tie.Need-returns
 returns c =
     let st = c .before .before .before in
     replied-refused (c .refused .result) _ (st .args .out .now) (c .refused .ensures)
     (early-reply (rotate-names (st .args .g) (st .args .k) (lent (st .args .ls) (st .args .l .now)) (lent (st .args .rs) (st .args .r .now))) (st .args .out .now) _ (early-is (c .before .before)) (c .before .if1 .taken))
-
--- src/lib.rt:56:9
-refused-requires-2 : tie.Need-refused-requires-2
-refused-requires-2 c κs = search needs
 
 -- src/lib.rt:56:9
 returns-2 : tie.Need-returns-2
@@ -93,18 +81,6 @@ returns-2 c =
     replied-refused (c .refused2 .result) 4 (st .args .out .now) (c .refused2 .ensures)
     (own-reply (rotate-names (st .args .g) (st .args .k) (lent (st .args .ls) (st .args .l .now)) (lent (st .args .rs) (st .args .r .now))) (st .args .out .now) (fine e) 4
     (rotate-rank (st .args .g) (st .args .k) _ _ (list-no _ _ (left e) (omega arith))) (λ z. omega arith))
-
--- src/lib.rt:58:9
-axes-of-requires : tie.Need-axes-of-requires
-axes-of-requires c κs = search needs
-
--- src/lib.rt:59:9
-position-requires : tie.Need-position-requires
-position-requires c κs = search needs
-
--- src/lib.rt:61:9
-refused-requires-3 : tie.Need-refused-requires-3
-refused-requires-3 c κs = search needs
 
 -- src/lib.rt:61:9
 returns-3 : tie.Need-returns-3
@@ -118,14 +94,6 @@ returns-3 c =
     (axis-missing (st .args .rs) (st .args .r .now) (right e) _ _ (st .args .k) (st .args .g) (c .before .before .before .axes-of .ensures) (position-is (c .before .before)) (omega arith)))
     (λ z. omega arith))
 
--- src/lib.rt:63:8
-count-requires : tie.Need-count-requires
-count-requires c κs = search needs
-
--- src/lib.rt:64:9
-refused-requires-4 : tie.Need-refused-requires-4
-refused-requires-4 c κs = search needs
-
 -- src/lib.rt:64:9
 returns-4 : tie.Need-returns-4
 returns-4 c =
@@ -137,14 +105,6 @@ returns-4 c =
     (own-reply (rotate-names (st .args .g) (st .args .k) (lent (st .args .ls) (st .args .l .now)) (lent (st .args .rs) (st .args .r .now))) (st .args .out .now) (fine e) 6
     (rotate-length (st .args .g) (st .args .k) _ _ (list e2) (named e3 .0) (one-no _ _ (left e) (λ z. c .before .if4 .taken (c .before .before .count .ensures ∙ z))))
     (λ z. omega arith))
-
--- src/lib.rt:66:9
-count-requires-2 : tie.Need-count-requires-2
-count-requires-2 c κs = search needs
-
--- src/lib.rt:68:9
-refused-requires-5 : tie.Need-refused-requires-5
-refused-requires-5 c κs = search needs
 
 -- src/lib.rt:68:9
 returns-5 : tie.Need-returns-5
@@ -177,14 +137,6 @@ turn-into-requires c κs =
     let e = e3 .before .before .before .before .before in
     (forms e .1, (e5 .before .count2 .ensures, (omega arith, omega (arith, e3 .before .before .axes-of .ensures))))
 
--- src/lib.rt:72:9
-of-lengths-requires : tie.Need-of-lengths-requires
-of-lengths-requires c κs = search needs
-
--- src/lib.rt:46:1
-same-length : tie.Need-same-length
-same-length c = search needs
-
 -- src/lib.rt:46:1
 returns-6 : tie.Need-returns-6
 returns-6 c =
@@ -208,23 +160,23 @@ pub rotate-spec : {M : Type 1} → statement M
 rotate-spec =
     tie.close
     (tie.spec
-    early-two-requires
-    refused-requires
+    (λ c κs. search needs)
+    (λ c κs. search needs)
     returns
-    refused-requires-2
+    (λ c κs. search needs)
     returns-2
-    axes-of-requires
-    position-requires
-    refused-requires-3
+    (λ c κs. search needs)
+    (λ c κs. search needs)
+    (λ c κs. search needs)
     returns-3
-    count-requires
-    refused-requires-4
+    (λ c κs. search needs)
+    (λ c κs. search needs)
     returns-4
-    count-requires-2
-    refused-requires-5
+    (λ c κs. search needs)
+    (λ c κs. search needs)
     returns-5
     shared-slice-copy-out-turn-into
     turn-into-requires
-    of-lengths-requires
-    same-length
+    (λ c κs. search needs)
+    (λ c. search needs)
     returns-6)

@@ -9,10 +9,6 @@ use Rattle.turns.proofs.turn_block.Lts as lts
 use Rattle.turns.proofs.reverse_block.Reads as reverse-block-reads
 use Rattle.turns.proofs.rotate_block.Reads as rotate-block-reads
 
--- src/lib.rt:131:9
-reverse-block-requires : tie.Need-reverse-block-requires
-reverse-block-requires c κs = search needs
-
 -- src/lib.rt:133:25
 mul-rotate-block : tie.Need-mul-rotate-block
 mul-rotate-block c = let a = c .before .args in omega (arith, cut-le (a .n) (a .inner) (a .a) (omega arith))
@@ -24,18 +20,10 @@ rotate-block-requires c κs =
     (st .pre .1 .0 ∙ sym (st .pre .1 .1), omega (arith, cut-le (st .args .n) (st .args .inner) (st .args .a) (st .pre .0), st .pre .1 .0))
 
 -- src/lib.rt:126:1
-same-length : tie.Need-same-length
-same-length c = search needs
-
--- src/lib.rt:126:1
 returns : tie.Need-returns
 returns c =
     let st = c .before .before .before .before in
     c .before .reverse-block .ensures ∙ block-back (st .args .r .now) (st .args .n) (st .args .inner) (st .args .a) (st .args .back) (c .before .before .before .if1 .taken)
-
--- src/lib.rt:126:1
-same-length-2 : tie.Need-same-length-2
-same-length-2 c = search needs
 
 -- src/lib.rt:126:1
 returns-2 : tie.Need-returns-2
@@ -47,10 +35,10 @@ pub turn-block-spec : {M : Type 1} → statement M
 turn-block-spec =
     tie.close
     (tie.spec
-    reverse-block-requires
+    (λ c κs. search needs)
     mul-rotate-block
     rotate-block-requires
-    same-length
+    (λ c. search needs)
     returns
-    same-length-2
+    (λ c. search needs)
     returns-2)

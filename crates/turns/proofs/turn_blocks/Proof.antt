@@ -56,10 +56,6 @@ mul-turn-block : tie.Need-mul-turn-block Inv-loop μ-loop
 mul-turn-block c = omega (arith, room c)
 
 -- src/lib.rt:88:23
-sub-turn-block : tie.Need-sub-turn-block Inv-loop μ-loop
-sub-turn-block c = search needs
-
--- src/lib.rt:88:23
 part-turn-block-start : tie.Need-part-turn-block-start Inv-loop μ-loop
 part-turn-block-start c = omega (arith, room c)
 
@@ -70,10 +66,6 @@ part-turn-block-end c = omega (arith, room c)
 -- src/lib.rt:88:46
 mul-turn-block-2 : tie.Need-mul-turn-block-2 Inv-loop μ-loop
 mul-turn-block-2 c = omega (arith, room (c .before))
-
--- src/lib.rt:88:46
-sub-turn-block-2 : tie.Need-sub-turn-block-2 Inv-loop μ-loop
-sub-turn-block-2 c = search needs
 
 -- src/lib.rt:88:46
 part-turn-block-start-2 : tie.Need-part-turn-block-start-2 Inv-loop μ-loop
@@ -92,14 +84,6 @@ turn-block-requires c κs =
       c .before .before .before .before .pre .1 .0,
       (part-size (a .r .now) (lp .at) (a .n * a .inner) (m .0), part-size (lp .out) (lp .at) (a .n * a .inner) (omega (arith, m .1, lp .inv .1 .1 .0))),
     )
-
--- src/lib.rt:90:9
-add-o : tie.Need-add-o Inv-loop μ-loop
-add-o c = search needs
-
--- src/lib.rt:86:5
-loop-less : tie.Need-loop-less Inv-loop μ-loop
-loop-less c = search needs
 
 -- src/lib.rt:86:5
 loop-again : tie.Need-loop-again Inv-loop μ-loop
@@ -123,10 +107,6 @@ loop-again c =
     )
 
 -- src/lib.rt:75:1
-same-length : tie.Need-same-length Inv-loop μ-loop
-same-length c = search needs
-
--- src/lib.rt:75:1
 returns : tie.Need-returns Inv-loop μ-loop
 returns c =
     let a = c .before .before .args in
@@ -145,16 +125,16 @@ turn-blocks-spec =
     loop-holds
     add-end
     mul-turn-block
-    sub-turn-block
+    (λ c. search needs)
     part-turn-block-start
     part-turn-block-end
     mul-turn-block-2
-    sub-turn-block-2
+    (λ c. search needs)
     part-turn-block-start-2
     part-turn-block-end-2
     turn-block-requires
-    add-o
-    loop-less
+    (λ c. search needs)
+    (λ c. search needs)
     loop-again
-    same-length
+    (λ c. search needs)
     returns)

@@ -38,24 +38,9 @@ some c = omega (arith, c .before .before .before .pre)
 amount-is : (c : tie.After-amount) → c .amount .result ≡ cond (eqb (c .before .around .result .length) 0) 0 (modulo (c .before .before .before .before .before .args .z) (c .before .around .result .length))
 amount-is c = c .amount .ensures ∙ ap (λ z. cond (eqb (c .before .around .result .length) 0) 0 (modulo z (c .before .around .result .length))) (read32 _ (c .before .before .before .before .before .fits .z))
 
-sub-copy-run : tie.Need-sub-copy-run
-sub-copy-run c = search needs
-
--- src/lib.rt:64:27
-part-copy-run-start : tie.Need-part-copy-run-start
-part-copy-run-start c = search needs
-
 -- src/lib.rt:64:27
 part-copy-run-end : tie.Need-part-copy-run-end
 part-copy-run-end c = let g = good (c .before .before) in omega (arith, g .room, g .count-is)
-
--- src/lib.rt:64:9
-copy-run-requires : tie.Need-copy-run-requires
-copy-run-requires c κs = search needs
-
--- src/lib.rt:65:9
-same-length : tie.Need-same-length
-same-length c = search needs
 
 -- src/lib.rt:65:9
 returns : tie.Need-returns
@@ -70,14 +55,6 @@ returns-2 c =
     let st = c .before .before .before in
     into-none (st .args .s) (st .args .r .now) (st .args .out .now) (good st) (st .args .k) _ (sym (st .pre .1 .0) ∙ c .if2 .taken)
 
--- src/lib.rt:70:9
-around-requires : tie.Need-around-requires
-around-requires c κs = search needs
-
--- src/lib.rt:71:5
-amount-requires : tie.Need-amount-requires
-amount-requires c κs = search needs
-
 turn-blocks-requires : tie.Need-turn-blocks-requires
 turn-blocks-requires c κs =
     let st = c .before .before .before .before .before .before in
@@ -87,10 +64,6 @@ turn-blocks-requires c κs =
     let m = turn-room (st .args .s) (st .args .r .now) (st .args .out .now) g (st .args .k) _ w (axis-in e) (some e) in
     let n = turn-some (st .args .s) (st .args .r .now) (st .args .out .now) g (st .args .k) _ w (axis-in e) (some e) in
     (m .0, (amount-lt (st .args .z) _ _ n (amount-is (c .before)), (omega (arith, m .1, g .room), omega (arith, m .1, g .count-is))))
-
--- src/lib.rt:52:1
-same-length-2 : tie.Need-same-length-2
-same-length-2 c = search needs
 
 -- src/lib.rt:52:1
 returns-3 : tie.Need-returns-3
@@ -111,15 +84,15 @@ pub turn-into-spec : {M : Type 1} → statement M
 turn-into-spec =
     tie.close
     (tie.spec
-    sub-copy-run
-    part-copy-run-start
+    (λ c. search needs)
+    (λ c. search needs)
     part-copy-run-end
-    copy-run-requires
-    same-length
+    (λ c κs. search needs)
+    (λ c. search needs)
     returns
     returns-2
-    around-requires
-    amount-requires
+    (λ c κs. search needs)
+    (λ c κs. search needs)
     turn-blocks-requires
-    same-length-2
+    (λ c. search needs)
     returns-3)

@@ -18,24 +18,6 @@ abbrev μ-loop : tie.MeasureT-loop
 loop-holds : tie.Need-loop-holds Inv-loop μ-loop
 loop-holds c = (omega arith, (refl, filled-none _ _))
 
-add-out : tie.Need-add-out Inv-loop μ-loop
-add-out c = search needs
-
-cast-out : tie.Need-cast-out Inv-loop μ-loop
-cast-out c = search needs
-
-mul-t8 : tie.Need-mul-t8 Inv-loop μ-loop
-mul-t8 c = search needs
-
-slice-set-from-out : tie.Need-slice-set-from-out Inv-loop μ-loop
-slice-set-from-out c = search needs
-
-add-i : tie.Need-add-i Inv-loop μ-loop
-add-i c = search needs
-
-loop-less : tie.Need-loop-less Inv-loop μ-loop
-loop-less c = search needs
-
 loop-again : tie.Need-loop-again Inv-loop μ-loop
 loop-again c =
     let st = c .before .before in
@@ -43,9 +25,6 @@ loop-again c =
       omega arith,
       (simp length-set (lp .inv .1 .0), rw (lp .inv .1 .1) (filled-one _ (pos 0) _ (lp .i) (st .args .out .now) (omega arith) (read-pos (st .args .first + lp .i) (omega arith)))),
     )
-
-same-length : tie.Need-same-length Inv-loop μ-loop
-same-length c = search needs
 
 returns : tie.Need-returns Inv-loop μ-loop
 returns c =
@@ -59,12 +38,12 @@ count-up-spec =
     Inv-loop
     μ-loop
     loop-holds
-    add-out
-    cast-out
-    mul-t8
-    slice-set-from-out
-    add-i
-    loop-less
+    (λ c. search needs)
+    (λ c. search needs)
+    (λ c. search needs)
+    (λ c. search needs)
+    (λ c. search needs)
+    (λ c. search needs)
     loop-again
-    same-length
+    (λ c. search needs)
     returns)

@@ -19,39 +19,6 @@ abbrev μ-loop : tie.MeasureT-loop
 loop-holds : tie.Need-loop-holds Inv-loop μ-loop
 loop-holds c = (omega arith, (refl, (zero-mod _, filled-none _ _)))
 
-sub-loop : tie.Need-sub-loop Inv-loop μ-loop
-sub-loop c = search needs
-
-add-end : tie.Need-add-end Inv-loop μ-loop
-add-end c = search needs
-
-sub-copy-run : tie.Need-sub-copy-run Inv-loop μ-loop
-sub-copy-run c = search needs
-
-part-copy-run-start : tie.Need-part-copy-run-start Inv-loop μ-loop
-part-copy-run-start c = search needs
-
-part-copy-run-end : tie.Need-part-copy-run-end Inv-loop μ-loop
-part-copy-run-end c = search needs
-
-mul-copy-run : tie.Need-mul-copy-run Inv-loop μ-loop
-mul-copy-run c = search needs
-
-sub-copy-run-2 : tie.Need-sub-copy-run-2 Inv-loop μ-loop
-sub-copy-run-2 c = search needs
-
-part-copy-run-start-2 : tie.Need-part-copy-run-start-2 Inv-loop μ-loop
-part-copy-run-start-2 c = search needs
-
-part-copy-run-end-2 : tie.Need-part-copy-run-end-2 Inv-loop μ-loop
-part-copy-run-end-2 c = search needs
-
-copy-run-requires : tie.Need-copy-run-requires Inv-loop μ-loop
-copy-run-requires c κs = search needs
-
-loop-less : tie.Need-loop-less Inv-loop μ-loop
-loop-less c = search needs
-
 loop-again : tie.Need-loop-again Inv-loop μ-loop
 loop-again c =
     let lp = c .before .before .before .before .before in
@@ -60,36 +27,6 @@ loop-again c =
     let e = lp .loop .i + length src in
     let put = cycle-put src (lp .loop .out) out₀ _ (lp .loop .i) (length src) e (lp .loop .inv .1 .1 .0) (omega arith) (lp .loop .inv .1 .1 .1) refl (omega arith) (c .before .copy-run .ensures) in
     (omega arith, (ap length put ∙ length-filled (cycled src) e out₀ (omega arith), (cycled-next src (lp .loop .i) (lp .loop .inv .1 .1 .0), put)))
-
-sub-rest : tie.Need-sub-rest Inv-loop μ-loop
-sub-rest c = search needs
-
-sub-copy-run-3 : tie.Need-sub-copy-run-3 Inv-loop μ-loop
-sub-copy-run-3 c = search needs
-
-part-copy-run-start-3 : tie.Need-part-copy-run-start-3 Inv-loop μ-loop
-part-copy-run-start-3 c = search needs
-
-part-copy-run-end-3 : tie.Need-part-copy-run-end-3 Inv-loop μ-loop
-part-copy-run-end-3 c = search needs
-
-mul-copy-run-2 : tie.Need-mul-copy-run-2 Inv-loop μ-loop
-mul-copy-run-2 c = search needs
-
-sub-copy-run-4 : tie.Need-sub-copy-run-4 Inv-loop μ-loop
-sub-copy-run-4 c = search needs
-
-part-copy-run-start-4 : tie.Need-part-copy-run-start-4 Inv-loop μ-loop
-part-copy-run-start-4 c = search needs
-
-part-copy-run-end-4 : tie.Need-part-copy-run-end-4 Inv-loop μ-loop
-part-copy-run-end-4 c = search needs
-
-copy-run-requires-2 : tie.Need-copy-run-requires-2 Inv-loop μ-loop
-copy-run-requires-2 c κs = search needs
-
-same-length : tie.Need-same-length Inv-loop μ-loop
-same-length c = search needs
 
 returns : tie.Need-returns Inv-loop μ-loop
 returns c =
@@ -105,26 +42,26 @@ cycle-run-spec =
     Inv-loop
     μ-loop
     loop-holds
-    sub-loop
-    add-end
-    sub-copy-run
-    part-copy-run-start
-    part-copy-run-end
-    mul-copy-run
-    sub-copy-run-2
-    part-copy-run-start-2
-    part-copy-run-end-2
-    copy-run-requires
-    loop-less
+    (λ c. search needs)
+    (λ c. search needs)
+    (λ c. search needs)
+    (λ c. search needs)
+    (λ c. search needs)
+    (λ c. search needs)
+    (λ c. search needs)
+    (λ c. search needs)
+    (λ c. search needs)
+    (λ c κs. search needs)
+    (λ c. search needs)
     loop-again
-    sub-rest
-    sub-copy-run-3
-    part-copy-run-start-3
-    part-copy-run-end-3
-    mul-copy-run-2
-    sub-copy-run-4
-    part-copy-run-start-4
-    part-copy-run-end-4
-    copy-run-requires-2
-    same-length
+    (λ c. search needs)
+    (λ c. search needs)
+    (λ c. search needs)
+    (λ c. search needs)
+    (λ c. search needs)
+    (λ c. search needs)
+    (λ c. search needs)
+    (λ c. search needs)
+    (λ c κs. search needs)
+    (λ c. search needs)
     returns)

@@ -6,14 +6,8 @@ use borrow.Author.Needs.{needs}
 use Rattle.vectors.proofs.first_element.Statement.{statement}
 use Rattle.vectors.proofs.first_element.Tie as tie
 
-shared-slice-copy-out-result : tie.Need-shared-slice-copy-out-result
-shared-slice-copy-out-result c = search needs
-
-returns : tie.Need-returns
-returns c = search needs
-
 returns-2 : tie.Need-returns-2
 returns-2 c = sym (List·getD-eq-default (c .before .args .src .now) (pos 0) {n = 0} (omega arith))
 
 pub first-element-spec : {M : Type 1} → statement M
-first-element-spec = tie.close (tie.spec shared-slice-copy-out-result returns returns-2)
+first-element-spec = tie.close (tie.spec (λ c. search needs) (λ c. search needs) returns-2)

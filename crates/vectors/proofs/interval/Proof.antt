@@ -53,12 +53,6 @@ size-is c =
 first-is : (c : tie.After-size2) → c .size2 .result ≡ natAbs (c .before .before .before .before .before .before .before .before .before .args .g)
 first-is c = c .size2 .ensures ∙ ap natAbs (read32 _ (c .before .before .before .before .before .before .before .before .before .fits .g))
 
-early-one-requires : tie.Need-early-one-requires
-early-one-requires c κs = search needs
-
-refused-requires : tie.Need-refused-requires
-refused-requires c κs = search needs
-
 returns : tie.Need-returns
 returns c K L =
     let st = c .before .before .before in
@@ -67,9 +61,6 @@ returns c K L =
 
 interval-refusal-requires : tie.Need-interval-refusal-requires
 interval-refusal-requires c κs = fine c .operand .form
-
-refused-requires-2 : tie.Need-refused-requires-2
-refused-requires-2 c κs = search needs
 
 returns-2 : tie.Need-returns-2
 returns-2 c K L =
@@ -82,12 +73,6 @@ returns-2 c K L =
 shared-slice-copy-out-size : tie.Need-shared-slice-copy-out-size
 shared-slice-copy-out-size c = let g = fine (c .before .before) .operand in omega (arith, single c .one, g .whole, g .room)
 
-size-requires : tie.Need-size-requires
-size-requires c κs = search needs
-
-refused-requires-3 : tie.Need-refused-requires-3
-refused-requires-3 c κs = search needs
-
 returns-3 : tie.Need-returns-3
 returns-3 c K L =
     let z = c .before .before in
@@ -96,9 +81,6 @@ returns-3 c K L =
     replied-refused (c .refused3 .result) 9 (st .args .out .now) (c .refused3 .ensures)
     (limit-reply (interval-names (st .args .g) K L (lent (st .args .rs) (st .args .r .now))) (st .args .out .now) (fine (e .before .before) .none) (none-own e)
     (interval-no-rule (st .args .g) (of st) (omega (arith, size-is z, c .before .if3 .taken))))
-
-refused-requires-4 : tie.Need-refused-requires-4
-refused-requires-4 c κs = search needs
 
 returns-4 : tie.Need-returns-4
 returns-4 c K L =
@@ -110,9 +92,6 @@ returns-4 c K L =
     (interval-rule (st .args .g) (of st) (omega (arith, size-is z, c .before .before .if3 .left)))
     (rw (interval-count (st .args .g) (of st)) (omega (arith, size-is z, c .before .if4 .taken))))
 
-size-requires-2 : tie.Need-size-requires-2
-size-requires-2 c κs = search needs
-
 count-up-requires : tie.Need-count-up-requires
 count-up-requires c κs =
     let z = c .before .before .before .before in
@@ -120,12 +99,6 @@ count-up-requires c κs =
     let st = e .before .before .before .before in
     let f = origin-is (st .args .g) (fine (e .before .before) .origin) in
     (omega (arith, first-is (c .before), f .1), (omega arith, omega arith))
-
-vector-requires : tie.Need-vector-requires
-vector-requires c κs = search needs
-
-same-length : tie.Need-same-length
-same-length c = search needs
 
 returns-5 : tie.Need-returns-5
 returns-5 c K L =
@@ -147,20 +120,20 @@ pub interval-spec : {M : Type 1} → statement M
 interval-spec =
     tie.close
     (tie.spec
-    early-one-requires
-    refused-requires
+    (λ c κs. search needs)
+    (λ c κs. search needs)
     returns
     interval-refusal-requires
-    refused-requires-2
+    (λ c κs. search needs)
     returns-2
     shared-slice-copy-out-size
-    size-requires
-    refused-requires-3
+    (λ c κs. search needs)
+    (λ c κs. search needs)
     returns-3
-    refused-requires-4
+    (λ c κs. search needs)
     returns-4
-    size-requires-2
+    (λ c κs. search needs)
     count-up-requires
-    vector-requires
-    same-length
+    (λ c κs. search needs)
+    (λ c. search needs)
     returns-5)

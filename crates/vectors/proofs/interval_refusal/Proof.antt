@@ -40,9 +40,6 @@ sign c =
 returns : tie.Need-returns
 returns c G = let st = c .before .before in sym (interval-rank G (of st) (omega (arith, good st .rank-is)))
 
-count-requires : tie.Need-count-requires
-count-requires c κs = search needs
-
 returns-2 : tie.Need-returns-2
 returns-2 c G =
     let e = c .before .before in
@@ -51,9 +48,6 @@ returns-2 c G =
 
 shared-slice-copy-out-negative : tie.Need-shared-slice-copy-out-negative
 shared-slice-copy-out-negative c = let g = good (c .before .before .before .before) in omega (arith, one c, g .whole, g .room)
-
-negative-requires : tie.Need-negative-requires
-negative-requires c κs = search needs
 
 returns-3 : tie.Need-returns-3
 returns-3 c G =
@@ -72,9 +66,9 @@ interval-refusal-spec =
     tie.close
     (tie.spec
     returns
-    count-requires
+    (λ c κs. search needs)
     returns-2
     shared-slice-copy-out-negative
-    negative-requires
+    (λ c κs. search needs)
     returns-3
     returns-4)

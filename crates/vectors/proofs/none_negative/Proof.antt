@@ -26,26 +26,11 @@ sign c =
 loop-holds : tie.Need-loop-holds Inv-loop μ-loop
 loop-holds c = (omega arith, refl)
 
-mul-negative : tie.Need-mul-negative Inv-loop μ-loop
-mul-negative c = search needs
-
-shared-slice-copy-out-negative : tie.Need-shared-slice-copy-out-negative Inv-loop μ-loop
-shared-slice-copy-out-negative c = search needs
-
-negative-requires : tie.Need-negative-requires Inv-loop μ-loop
-negative-requires c κs = search needs
-
 returns : tie.Need-returns Inv-loop μ-loop
 returns c =
     let lp = c .before .before .before .before in
     let l = lp .before .args .l .now in
     sym (lp .loop .inv .1 ∙ every-stop (λ z. not (negative z)) l (lp .loop .i) (pos 0) (omega arith) (ap not (sym (sign (c .before)) ∙ c .if1 .taken)))
-
-add-i : tie.Need-add-i Inv-loop μ-loop
-add-i c = search needs
-
-loop-less : tie.Need-loop-less Inv-loop μ-loop
-loop-less c = search needs
 
 loop-again : tie.Need-loop-again Inv-loop μ-loop
 loop-again c =
@@ -65,11 +50,11 @@ none-negative-spec =
     Inv-loop
     μ-loop
     loop-holds
-    mul-negative
-    shared-slice-copy-out-negative
-    negative-requires
+    (λ c. search needs)
+    (λ c. search needs)
+    (λ c κs. search needs)
     returns
-    add-i
-    loop-less
+    (λ c. search needs)
+    (λ c. search needs)
     loop-again
     returns-2)

@@ -23,26 +23,8 @@ rank-high st = good-rank (st .args .t1) (st .pre .0)
 loop-holds : tie.Need-loop-holds Inv-loop μ-loop
 loop-holds c = (omega arith, (refl, filled-none _ _))
 
-mul-whole : tie.Need-mul-whole Inv-loop μ-loop
-mul-whole c = search needs
-
 element-copy-out-whole : tie.Need-element-copy-out-whole Inv-loop μ-loop
 element-copy-out-whole c = let h = rank-high (c .before .before) in search needs
-
-whole-requires : tie.Need-whole-requires Inv-loop μ-loop
-whole-requires c κs = search needs
-
-mul-t12 : tie.Need-mul-t12 Inv-loop μ-loop
-mul-t12 c = search needs
-
-slice-set-from-out : tie.Need-slice-set-from-out Inv-loop μ-loop
-slice-set-from-out c = search needs
-
-add-i : tie.Need-add-i Inv-loop μ-loop
-add-i c = search needs
-
-loop-less : tie.Need-loop-less Inv-loop μ-loop
-loop-less c = search needs
 
 loop-again : tie.Need-loop-again Inv-loop μ-loop
 loop-again c =
@@ -56,9 +38,6 @@ loop-again c =
       (simp length-set (lp .inv .1 .0), rw (lp .inv .1 .1) (filled-one _ (pos 0) _ (lp .i) (st .args .out .now) (omega arith) e)),
     )
 
-same-length : tie.Need-same-length Inv-loop μ-loop
-same-length c = search needs
-
 returns : tie.Need-returns Inv-loop μ-loop
 returns c =
     let e : c .before .loop .i ≡ c .before .before .args .t1 .rank = omega arith in
@@ -71,13 +50,13 @@ put-lengths-spec =
     Inv-loop
     μ-loop
     loop-holds
-    mul-whole
+    (λ c. search needs)
     element-copy-out-whole
-    whole-requires
-    mul-t12
-    slice-set-from-out
-    add-i
-    loop-less
+    (λ c κs. search needs)
+    (λ c. search needs)
+    (λ c. search needs)
+    (λ c. search needs)
+    (λ c. search needs)
     loop-again
-    same-length
+    (λ c. search needs)
     returns)

@@ -23,23 +23,11 @@ fine c =
     let long : length (st .args .rs .lens) ≡ maxRank = search needs in
     fine-one (st .args .g) (st .args .rs) (st .args .r .now) long (sym (early-is (c .before)) ∙ c .if1 .left)
 
-early-one-requires : tie.Need-early-one-requires
-early-one-requires c κs = search needs
-
-refused-requires : tie.Need-refused-requires
-refused-requires c κs = search needs
-
 returns : tie.Need-returns
 returns c K L =
     let st = c .before .before .before in
     replied-refused (c .refused .result) _ (st .args .out .now) (c .refused .ensures)
     (early-reply (ravel-names (st .args .g) K L (lent (st .args .rs) (st .args .r .now))) (st .args .out .now) _ (early-is (c .before .before)) (c .before .if1 .taken))
-
-count-requires : tie.Need-count-requires
-count-requires c κs = search needs
-
-refused-requires-2 : tie.Need-refused-requires-2
-refused-requires-2 c κs = search needs
 
 returns-2 : tie.Need-returns-2
 returns-2 c K L =
@@ -51,23 +39,8 @@ returns-2 c K L =
     (ravel-rule a (omega (arith, g .whole, g .count-small)))
     (rw (ravel-count a) (omega (arith, g .whole, g .count-is, c .before .before .count .ensures))))
 
-sub-copy-run : tie.Need-sub-copy-run
-sub-copy-run c = search needs
-
-part-copy-run-start : tie.Need-part-copy-run-start
-part-copy-run-start c = search needs
-
 part-copy-run-end : tie.Need-part-copy-run-end
 part-copy-run-end c = let g = fine (c .before .before) .operand in omega (arith, g .room, g .count-is, c .before .count .ensures)
-
-copy-run-requires : tie.Need-copy-run-requires
-copy-run-requires c κs = search needs
-
-vector-requires : tie.Need-vector-requires
-vector-requires c κs = search needs
-
-same-length : tie.Need-same-length
-same-length c = search needs
 
 returns-3 : tie.Need-returns-3
 returns-3 c K L =
@@ -88,16 +61,16 @@ pub ravel-spec : {M : Type 1} → statement M
 ravel-spec =
     tie.close
     (tie.spec
-    early-one-requires
-    refused-requires
+    (λ c κs. search needs)
+    (λ c κs. search needs)
     returns
-    count-requires
-    refused-requires-2
+    (λ c κs. search needs)
+    (λ c κs. search needs)
     returns-2
-    sub-copy-run
-    part-copy-run-start
+    (λ c. search needs)
+    (λ c. search needs)
     part-copy-run-end
-    copy-run-requires
-    vector-requires
-    same-length
+    (λ c κs. search needs)
+    (λ c κs. search needs)
+    (λ c. search needs)
     returns-3)

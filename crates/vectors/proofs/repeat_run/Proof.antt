@@ -8,33 +8,6 @@ use borrow.Author.Needs.{needs, sfits-of}
 use Rattle.vectors.proofs.repeat_run.Statement.{statement}
 use Rattle.vectors.proofs.repeat_run.Tie as tie
 
-cycle-run-requires : tie.Need-cycle-run-requires
-cycle-run-requires c κs = search needs
-
-same-length : tie.Need-same-length
-same-length c = search needs
-
-returns : tie.Need-returns
-returns c = search needs
-
-first-element-requires : tie.Need-first-element-requires
-first-element-requires c κs = search needs
-
-sub-fill-run : tie.Need-sub-fill-run
-sub-fill-run c = search needs
-
-part-fill-run-start : tie.Need-part-fill-run-start
-part-fill-run-start c = search needs
-
-part-fill-run-end : tie.Need-part-fill-run-end
-part-fill-run-end c = search needs
-
-fill-run-requires : tie.Need-fill-run-requires
-fill-run-requires c κs = search needs
-
-same-length-2 : tie.Need-same-length-2
-same-length-2 c = search needs
-
 returns-2 : tie.Need-returns-2
 returns-2 c =
     let st = c .before .before .before .before .before in
@@ -47,13 +20,13 @@ pub repeat-run-spec : {M : Type 1} → statement M
 repeat-run-spec =
     tie.close
     (tie.spec
-    cycle-run-requires
-    same-length
-    returns
-    first-element-requires
-    sub-fill-run
-    part-fill-run-start
-    part-fill-run-end
-    fill-run-requires
-    same-length-2
+    (λ c κs. search needs)
+    (λ c. search needs)
+    (λ c. search needs)
+    (λ c κs. search needs)
+    (λ c. search needs)
+    (λ c. search needs)
+    (λ c. search needs)
+    (λ c κs. search needs)
+    (λ c. search needs)
     returns-2)

@@ -77,12 +77,6 @@ module _ (c : tie.Else4) where
   rule : shapeRule (length (reshape (arrayOf (left st)) (arrayOf (right st)) .lengths)) (reshape (arrayOf (left st)) (arrayOf (right st)) .lengths) ≡ true
   rule = reshape-limit (arrayOf (left st)) (arrayOf (right st)) true (made-rule (asked st) held)
 
-early-two-requires : tie.Need-early-two-requires
-early-two-requires c κs = search needs
-
-refused-requires : tie.Need-refused-requires
-refused-requires c κs = search needs
-
 returns : tie.Need-returns
 returns c K =
     let st = c .before .before .before in
@@ -92,21 +86,12 @@ returns c K =
 reshape-refusal-requires : tie.Need-reshape-refusal-requires
 reshape-refusal-requires c κs = fine c .left .form
 
-refused-requires-2 : tie.Need-refused-requires-2
-refused-requires-2 c κs = search needs
-
 returns-2 : tie.Need-returns-2
 returns-2 c K =
     let e = c .before .before .before in
     let st = e .before .before in
     replied-refused (c .refused2 .result) _ (st .args .out .now) (c .refused2 .ensures)
     (own-reply (reshape-names (st .args .g) K (left st) (right st)) (st .args .out .now) (fine e .none) _ (c .before .before .reshape-refusal .ensures _) (c .before .if2 .taken))
-
-count-requires : tie.Need-count-requires
-count-requires c κs = search needs
-
-refused-requires-3 : tie.Need-refused-requires-3
-refused-requires-3 c κs = search needs
 
 returns-3 : tie.Need-returns-3
 returns-3 c K =
@@ -117,23 +102,8 @@ returns-3 c K =
     (limit-reply (reshape-names (st .args .g) K (left st) (right st)) (st .args .out .now) (fine e .none) (none-own (n .before))
     (reshape-limit (arrayOf (left st)) (arrayOf (right st)) false (many-no-rule (asked st) (omega (arith, many n, c .before .if3 .taken)))))
 
-sub-shape-from : tie.Need-sub-shape-from
-sub-shape-from c = search needs
-
-part-shape-from-start : tie.Need-part-shape-from-start
-part-shape-from-start c = search needs
-
 part-shape-from-end : tie.Need-part-shape-from-end
 part-shape-from-end c = let g = fine (c .before .before .before .before) .left in omega (arith, g .room, g .count-is, c .before .count .ensures)
-
-shape-from-requires : tie.Need-shape-from-requires
-shape-from-requires c κs = search needs
-
-count-requires-2 : tie.Need-count-requires-2
-count-requires-2 c κs = search needs
-
-refused-requires-4 : tie.Need-refused-requires-4
-refused-requires-4 c κs = search needs
 
 returns-4 : tie.Need-returns-4
 returns-4 c K =
@@ -145,9 +115,6 @@ returns-4 c K =
     (limit-reply (reshape-names (st .args .g) K (left st) (right st)) (st .args .out .now) (fine e .none) (none-own (n .before))
     (reshape-limit (arrayOf (left st)) (arrayOf (right st)) false (made-no-rule (asked st) (omega (arith, total-is t, c .before .if4 .taken)))))
 
-refused-requires-5 : tie.Need-refused-requires-5
-refused-requires-5 c κs = search needs
-
 returns-5 : tie.Need-returns-5
 returns-5 c K =
     let t = c .before .before in
@@ -158,23 +125,8 @@ returns-5 c K =
     (space-reply (reshape-names (st .args .g) K (left st) (right st)) (st .args .out .now) (fine e .none) (none-own (n .before)) (rule t)
     (rw (reshape-count (arrayOf (left st)) (arrayOf (right st))) (omega (arith, total t, c .before .if5 .taken))))
 
-count-requires-3 : tie.Need-count-requires-3
-count-requires-3 c κs = search needs
-
-sub-repeat-run : tie.Need-sub-repeat-run
-sub-repeat-run c = search needs
-
-part-repeat-run-start : tie.Need-part-repeat-run-start
-part-repeat-run-start c = search needs
-
 part-repeat-run-end : tie.Need-part-repeat-run-end
 part-repeat-run-end c = let g = fine (c .before .before .before .before .before .before .before .before .before .before) .right in omega (arith, g .room, g .count-is, c .count3 .ensures)
-
-repeat-run-requires : tie.Need-repeat-run-requires
-repeat-run-requires c κs = search needs
-
-same-length : tie.Need-same-length
-same-length c = search needs
 
 returns-6 : tie.Need-returns-6
 returns-6 c K =
@@ -198,28 +150,28 @@ pub reshape-spec : {M : Type 1} → statement M
 reshape-spec =
     tie.close
     (tie.spec
-    early-two-requires
-    refused-requires
+    (λ c κs. search needs)
+    (λ c κs. search needs)
     returns
     reshape-refusal-requires
-    refused-requires-2
+    (λ c κs. search needs)
     returns-2
-    count-requires
-    refused-requires-3
+    (λ c κs. search needs)
+    (λ c κs. search needs)
     returns-3
-    sub-shape-from
-    part-shape-from-start
+    (λ c. search needs)
+    (λ c. search needs)
     part-shape-from-end
-    shape-from-requires
-    count-requires-2
-    refused-requires-4
+    (λ c κs. search needs)
+    (λ c κs. search needs)
+    (λ c κs. search needs)
     returns-4
-    refused-requires-5
+    (λ c κs. search needs)
     returns-5
-    count-requires-3
-    sub-repeat-run
-    part-repeat-run-start
+    (λ c κs. search needs)
+    (λ c. search needs)
+    (λ c. search needs)
     part-repeat-run-end
-    repeat-run-requires
-    same-length
+    (λ c κs. search needs)
+    (λ c. search needs)
     returns-6)

@@ -34,20 +34,8 @@ test c =
 returns : tie.Need-returns
 returns c R = let st = c .before .before in sym (reshape-rank (of st) R (omega (arith, good st .rank-is)))
 
-count-requires : tie.Need-count-requires
-count-requires c κs = search needs
-
-sub-none-negative : tie.Need-sub-none-negative
-sub-none-negative c = search needs
-
-part-none-negative-start : tie.Need-part-none-negative-start
-part-none-negative-start c = search needs
-
 part-none-negative-end : tie.Need-part-none-negative-end
 part-none-negative-end c = let g = good (c .before .before .before) in omega (arith, g .room, g .count-is, c .count .ensures)
-
-none-negative-requires : tie.Need-none-negative-requires
-none-negative-requires c κs = search needs
 
 returns-2 : tie.Need-returns-2
 returns-2 c R =
@@ -64,10 +52,10 @@ reshape-refusal-spec =
     tie.close
     (tie.spec
     returns
-    count-requires
-    sub-none-negative
-    part-none-negative-start
+    (λ c κs. search needs)
+    (λ c. search needs)
+    (λ c. search needs)
     part-none-negative-end
-    none-negative-requires
+    (λ c κs. search needs)
     returns-2
     returns-3)

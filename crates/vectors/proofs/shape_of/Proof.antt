@@ -23,20 +23,11 @@ fine c =
     let long : length (st .args .rs .lens) ≡ maxRank = search needs in
     fine-one (st .args .g) (st .args .rs) (st .args .r .now) long (sym (early-is (c .before)) ∙ c .if1 .left)
 
-early-one-requires : tie.Need-early-one-requires
-early-one-requires c κs = search needs
-
-refused-requires : tie.Need-refused-requires
-refused-requires c κs = search needs
-
 returns : tie.Need-returns
 returns c K L =
     let st = c .before .before .before in
     replied-refused (c .refused .result) _ (st .args .out .now) (c .refused .ensures)
     (early-reply (shape-names (st .args .g) K L (lent (st .args .rs) (st .args .r .now))) (st .args .out .now) _ (early-is (c .before .before)) (c .before .if1 .taken))
-
-refused-requires-2 : tie.Need-refused-requires-2
-refused-requires-2 c κs = search needs
 
 returns-2 : tie.Need-returns-2
 returns-2 c K L =
@@ -50,12 +41,6 @@ returns-2 c K L =
 
 put-lengths-requires : tie.Need-put-lengths-requires
 put-lengths-requires c κs = (fine (c .before .before) .operand .good, omega arith)
-
-vector-requires : tie.Need-vector-requires
-vector-requires c κs = search needs
-
-same-length : tie.Need-same-length
-same-length c = search needs
 
 returns-3 : tie.Need-returns-3
 returns-3 c K L =
@@ -73,12 +58,12 @@ pub shape-of-spec : {M : Type 1} → statement M
 shape-of-spec =
     tie.close
     (tie.spec
-    early-one-requires
-    refused-requires
+    (λ c κs. search needs)
+    (λ c κs. search needs)
     returns
-    refused-requires-2
+    (λ c κs. search needs)
     returns-2
     put-lengths-requires
-    vector-requires
-    same-length
+    (λ c κs. search needs)
+    (λ c. search needs)
     returns-3)

@@ -5,13 +5,9 @@ use Rattle.answer.proofs.Answer.refused.Reads as reads
 use Rattle.answer.proofs.Answer.refused.Lts as lts
 use Rattle.shape.proofs.Shape.scalar.Reads as scalar-reads
 
--- src/lib.rt:20:13
-scalar-requires : tie.Need-scalar-requires
-scalar-requires c κs = search needs
-
 -- src/lib.rt:17:5
 returns : tie.Need-returns
 returns c = rw (c .scalar .ensures)
 
 pub refused-spec : {M : Type 1} → statement M
-refused-spec = tie.close (tie.spec scalar-requires returns)
+refused-spec = tie.close (tie.spec (λ c κs. search needs) returns)

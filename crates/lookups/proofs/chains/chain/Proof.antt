@@ -32,9 +32,6 @@ key-is c =
     c .position .ensures
     ∙ ap (λ z. cond (within (z -ℤ negsuc 2147483647) 4294967296) (natAbs (z -ℤ negsuc 2147483647)) 4294967296) (read32 _ (c .before .fits .x))
 
-position-requires : tie.Need-position-requires
-position-requires c κs = search needs
-
 mul-result : tie.Need-mul-result
 mul-result c = omega (arith, key-is c, key-small (c .before .args .x))
 
@@ -46,4 +43,4 @@ returns : tie.Need-returns
 returns c = (chain-is c, omega arith)
 
 pub chain-spec : {M : Type 1} → statement M
-chain-spec = tie.close (tie.spec position-requires mul-result returns)
+chain-spec = tie.close (tie.spec (λ c κs. search needs) mul-result returns)

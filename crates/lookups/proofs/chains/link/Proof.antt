@@ -24,42 +24,6 @@ chain-is c = c .chain .ensures .0 ∙ ap chainOf (read32 _ (sfits-of (c .before 
 loop-holds : tie.Need-loop-holds Inv-loop μ-loop
 loop-holds c = (omega arith, (c .pre .1 .0, (c .pre .1 .1 .0, linked-none (c .args .l .now) (c .args .heads .now) (c .args .links .now) (c .pre .1 .1 .1))))
 
-sub-i : tie.Need-sub-i Inv-loop μ-loop
-sub-i c = search needs
-
-mul-chain : tie.Need-mul-chain Inv-loop μ-loop
-mul-chain c = search needs
-
-shared-slice-copy-out-chain : tie.Need-shared-slice-copy-out-chain Inv-loop μ-loop
-shared-slice-copy-out-chain c = search needs
-
-chain-requires : tie.Need-chain-requires Inv-loop μ-loop
-chain-requires c κs = search needs
-
-mul-links : tie.Need-mul-links Inv-loop μ-loop
-mul-links c = search needs
-
-element-copy-out-links : tie.Need-element-copy-out-links Inv-loop μ-loop
-element-copy-out-links c = search needs
-
-mul-links-2 : tie.Need-mul-links-2 Inv-loop μ-loop
-mul-links-2 c = search needs
-
-element-write-links : tie.Need-element-write-links Inv-loop μ-loop
-element-write-links c = search needs
-
-cast-heads : tie.Need-cast-heads Inv-loop μ-loop
-cast-heads c = search needs
-
-mul-heads : tie.Need-mul-heads Inv-loop μ-loop
-mul-heads c = search needs
-
-element-write-heads : tie.Need-element-write-heads Inv-loop μ-loop
-element-write-heads c = search needs
-
-loop-less : tie.Need-loop-less Inv-loop μ-loop
-loop-less c = search needs
-
 loop-again : tie.Need-loop-again Inv-loop μ-loop
 loop-again c =
     let lp = c .before .before .before .before in
@@ -88,17 +52,17 @@ link-spec =
     Inv-loop
     μ-loop
     loop-holds
-    sub-i
-    mul-chain
-    shared-slice-copy-out-chain
-    chain-requires
-    mul-links
-    element-copy-out-links
-    mul-links-2
-    element-write-links
-    cast-heads
-    mul-heads
-    element-write-heads
-    loop-less
+    (λ c. search needs)
+    (λ c. search needs)
+    (λ c. search needs)
+    (λ c κs. search needs)
+    (λ c. search needs)
+    (λ c. search needs)
+    (λ c. search needs)
+    (λ c. search needs)
+    (λ c. search needs)
+    (λ c. search needs)
+    (λ c. search needs)
+    (λ c. search needs)
     loop-again
     returns)

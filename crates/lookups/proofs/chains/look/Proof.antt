@@ -31,32 +31,11 @@ same-is c =
 found : (st : tie.Start Inv-loop μ-loop) (n : ℕ) → n ≡ firstAt (sought st) (st .args .l .now) → n ≡ firstAt (st .args .x) (st .args .l .now)
 found st n e = e ∙ ap (λ z. firstAt z (st .args .l .now)) (read32 (st .args .x) (st .fits .x))
 
-chain-requires : tie.Need-chain-requires Inv-loop μ-loop
-chain-requires c κs = search needs
-
-mul-wide : tie.Need-mul-wide Inv-loop μ-loop
-mul-wide c = search needs
-
-element-copy-out-wide : tie.Need-element-copy-out-wide Inv-loop μ-loop
-element-copy-out-wide c = search needs
-
-wide-requires : tie.Need-wide-requires Inv-loop μ-loop
-wide-requires c κs = search needs
-
 loop-holds : tie.Need-loop-holds Inv-loop μ-loop
 loop-holds c =
     let st = c .before .before .before in
     rw (c .wide .ensures ∙ ap (λ h. getD (st .args .heads .now) h 0) (c .before .before .chain .ensures .0))
     (come-first (st .args .l .now) (sought st) (st .args .heads .now) (st .args .links .now) (st .pre .1))
-
-mul-same : tie.Need-mul-same Inv-loop μ-loop
-mul-same c = search needs
-
-shared-slice-copy-out-same : tie.Need-shared-slice-copy-out-same Inv-loop μ-loop
-shared-slice-copy-out-same c = search needs
-
-same-requires : tie.Need-same-requires Inv-loop μ-loop
-same-requires c κs = search needs
 
 returns : tie.Need-returns Inv-loop μ-loop
 returns c =
@@ -64,23 +43,8 @@ returns c =
     let st = lp .before .before .before .before in
     found st (lp .loop .p) (come-here (st .args .l .now) (sought st) (lp .loop .p) (lp .loop .inv) (omega arith) (sym (same-is (c .before)) ∙ c .if1 .taken))
 
-position-from-requires : tie.Need-position-from-requires Inv-loop μ-loop
-position-from-requires c κs = search needs
-
 returns-2 : tie.Need-returns-2 Inv-loop μ-loop
 returns-2 c = let st = c .before .before .before .before .before .before .before .before .before .before in found st (c .position-from .result) (omega (arith, c .position-from .ensures))
-
-sub-left : tie.Need-sub-left Inv-loop μ-loop
-sub-left c = search needs
-
-mul-wide-2 : tie.Need-mul-wide-2 Inv-loop μ-loop
-mul-wide-2 c = search needs
-
-element-copy-out-wide-2 : tie.Need-element-copy-out-wide-2 Inv-loop μ-loop
-element-copy-out-wide-2 c = search needs
-
-wide-requires-2 : tie.Need-wide-requires-2 Inv-loop μ-loop
-wide-requires-2 c κs = search needs
 
 loop-less : tie.Need-loop-less Inv-loop μ-loop
 loop-less c =
@@ -108,21 +72,21 @@ look-spec =
     (tie.spec
     Inv-loop
     μ-loop
-    chain-requires
-    mul-wide
-    element-copy-out-wide
-    wide-requires
+    (λ c κs. search needs)
+    (λ c. search needs)
+    (λ c. search needs)
+    (λ c κs. search needs)
     loop-holds
-    mul-same
-    shared-slice-copy-out-same
-    same-requires
+    (λ c. search needs)
+    (λ c. search needs)
+    (λ c κs. search needs)
     returns
-    position-from-requires
+    (λ c κs. search needs)
     returns-2
-    sub-left
-    mul-wide-2
-    element-copy-out-wide-2
-    wide-requires-2
+    (λ c. search needs)
+    (λ c. search needs)
+    (λ c. search needs)
+    (λ c κs. search needs)
     loop-less
     loop-again
     returns-3)

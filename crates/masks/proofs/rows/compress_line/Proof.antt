@@ -37,22 +37,6 @@ room c =
 loop-holds : tie.Need-loop-holds Inv-loop μ-loop
 loop-holds c = kept-none _ _ 1 _
 
--- src/rows.rt:23:12
-mul-if1 : tie.Need-mul-if1 Inv-loop μ-loop
-mul-if1 c = search needs
-
--- src/rows.rt:23:12
-shared-slice-copy-out-if1 : tie.Need-shared-slice-copy-out-if1 Inv-loop μ-loop
-shared-slice-copy-out-if1 c = search needs
-
--- src/rows.rt:24:23
-mul-out : tie.Need-mul-out Inv-loop μ-loop
-mul-out c = search needs
-
--- src/rows.rt:24:23
-shared-slice-copy-out-out : tie.Need-shared-slice-copy-out-out Inv-loop μ-loop
-shared-slice-copy-out-out c = search needs
-
 -- src/rows.rt:24:13
 mul-t13 : tie.Need-mul-t13 Inv-loop μ-loop
 mul-t13 c = omega (arith, room (c .before))
@@ -64,14 +48,6 @@ slice-set-from-out c = omega (arith, room (c .before))
 -- src/rows.rt:25:13
 add-to : tie.Need-add-to Inv-loop μ-loop
 add-to c = omega (arith, room (c .before))
-
--- src/rows.rt:27:9
-add-i : tie.Need-add-i Inv-loop μ-loop
-add-i c = search needs
-
--- src/rows.rt:22:5
-loop-less : tie.Need-loop-less Inv-loop μ-loop
-loop-less c = search needs
 
 -- src/rows.rt:22:5
 loop-again : tie.Need-loop-again Inv-loop μ-loop
@@ -87,10 +63,6 @@ loop-again c =
     (c .if1 .came)
 
 -- src/rows.rt:12:1
-same-length : tie.Need-same-length Inv-loop μ-loop
-same-length c = search needs
-
--- src/rows.rt:12:1
 returns : tie.Need-returns Inv-loop μ-loop
 returns c =
     let st = c .before .before in
@@ -103,15 +75,15 @@ compress-line-spec =
     Inv-loop
     μ-loop
     loop-holds
-    mul-if1
-    shared-slice-copy-out-if1
-    mul-out
-    shared-slice-copy-out-out
+    (λ c. search needs)
+    (λ c. search needs)
+    (λ c. search needs)
+    (λ c. search needs)
     mul-t13
     slice-set-from-out
     add-to
-    add-i
-    loop-less
+    (λ c. search needs)
+    (λ c. search needs)
     loop-again
-    same-length
+    (λ c. search needs)
     returns)

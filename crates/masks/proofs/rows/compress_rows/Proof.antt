@@ -47,18 +47,6 @@ loop-holds c = (omega arith, kept-none _ _ _ _)
 add-stop : tie.Need-add-stop Inv-loop μ-loop
 add-stop c = omega (arith, inside c)
 
--- src/rows.rt:45:27
-mul-is-one : tie.Need-mul-is-one Inv-loop μ-loop
-mul-is-one c = search needs
-
--- src/rows.rt:45:27
-shared-slice-copy-out-is-one : tie.Need-shared-slice-copy-out-is-one Inv-loop μ-loop
-shared-slice-copy-out-is-one c = search needs
-
--- src/rows.rt:45:12
-is-one-requires : tie.Need-is-one-requires Inv-loop μ-loop
-is-one-requires c κs = search needs
-
 -- src/rows.rt:46:23
 add-end : tie.Need-add-end Inv-loop μ-loop
 add-end c = omega (arith, room c)
@@ -66,14 +54,6 @@ add-end c = omega (arith, room c)
 -- src/rows.rt:47:31
 mul-copy-run : tie.Need-mul-copy-run Inv-loop μ-loop
 mul-copy-run c = omega (arith, inside (c .before .before .before))
-
--- src/rows.rt:47:31
-sub-copy-run : tie.Need-sub-copy-run Inv-loop μ-loop
-sub-copy-run c = search needs
-
--- src/rows.rt:47:31
-part-copy-run-start : tie.Need-part-copy-run-start Inv-loop μ-loop
-part-copy-run-start c = search needs
 
 -- src/rows.rt:47:31
 part-copy-run-end : tie.Need-part-copy-run-end Inv-loop μ-loop
@@ -84,28 +64,8 @@ mul-copy-run-2 : tie.Need-mul-copy-run-2 Inv-loop μ-loop
 mul-copy-run-2 c = omega (arith, room (c .before))
 
 -- src/rows.rt:47:47
-sub-copy-run-2 : tie.Need-sub-copy-run-2 Inv-loop μ-loop
-sub-copy-run-2 c = search needs
-
--- src/rows.rt:47:47
-part-copy-run-start-2 : tie.Need-part-copy-run-start-2 Inv-loop μ-loop
-part-copy-run-start-2 c = search needs
-
--- src/rows.rt:47:47
 part-copy-run-end-2 : tie.Need-part-copy-run-end-2 Inv-loop μ-loop
 part-copy-run-end-2 c = let lp = c .before .before .before .before .before .loop in omega (arith, room (c .before), lp .inv .1 .long)
-
--- src/rows.rt:47:13
-copy-run-requires : tie.Need-copy-run-requires Inv-loop μ-loop
-copy-run-requires c κs = search needs
-
--- src/rows.rt:51:9
-add-i : tie.Need-add-i Inv-loop μ-loop
-add-i c = search needs
-
--- src/rows.rt:43:5
-loop-less : tie.Need-loop-less Inv-loop μ-loop
-loop-less c = search needs
 
 -- src/rows.rt:43:5
 loop-again : tie.Need-loop-again Inv-loop μ-loop
@@ -140,21 +100,21 @@ compress-rows-spec =
     μ-loop
     loop-holds
     add-stop
-    mul-is-one
-    shared-slice-copy-out-is-one
-    is-one-requires
+    (λ c. search needs)
+    (λ c. search needs)
+    (λ c κs. search needs)
     add-end
     mul-copy-run
-    sub-copy-run
-    part-copy-run-start
+    (λ c. search needs)
+    (λ c. search needs)
     part-copy-run-end
     mul-copy-run-2
-    sub-copy-run-2
-    part-copy-run-start-2
+    (λ c. search needs)
+    (λ c. search needs)
     part-copy-run-end-2
-    copy-run-requires
-    add-i
-    loop-less
+    (λ c κs. search needs)
+    (λ c. search needs)
+    (λ c. search needs)
     loop-again
     same-length
     returns)

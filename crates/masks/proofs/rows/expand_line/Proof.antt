@@ -37,14 +37,6 @@ inside c =
 loop-holds : tie.Need-loop-holds Inv-loop μ-loop
 loop-holds c = opened-none _ _ 1 _
 
--- src/rows.rt:87:12
-mul-if1 : tie.Need-mul-if1 Inv-loop μ-loop
-mul-if1 c = search needs
-
--- src/rows.rt:87:12
-shared-slice-copy-out-if1 : tie.Need-shared-slice-copy-out-if1 Inv-loop μ-loop
-shared-slice-copy-out-if1 c = search needs
-
 -- src/rows.rt:88:22
 mul-out : tie.Need-mul-out Inv-loop μ-loop
 mul-out c = omega (arith, inside c)
@@ -53,33 +45,9 @@ mul-out c = omega (arith, inside c)
 shared-slice-copy-out-out : tie.Need-shared-slice-copy-out-out Inv-loop μ-loop
 shared-slice-copy-out-out c = inside c
 
--- src/rows.rt:88:13
-mul-t13 : tie.Need-mul-t13 Inv-loop μ-loop
-mul-t13 c = search needs
-
--- src/rows.rt:88:13
-slice-set-from-out : tie.Need-slice-set-from-out Inv-loop μ-loop
-slice-set-from-out c = search needs
-
 -- src/rows.rt:89:13
 add-from : tie.Need-add-from Inv-loop μ-loop
 add-from c = omega (arith, inside (c .before))
-
--- src/rows.rt:91:13
-mul-out-2 : tie.Need-mul-out-2 Inv-loop μ-loop
-mul-out-2 c = search needs
-
--- src/rows.rt:91:13
-slice-set-of-out : tie.Need-slice-set-of-out Inv-loop μ-loop
-slice-set-of-out c = search needs
-
--- src/rows.rt:93:9
-add-i : tie.Need-add-i Inv-loop μ-loop
-add-i c = search needs
-
--- src/rows.rt:86:5
-loop-less : tie.Need-loop-less Inv-loop μ-loop
-loop-less c = search needs
 
 -- src/rows.rt:86:5
 loop-again : tie.Need-loop-again Inv-loop μ-loop
@@ -111,17 +79,17 @@ expand-line-spec =
     Inv-loop
     μ-loop
     loop-holds
-    mul-if1
-    shared-slice-copy-out-if1
+    (λ c. search needs)
+    (λ c. search needs)
     mul-out
     shared-slice-copy-out-out
-    mul-t13
-    slice-set-from-out
+    (λ c. search needs)
+    (λ c. search needs)
     add-from
-    mul-out-2
-    slice-set-of-out
-    add-i
-    loop-less
+    (λ c. search needs)
+    (λ c. search needs)
+    (λ c. search needs)
+    (λ c. search needs)
     loop-again
     same-length
     returns)

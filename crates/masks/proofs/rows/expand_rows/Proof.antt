@@ -46,18 +46,6 @@ loop-holds c = opened-none _ _ _ _
 add-end : tie.Need-add-end Inv-loop μ-loop
 add-end c = omega (arith, room c)
 
--- src/rows.rt:112:27
-mul-is-one : tie.Need-mul-is-one Inv-loop μ-loop
-mul-is-one c = search needs
-
--- src/rows.rt:112:27
-shared-slice-copy-out-is-one : tie.Need-shared-slice-copy-out-is-one Inv-loop μ-loop
-shared-slice-copy-out-is-one c = search needs
-
--- src/rows.rt:112:12
-is-one-requires : tie.Need-is-one-requires Inv-loop μ-loop
-is-one-requires c κs = search needs
-
 -- src/rows.rt:113:24
 add-stop : tie.Need-add-stop Inv-loop μ-loop
 add-stop c = omega (arith, inside c)
@@ -65,14 +53,6 @@ add-stop c = omega (arith, inside c)
 -- src/rows.rt:114:31
 mul-copy-run : tie.Need-mul-copy-run Inv-loop μ-loop
 mul-copy-run c = omega (arith, inside c)
-
--- src/rows.rt:114:31
-sub-copy-run : tie.Need-sub-copy-run Inv-loop μ-loop
-sub-copy-run c = search needs
-
--- src/rows.rt:114:31
-part-copy-run-start : tie.Need-part-copy-run-start Inv-loop μ-loop
-part-copy-run-start c = search needs
 
 -- src/rows.rt:114:31
 part-copy-run-end : tie.Need-part-copy-run-end Inv-loop μ-loop
@@ -83,48 +63,16 @@ mul-copy-run-2 : tie.Need-mul-copy-run-2 Inv-loop μ-loop
 mul-copy-run-2 c = omega (arith, room (c .before .before .before .before))
 
 -- src/rows.rt:114:47
-sub-copy-run-2 : tie.Need-sub-copy-run-2 Inv-loop μ-loop
-sub-copy-run-2 c = search needs
-
--- src/rows.rt:114:47
-part-copy-run-start-2 : tie.Need-part-copy-run-start-2 Inv-loop μ-loop
-part-copy-run-start-2 c = search needs
-
--- src/rows.rt:114:47
 part-copy-run-end-2 : tie.Need-part-copy-run-end-2 Inv-loop μ-loop
 part-copy-run-end-2 c = let lp = c .before .before .before .before .before .loop in omega (arith, room (c .before .before .before .before), lp .inv .long)
-
--- src/rows.rt:114:13
-copy-run-requires : tie.Need-copy-run-requires Inv-loop μ-loop
-copy-run-requires c κs = search needs
 
 -- src/rows.rt:117:34
 mul-fill-run : tie.Need-mul-fill-run Inv-loop μ-loop
 mul-fill-run c = omega (arith, room (c .before .before .before))
 
 -- src/rows.rt:117:34
-sub-fill-run : tie.Need-sub-fill-run Inv-loop μ-loop
-sub-fill-run c = search needs
-
--- src/rows.rt:117:34
-part-fill-run-start : tie.Need-part-fill-run-start Inv-loop μ-loop
-part-fill-run-start c = search needs
-
--- src/rows.rt:117:34
 part-fill-run-end : tie.Need-part-fill-run-end Inv-loop μ-loop
 part-fill-run-end c = let lp = c .before .before .before .before .loop in omega (arith, room (c .before .before .before), lp .inv .long)
-
--- src/rows.rt:117:13
-fill-run-requires : tie.Need-fill-run-requires Inv-loop μ-loop
-fill-run-requires c κs = search needs
-
--- src/rows.rt:120:9
-add-i : tie.Need-add-i Inv-loop μ-loop
-add-i c = search needs
-
--- src/rows.rt:110:5
-loop-less : tie.Need-loop-less Inv-loop μ-loop
-loop-less c = search needs
 
 -- src/rows.rt:110:5
 loop-again : tie.Need-loop-again Inv-loop μ-loop
@@ -157,26 +105,26 @@ expand-rows-spec =
     μ-loop
     loop-holds
     add-end
-    mul-is-one
-    shared-slice-copy-out-is-one
-    is-one-requires
+    (λ c. search needs)
+    (λ c. search needs)
+    (λ c κs. search needs)
     add-stop
     mul-copy-run
-    sub-copy-run
-    part-copy-run-start
+    (λ c. search needs)
+    (λ c. search needs)
     part-copy-run-end
     mul-copy-run-2
-    sub-copy-run-2
-    part-copy-run-start-2
+    (λ c. search needs)
+    (λ c. search needs)
     part-copy-run-end-2
-    copy-run-requires
+    (λ c κs. search needs)
     mul-fill-run
-    sub-fill-run
-    part-fill-run-start
+    (λ c. search needs)
+    (λ c. search needs)
     part-fill-run-end
-    fill-run-requires
-    add-i
-    loop-less
+    (λ c κs. search needs)
+    (λ c. search needs)
+    (λ c. search needs)
     loop-again
     same-length
     returns)

@@ -25,18 +25,6 @@ room c =
     let a = c .before .before .before .args in
     repeated-room _ (a .m) (a .inner) _ (omega arith) (lp .out) (lp .to) (lp .i) (lp .inv) (omega arith)
 
--- src/rows.rt:61:27
-shared-slice-copy-out-fill-run : tie.Need-shared-slice-copy-out-fill-run Inv-loop μ-loop
-shared-slice-copy-out-fill-run c = search needs
-
--- src/rows.rt:61:9
-fill-run-requires : tie.Need-fill-run-requires Inv-loop μ-loop
-fill-run-requires c κs = search needs
-
--- src/rows.rt:62:9
-same-length : tie.Need-same-length Inv-loop μ-loop
-same-length c = search needs
-
 -- src/rows.rt:62:9
 returns : tie.Need-returns Inv-loop μ-loop
 returns c =
@@ -58,28 +46,8 @@ mul-copy-run : tie.Need-mul-copy-run Inv-loop μ-loop
 mul-copy-run c = omega (arith, room c)
 
 -- src/rows.rt:68:30
-sub-copy-run : tie.Need-sub-copy-run Inv-loop μ-loop
-sub-copy-run c = search needs
-
--- src/rows.rt:68:30
-part-copy-run-start : tie.Need-part-copy-run-start Inv-loop μ-loop
-part-copy-run-start c = search needs
-
--- src/rows.rt:68:30
 part-copy-run-end : tie.Need-part-copy-run-end Inv-loop μ-loop
 part-copy-run-end c = let lp = c .before .loop in omega (arith, room c, lp .inv .long)
-
--- src/rows.rt:68:9
-copy-run-requires : tie.Need-copy-run-requires Inv-loop μ-loop
-copy-run-requires c κs = search needs
-
--- src/rows.rt:70:9
-add-i : tie.Need-add-i Inv-loop μ-loop
-add-i c = search needs
-
--- src/rows.rt:66:5
-loop-less : tie.Need-loop-less Inv-loop μ-loop
-loop-less c = search needs
 
 -- src/rows.rt:66:5
 loop-again : tie.Need-loop-again Inv-loop μ-loop
@@ -103,19 +71,19 @@ repeat-row-spec =
     (tie.spec
     Inv-loop
     μ-loop
-    shared-slice-copy-out-fill-run
-    fill-run-requires
-    same-length
+    (λ c. search needs)
+    (λ c κs. search needs)
+    (λ c. search needs)
     returns
     loop-holds
     add-end
     mul-copy-run
-    sub-copy-run
-    part-copy-run-start
+    (λ c. search needs)
+    (λ c. search needs)
     part-copy-run-end
-    copy-run-requires
-    add-i
-    loop-less
+    (λ c κs. search needs)
+    (λ c. search needs)
+    (λ c. search needs)
     loop-again
     same-length-2
     returns-2)

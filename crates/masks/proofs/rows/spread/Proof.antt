@@ -34,38 +34,6 @@ other c = test-other _ (sfits-of (c .before .if12 .given)) (c .if1 .left)
 loop-holds : tie.Need-loop-holds Inv-loop μ-loop
 loop-holds c = (omega arith, (refl, filled-none _ _))
 
--- src/rows.rt:135:12
-mul-if1 : tie.Need-mul-if1 Inv-loop μ-loop
-mul-if1 c = search needs
-
--- src/rows.rt:135:12
-shared-slice-copy-out-if1 : tie.Need-shared-slice-copy-out-if1 Inv-loop μ-loop
-shared-slice-copy-out-if1 c = search needs
-
--- src/rows.rt:136:13
-mul-x : tie.Need-mul-x Inv-loop μ-loop
-mul-x c = search needs
-
--- src/rows.rt:136:13
-slice-set-from-x : tie.Need-slice-set-from-x Inv-loop μ-loop
-slice-set-from-x c = search needs
-
--- src/rows.rt:138:13
-mul-out : tie.Need-mul-out Inv-loop μ-loop
-mul-out c = search needs
-
--- src/rows.rt:138:13
-slice-set-of-out : tie.Need-slice-set-of-out Inv-loop μ-loop
-slice-set-of-out c = search needs
-
--- src/rows.rt:140:9
-add-i : tie.Need-add-i Inv-loop μ-loop
-add-i c = search needs
-
--- src/rows.rt:134:5
-loop-less : tie.Need-loop-less Inv-loop μ-loop
-loop-less c = search needs
-
 -- src/rows.rt:134:5
 loop-again : tie.Need-loop-again Inv-loop μ-loop
 loop-again c =
@@ -108,14 +76,14 @@ spread-spec =
     Inv-loop
     μ-loop
     loop-holds
-    mul-if1
-    shared-slice-copy-out-if1
-    mul-x
-    slice-set-from-x
-    mul-out
-    slice-set-of-out
-    add-i
-    loop-less
+    (λ c. search needs)
+    (λ c. search needs)
+    (λ c. search needs)
+    (λ c. search needs)
+    (λ c. search needs)
+    (λ c. search needs)
+    (λ c. search needs)
+    (λ c. search needs)
     loop-again
     same-length
     returns)

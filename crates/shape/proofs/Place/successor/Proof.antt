@@ -6,17 +6,8 @@ use Rattle.shape.proofs.Successor.{successor-marked, successor-bad, suc
 use Rattle.shape.proofs.Place.successor.Statement.{statement}
 use Rattle.shape.proofs.Place.successor.Tie as tie
 
-at-end-requires : tie.Need-at-end-requires
-at-end-requires c κs = search needs
-
 returns : tie.Need-returns
 returns c = c .at-end .ensures ∙ sym (successor-marked (c .before .before .args .self) (c .before .before .args .s) (c .before .if1 .taken))
-
-count-requires : tie.Need-count-requires
-count-requires c κs = search needs
-
-at-end-requires-2 : tie.Need-at-end-requires-2
-at-end-requires-2 c κs = search needs
 
 returns-2 : tie.Need-returns-2
 returns-2 c =
@@ -32,12 +23,6 @@ stepped-requires c κs = (
   (good-count (c .before .before .before .before .before .args .s) (omega arith), sym (c .before .within .ensures) ∙ c .if3 .taken),
 )
 
-at-end-requires-3 : tie.Need-at-end-requires-3
-at-end-requires-3 c κs = search needs
-
-returns-3 : tie.Need-returns-3
-returns-3 c = search needs
-
 returns-4 : tie.Need-returns-4
 returns-4 c =
     let a = c .before .before .before .before .before .before .args in
@@ -47,13 +32,13 @@ pub successor-spec : {M : Type 1} → statement M
 successor-spec =
     tie.close
     (tie.spec
-    at-end-requires
+    (λ c κs. search needs)
     returns
-    count-requires
-    at-end-requires-2
+    (λ c κs. search needs)
+    (λ c κs. search needs)
     returns-2
     within-requires
     stepped-requires
-    at-end-requires-3
-    returns-3
+    (λ c κs. search needs)
+    (λ c. search needs)
     returns-4)

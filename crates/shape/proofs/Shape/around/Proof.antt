@@ -16,26 +16,6 @@ returns c = around-high (c .before .before .args .self) (c .before .before .args
 returns-2 : tie.Need-returns-2
 returns-2 c = around-past (c .before .before .before .args .self) (c .before .before .before .args .k) (omega arith) (omega arith)
 
--- src/lib.rt:104:13
-held-count-requires : tie.Need-held-count-requires
-held-count-requires c κs = search needs
-
--- src/lib.rt:105:22
-mul-length : tie.Need-mul-length
-mul-length c = search needs
-
--- src/lib.rt:105:22
-array-read-length : tie.Need-array-read-length
-array-read-length c = search needs
-
--- src/lib.rt:106:38
-add-held-count : tie.Need-add-held-count
-add-held-count c = search needs
-
--- src/lib.rt:106:13
-held-count-requires-2 : tie.Need-held-count-requires-2
-held-count-requires-2 c κs = search needs
-
 -- src/lib.rt:85:5
 returns-3 : tie.Need-returns-3
 returns-3 c =
@@ -48,9 +28,9 @@ around-spec =
     (tie.spec
     returns
     returns-2
-    held-count-requires
-    mul-length
-    array-read-length
-    add-held-count
-    held-count-requires-2
+    (λ c κs. search needs)
+    (λ c. search needs)
+    (λ c. search needs)
+    (λ c. search needs)
+    (λ c κs. search needs)
     returns-3)

@@ -20,24 +20,12 @@ Inv-loop self rank total₀ i₀ total i =
 abbrev μ-loop : tie.MeasureT-loop
 μ-loop self rank total₀ i₀ total i = rank - i
 
-add-result : tie.Need-add-result Inv-loop μ-loop
-add-result c = search needs
-
 returns : tie.Need-returns Inv-loop μ-loop
 returns c = sym (count-high-rank (c .before .args .t1) (omega arith))
 
 loop-holds : tie.Need-loop-holds Inv-loop μ-loop
 unfolding count small
 loop-holds c = search needs
-
-mul-n : tie.Need-mul-n Inv-loop μ-loop
-mul-n c = search needs
-
-element-copy-out-n : tie.Need-element-copy-out-n Inv-loop μ-loop
-element-copy-out-n c = search needs
-
-add-result-2 : tie.Need-add-result-2 Inv-loop μ-loop
-add-result-2 c = search needs
 
 returns-2 : tie.Need-returns-2 Inv-loop μ-loop
 returns-2 c =
@@ -47,15 +35,6 @@ returns-2 c =
     let here : i < length (counted s) = rw (length-take-le (s .rank) (s .lens) (omega arith)) (omega arith) in
     let over : maxCount < getD (counted s) i 0 = rw (getD-take (s .rank) (s .lens) i 0 (omega arith)) (omega arith) in
     sym (count-long-axis s (small-not (counted s) i here over))
-
-capped-requires : tie.Need-capped-requires Inv-loop μ-loop
-capped-requires c κs = search needs
-
-add-i : tie.Need-add-i Inv-loop μ-loop
-add-i c = search needs
-
-loop-less : tie.Need-loop-less Inv-loop μ-loop
-loop-less c = search needs
 
 loop-again : tie.Need-loop-again Inv-loop μ-loop
 loop-again c =
@@ -85,15 +64,15 @@ count-spec =
     (tie.spec
     Inv-loop
     μ-loop
-    add-result
+    (λ c. search needs)
     returns
     loop-holds
-    mul-n
-    element-copy-out-n
-    add-result-2
+    (λ c. search needs)
+    (λ c. search needs)
+    (λ c. search needs)
     returns-2
-    capped-requires
-    add-i
-    loop-less
+    (λ c κs. search needs)
+    (λ c. search needs)
+    (λ c. search needs)
     loop-again
     returns-3)

@@ -8,14 +8,8 @@ use Rattle.shape.specs.Shape.{maxRank}
 use Rattle.shape.proofs.Shape.of_lengths.Statement.{statement}
 use Rattle.shape.proofs.Shape.of_lengths.Tie as tie
 
-scalar-requires : tie.Need-scalar-requires
-scalar-requires c κs = search needs
-
 returns : tie.Need-returns
 returns c = rw (lt-leb (c .before .before .args .rank) maxRank (omega arith)) (c .scalar .ensures)
-
-cleared-requires : tie.Need-cleared-requires
-cleared-requires c κs = search needs
 
 returns-2 : tie.Need-returns-2
 returns-2 c =
@@ -24,4 +18,4 @@ returns-2 c =
     rw (le-leb (a .rank) maxRank (omega arith), length-take-le (a .rank) (a .lens) (omega arith), c .cleared .ensures)
 
 pub of-lengths-spec : {M : Type 1} → statement M
-of-lengths-spec = tie.close (tie.spec scalar-requires returns cleared-requires returns-2)
+of-lengths-spec = tie.close (tie.spec (λ c κs. search needs) returns (λ c κs. search needs) returns-2)

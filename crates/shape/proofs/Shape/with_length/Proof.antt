@@ -12,26 +12,11 @@ use Rattle.shape.proofs.Shape.with_length.Reads as reads
 use Rattle.shape.proofs.Shape.with_length.Lts as lts
 use Rattle.shape.proofs.Shape.of_lengths.Reads as of-lengths-reads
 
-scalar-requires : tie.Need-scalar-requires
-scalar-requires c κs = search needs
-
 returns : tie.Need-returns
 returns c = let a = c .before .before .before .args in c .scalar .ensures ∙ with-length-high (a .self) (a .k) (a .n) (omega arith)
 
-scalar-requires-2 : tie.Need-scalar-requires-2
-scalar-requires-2 c κs = search needs
-
 returns-2 : tie.Need-returns-2
 returns-2 c = let a = c .before .before .before .before .before .args in c .scalar2 .ensures ∙ with-length-past (a .self) (a .k) (a .n) (omega arith) (omega arith)
-
-mul-lens : tie.Need-mul-lens
-mul-lens c = search needs
-
-array-write-lens : tie.Need-array-write-lens
-array-write-lens c = search needs
-
-of-lengths-requires : tie.Need-of-lengths-requires
-of-lengths-requires c κs = search needs
 
 returns-3 : tie.Need-returns-3
 returns-3 c =
@@ -44,4 +29,4 @@ returns-3 c =
     ∙ sym (with-length-is s (a .k) (a .n) high on)
 
 pub with-length-spec : {M : Type 1} → statement M
-with-length-spec = tie.close (tie.spec scalar-requires returns scalar-requires-2 returns-2 mul-lens array-write-lens of-lengths-requires returns-3)
+with-length-spec = tie.close (tie.spec (λ c κs. search needs) returns (λ c κs. search needs) returns-2 (λ c. search needs) (λ c. search needs) (λ c κs. search needs) returns-3)

@@ -18,44 +18,14 @@ Inv-loop k last lens₀ i₀ lens i = (k ≤ i) × ((i ≤ last) × (lens ≡ sh
 abbrev μ-loop : tie.MeasureT-loop
 μ-loop k last lens₀ i₀ lens i = last - i
 
-scalar-requires : tie.Need-scalar-requires Inv-loop μ-loop
-scalar-requires c κs = search needs
-
 returns : tie.Need-returns Inv-loop μ-loop
 returns c = let a = c .before .before .before .args in c .scalar .ensures ∙ without-axis-high (a .self) (a .k) (omega arith)
-
-scalar-requires-2 : tie.Need-scalar-requires-2 Inv-loop μ-loop
-scalar-requires-2 c κs = search needs
 
 returns-2 : tie.Need-returns-2 Inv-loop μ-loop
 returns-2 c = let a = c .before .before .before .before .before .args in c .scalar2 .ensures ∙ without-axis-past (a .self) (a .k) (omega arith) (omega arith)
 
-sub-last : tie.Need-sub-last Inv-loop μ-loop
-sub-last c = search needs
-
 loop-holds : tie.Need-loop-holds Inv-loop μ-loop
 loop-holds c = (omega arith, (omega arith, shifted-none (c .before .before .before .before .before .before .args .self .lens) (c .before .before .before .before .before .before .args .k)))
-
-add-lens : tie.Need-add-lens Inv-loop μ-loop
-add-lens c = search needs
-
-mul-lens : tie.Need-mul-lens Inv-loop μ-loop
-mul-lens c = search needs
-
-array-read-lens : tie.Need-array-read-lens Inv-loop μ-loop
-array-read-lens c = search needs
-
-mul-lens-2 : tie.Need-mul-lens-2 Inv-loop μ-loop
-mul-lens-2 c = search needs
-
-array-write-lens : tie.Need-array-write-lens Inv-loop μ-loop
-array-write-lens c = search needs
-
-add-i : tie.Need-add-i Inv-loop μ-loop
-add-i c = search needs
-
-loop-less : tie.Need-loop-less Inv-loop μ-loop
-loop-less c = search needs
 
 loop-again : tie.Need-loop-again Inv-loop μ-loop
 loop-again c =
@@ -63,9 +33,6 @@ loop-again c =
     let lp = c .before .loop in
     let long : length (st .args .self .lens) ≡ maxRank = search needs in
     (omega arith, (omega arith, shifted-more (st .args .self .lens) (st .args .k) (lp .i) (lp .inv .0) (omega arith) (lp .lens) _ (lp .inv .1 .1) refl))
-
-of-lengths-requires : tie.Need-of-lengths-requires Inv-loop μ-loop
-of-lengths-requires c κs = search needs
 
 returns-3 : tie.Need-returns-3 Inv-loop μ-loop
 returns-3 c =
@@ -85,19 +52,19 @@ without-axis-spec =
     (tie.spec
     Inv-loop
     μ-loop
-    scalar-requires
+    (λ c κs. search needs)
     returns
-    scalar-requires-2
+    (λ c κs. search needs)
     returns-2
-    sub-last
+    (λ c. search needs)
     loop-holds
-    add-lens
-    mul-lens
-    array-read-lens
-    mul-lens-2
-    array-write-lens
-    add-i
-    loop-less
+    (λ c. search needs)
+    (λ c. search needs)
+    (λ c. search needs)
+    (λ c. search needs)
+    (λ c. search needs)
+    (λ c. search needs)
+    (λ c. search needs)
     loop-again
-    of-lengths-requires
+    (λ c κs. search needs)
     returns-3)

@@ -11,30 +11,6 @@ use borrow.Author.Needs.{needs}
 use Rattle.sheet_answer.proofs.answer.print_array.Statement.{statement}
 use Rattle.sheet_answer.proofs.answer.print_array.Tie as tie
 
-width-requires : tie.Need-width-requires
-width-requires c κs = search needs
-
-width-requires-2 : tie.Need-width-requires-2
-width-requires-2 c κs = search needs
-
-add-need : tie.Need-add-need
-add-need c = search needs
-
-lengths-width-requires : tie.Need-lengths-width-requires
-lengths-width-requires c κs = search needs
-
-add-need-2 : tie.Need-add-need-2
-add-need-2 c = search needs
-
-elements-width-requires : tie.Need-elements-width-requires
-elements-width-requires c κs = search needs
-
-add-need-3 : tie.Need-add-need-3
-add-need-3 c = search needs
-
-add-need-4 : tie.Need-add-need-4
-add-need-4 c = search needs
-
 returns : tie.Need-returns
 returns c =
     let st = c .before .before .before .before .before .before .before in
@@ -43,28 +19,10 @@ returns c =
     no-room (okLine (st .args .line) (record { lengths = ns; elements = zs })) (st .args .text .now)
     (omega (arith, ok-length (st .args .line) ns zs, c .before .before .before .before .width .ensures .0, c .before .before .before .width2 .ensures .0, c .before .before .lengths-width .ensures .0, c .before .elements-width .ensures .0))
 
-put-byte-requires : tie.Need-put-byte-requires
-put-byte-requires c κs = search needs
-
-digit-pairs-requires : tie.Need-digit-pairs-requires
-digit-pairs-requires c κs = search needs
-
 put-elements-requires : tie.Need-put-elements-requires
 put-elements-requires c κs =
     let e = c .before .before .before .before .before .put-byte in
     (omega (arith, e .ensures .place, c .before .before .before .before .before .before .before .before .elements-width .ensures .0), (omega (arith, e .ensures .place, e .kept .0, c .before .before .before .before .before .before .before .if1 .left), c .before .before .digit-pairs .ensures))
-
-put-lengths-requires : tie.Need-put-lengths-requires
-put-lengths-requires c κs = search needs
-
-put-part-requires : tie.Need-put-part-requires
-put-part-requires c κs = search needs
-
-put-head-requires : tie.Need-put-head-requires
-put-head-requires c κs = search needs
-
-same-length : tie.Need-same-length
-same-length c = search needs
 
 returns-2 : tie.Need-returns-2
 returns-2 c =
@@ -97,20 +55,20 @@ pub print-array-spec : {M : Type 1} → statement M
 print-array-spec =
     tie.close
     (tie.spec
-    width-requires
-    width-requires-2
-    add-need
-    lengths-width-requires
-    add-need-2
-    elements-width-requires
-    add-need-3
-    add-need-4
+    (λ c κs. search needs)
+    (λ c κs. search needs)
+    (λ c. search needs)
+    (λ c κs. search needs)
+    (λ c. search needs)
+    (λ c κs. search needs)
+    (λ c. search needs)
+    (λ c. search needs)
     returns
-    put-byte-requires
-    digit-pairs-requires
+    (λ c κs. search needs)
+    (λ c κs. search needs)
     put-elements-requires
-    put-lengths-requires
-    put-part-requires
-    put-head-requires
-    same-length
+    (λ c κs. search needs)
+    (λ c κs. search needs)
+    (λ c κs. search needs)
+    (λ c. search needs)
     returns-2)

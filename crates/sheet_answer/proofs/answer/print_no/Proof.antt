@@ -11,34 +11,10 @@ use borrow.Author.Needs.{needs}
 use Rattle.sheet_answer.proofs.answer.print_no.Statement.{statement}
 use Rattle.sheet_answer.proofs.answer.print_no.Tie as tie
 
-width-requires : tie.Need-width-requires
-width-requires c κs = search needs
-
-width-requires-2 : tie.Need-width-requires-2
-width-requires-2 c κs = search needs
-
-add-need : tie.Need-add-need
-add-need c = search needs
-
-add-need-2 : tie.Need-add-need-2
-add-need-2 c = search needs
-
 returns : tie.Need-returns
 returns c =
     let st = c .before .before .before .before in
     no-room (noLine (st .args .line) (st .args .refusal)) (st .args .text .now) (omega (arith, no-length (st .args .line) (st .args .refusal), c .before .before .width .ensures .0, c .before .width2 .ensures .0))
-
-put-byte-requires : tie.Need-put-byte-requires
-put-byte-requires c κs = search needs
-
-put-part-requires : tie.Need-put-part-requires
-put-part-requires c κs = search needs
-
-put-head-requires : tie.Need-put-head-requires
-put-head-requires c κs = search needs
-
-same-length : tie.Need-same-length
-same-length c = search needs
 
 returns-2 : tie.Need-returns-2
 returns-2 c =
@@ -58,13 +34,13 @@ pub print-no-spec : {M : Type 1} → statement M
 print-no-spec =
     tie.close
     (tie.spec
-    width-requires
-    width-requires-2
-    add-need
-    add-need-2
+    (λ c κs. search needs)
+    (λ c κs. search needs)
+    (λ c. search needs)
+    (λ c. search needs)
     returns
-    put-byte-requires
-    put-part-requires
-    put-head-requires
-    same-length
+    (λ c κs. search needs)
+    (λ c κs. search needs)
+    (λ c κs. search needs)
+    (λ c. search needs)
     returns-2)

@@ -14,9 +14,6 @@ use Rattle.sheet_answer.proofs.answer.print_ok.Tie as tie
 ranked : (c : tie.After-count) → c .count .result ≤ maxCount → c .before .before .args .shape .rank ≤ maxRank
 ranked c h = let s = c .before .before .args .shape in good-rank s (good-count s (omega (arith, c .count .ensures)))
 
-count-requires : tie.Need-count-requires
-count-requires c κs = search needs
-
 returns : tie.Need-returns
 returns c =
     let st = c .before .before .before in
@@ -27,31 +24,13 @@ returns-2 c =
     let st = c .before .before .before .before in
     nothing-to-print (replyLine (st .args .line) 0 (record { shape = st .args .shape; buffer = st .args .out .now })) (st .args .text .now) (short-buffer (st .args .line) (st .args .shape) (st .args .out .now) (omega (arith, c .before .before .count .ensures)) (omega (arith, c .before .before .count .ensures)))
 
-sub-print-array : tie.Need-sub-print-array
-sub-print-array c = search needs
-
-part-print-array-start : tie.Need-part-print-array-start
-part-print-array-start c = search needs
-
 part-print-array-end : tie.Need-part-print-array-end
 part-print-array-end c =
     let long : length (c .before .before .before .before .before .before .args .shape .lens) ≡ maxRank = search needs in
     omega (arith, ranked (c .before .before .before .before) (omega arith))
 
-sub-print-array-2 : tie.Need-sub-print-array-2
-sub-print-array-2 c = search needs
-
-part-print-array-start-2 : tie.Need-part-print-array-start-2
-part-print-array-start-2 c = search needs
-
-part-print-array-end-2 : tie.Need-part-print-array-end-2
-part-print-array-end-2 c = search needs
-
 print-array-requires : tie.Need-print-array-requires
 print-array-requires c κs = simp (length-take) (omega (arith, ranked (c .before .before .before .before .before .before .before) (omega arith)))
-
-same-length : tie.Need-same-length
-same-length c = search needs
 
 returns-3 : tie.Need-returns-3
 returns-3 c =
@@ -63,15 +42,15 @@ pub print-ok-spec : {M : Type 1} → statement M
 print-ok-spec =
     tie.close
     (tie.spec
-    count-requires
+    (λ c κs. search needs)
     returns
     returns-2
-    sub-print-array
-    part-print-array-start
+    (λ c. search needs)
+    (λ c. search needs)
     part-print-array-end
-    sub-print-array-2
-    part-print-array-start-2
-    part-print-array-end-2
+    (λ c. search needs)
+    (λ c. search needs)
+    (λ c. search needs)
     print-array-requires
-    same-length
+    (λ c. search needs)
     returns-3)

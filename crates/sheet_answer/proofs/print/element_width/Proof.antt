@@ -14,21 +14,6 @@ size-is c = rw (toZ-ofZ (c .before .before .before .fits .z)) at (c .before .bef
 sign-is : (c : tie.After-negative) → c .negative .result ≡ negative (c .before .before .before .args .z)
 sign-is c = rw (toZ-ofZ (c .before .before .before .fits .z)) at (c .negative .ensures)
 
-size-requires : tie.Need-size-requires
-size-requires c κs = search needs
-
-width-requires : tie.Need-width-requires
-width-requires c κs = search needs
-
-negative-requires : tie.Need-negative-requires
-negative-requires c κs = search needs
-
-add-result : tie.Need-add-result
-add-result c = search needs
-
-add-result-2 : tie.Need-add-result-2
-add-result-2 c = search needs
-
 returns : tie.Need-returns
 returns c =
     let w = c .before .before .width .ensures in
@@ -43,10 +28,10 @@ pub element-width-spec : {M : Type 1} → statement M
 element-width-spec =
     tie.close
     (tie.spec
-    size-requires
-    width-requires
-    negative-requires
-    add-result
-    add-result-2
+    (λ c κs. search needs)
+    (λ c κs. search needs)
+    (λ c κs. search needs)
+    (λ c. search needs)
+    (λ c. search needs)
     returns
     returns-2)

@@ -21,23 +21,8 @@ abbrev μ-loop : tie.MeasureT-loop
 loop-holds : tie.Need-loop-holds Inv-loop μ-loop
 loop-holds c = (omega arith, (sym (ap length (parts-end decimal (c .args .out .now))), omega arith))
 
-sub-i : tie.Need-sub-i Inv-loop μ-loop
-sub-i c = search needs
-
-mul-z : tie.Need-mul-z Inv-loop μ-loop
-mul-z c = search needs
-
-shared-slice-copy-out-z : tie.Need-shared-slice-copy-out-z Inv-loop μ-loop
-shared-slice-copy-out-z c = search needs
-
-element-width-requires : tie.Need-element-width-requires Inv-loop μ-loop
-element-width-requires c κs = search needs
-
 add-sum : tie.Need-add-sum Inv-loop μ-loop
 add-sum c = omega (arith, c .element-width .ensures .1)
-
-loop-less : tie.Need-loop-less Inv-loop μ-loop
-loop-less c = search needs
 
 loop-again : tie.Need-loop-again Inv-loop μ-loop
 loop-again c =
@@ -60,11 +45,11 @@ elements-width-spec =
     Inv-loop
     μ-loop
     loop-holds
-    sub-i
-    mul-z
-    shared-slice-copy-out-z
-    element-width-requires
+    (λ c. search needs)
+    (λ c. search needs)
+    (λ c. search needs)
+    (λ c κs. search needs)
     add-sum
-    loop-less
+    (λ c. search needs)
     loop-again
     returns)

@@ -5,17 +5,8 @@ use borrow.Author.Needs.{needs}
 use Rattle.sheet_answer.proofs.print.put_byte.Statement.{statement}
 use Rattle.sheet_answer.proofs.print.put_byte.Tie as tie
 
-sub-at : tie.Need-sub-at
-sub-at c = search needs
-
-slice-write-text : tie.Need-slice-write-text
-slice-write-text c = search needs
-
-same-length : tie.Need-same-length
-same-length c = search needs
-
 returns : tie.Need-returns
 returns c = write-byte (c .args .text .now) (c .args .end - 1) (c .args .end) (c .args .b) (omega arith) (omega arith)
 
 pub put-byte-spec : {M : Type 1} → statement M
-put-byte-spec = tie.close (tie.spec sub-at slice-write-text same-length returns)
+put-byte-spec = tie.close (tie.spec (λ c. search needs) (λ c. search needs) (λ c. search needs) returns)

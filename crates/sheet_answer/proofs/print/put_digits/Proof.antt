@@ -14,12 +14,6 @@ abbrev μ-loop : tie.MeasureT-loop
 loop-holds : tie.Need-loop-holds Inv-loop μ-loop
 loop-holds c = spell-none (c .before .args .text .now) (c .before .args .end) (c .before .args .n)
 
-cast-d : tie.Need-cast-d Inv-loop μ-loop
-cast-d c = search needs
-
-add-put-byte : tie.Need-add-put-byte Inv-loop μ-loop
-add-put-byte c = search needs
-
 put-byte-requires : tie.Need-put-byte-requires Inv-loop μ-loop
 put-byte-requires c κs =
     let st = c .before .before .before .before in
@@ -35,12 +29,6 @@ loop-again c =
     let lp = c .before .before .before .before .before .loop in
     let put = c .before .before .put-byte in
     spell-more (st .args .text .now) (lp .text) (lp .i) (st .args .end) (st .args .n) (lp .rest) (lp .inv) (put .last .0) (put .result) (st .pre .1) (c .before .before .before .before .loop-test .taken) (put .ensures) (put .kept .0)
-
-cast-d-2 : tie.Need-cast-d-2 Inv-loop μ-loop
-cast-d-2 c = search needs
-
-add-put-byte-2 : tie.Need-add-put-byte-2 Inv-loop μ-loop
-add-put-byte-2 c = search needs
 
 put-byte-requires-2 : tie.Need-put-byte-requires-2 Inv-loop μ-loop
 put-byte-requires-2 c κs =
@@ -67,13 +55,13 @@ put-digits-spec =
     Inv-loop
     μ-loop
     loop-holds
-    cast-d
-    add-put-byte
+    (λ c. search needs)
+    (λ c. search needs)
     put-byte-requires
     loop-less
     loop-again
-    cast-d-2
-    add-put-byte-2
+    (λ c. search needs)
+    (λ c. search needs)
     put-byte-requires-2
     same-length
     returns)

@@ -25,17 +25,11 @@ below c = decimal-negative (c .before .before .before .before .before .before .b
 above : (c : tie.Else1) → decimal (c .before .before .before .before .before .before .before .before .args .z) ≡ digits (c .before .before .before .before .before .before .size .result)
 above c = decimal-natural (c .before .before .before .before .before .before .before .before .args .z) (sym (sign-is (c .before)) ∙ c .if1 .left) ∙ rw (size-is (c .before .before .before .before .before .before))
 
-size-requires : tie.Need-size-requires
-size-requires c κs = search needs
-
 put-pairs-requires : tie.Need-put-pairs-requires
 put-pairs-requires c κs =
     let st = c .before .before .before in
     let e = ap (λ n. length (digits n)) (size-is (c .before)) in
     (omega (arith, decimal-longer (st .args .z)), st .pre .1)
-
-negative-requires : tie.Need-negative-requires
-negative-requires c κs = search needs
 
 put-byte-requires : tie.Need-put-byte-requires
 put-byte-requires c κs =
@@ -49,9 +43,6 @@ put-byte-requires-2 c κs =
     let d = c .before .before .before .before .before .before .before .before .before .put-pairs in
     let m = c .before .before .before .put-byte in
     omega (arith, d .ensures .place, d .kept .0, m .ensures .place, m .kept .0, c .before .before .before .before .before .before .before .before .before .before .before .before .before .pre)
-
-same-length : tie.Need-same-length
-same-length c = search needs
 
 returns : tie.Need-returns
 returns c =
@@ -70,9 +61,6 @@ put-byte-requires-3 c κs =
     let d = c .before .before .before .before .before .put-pairs in
     omega (arith, d .ensures .place, d .kept .0, c .before .before .before .before .before .before .before .before .before .pre)
 
-same-length-2 : tie.Need-same-length-2
-same-length-2 c = search needs
-
 returns-2 : tie.Need-returns-2
 returns-2 c =
     let st = c .before .before .before .before .before .before .before .before .before .before .before .before in
@@ -84,13 +72,13 @@ pub put-element-spec : {M : Type 1} → statement M
 put-element-spec =
     tie.close
     (tie.spec
-    size-requires
+    (λ c κs. search needs)
     put-pairs-requires
-    negative-requires
+    (λ c κs. search needs)
     put-byte-requires
     put-byte-requires-2
-    same-length
+    (λ c. search needs)
     returns
     put-byte-requires-3
-    same-length-2
+    (λ c. search needs)
     returns-2)

@@ -24,15 +24,6 @@ loop-holds c =
     let st = c .before in
     (omega arith, (parts-none decimal (st .args .out .now) (st .args .text .now) (st .args .end), refl))
 
-sub-i : tie.Need-sub-i Inv-loop μ-loop
-sub-i c = search needs
-
-mul-z : tie.Need-mul-z Inv-loop μ-loop
-mul-z c = search needs
-
-shared-slice-copy-out-z : tie.Need-shared-slice-copy-out-z Inv-loop μ-loop
-shared-slice-copy-out-z c = search needs
-
 put-element-requires : tie.Need-put-element-requires Inv-loop μ-loop
 put-element-requires c κs =
     let st = c .before .before .before .before .before in
@@ -42,9 +33,6 @@ put-element-requires c κs =
     let p = lp .inv .1 .0 .place in
     let room = part-room decimal xs (pos 0) (lp .i) (lp .i - 1) (omega arith) (omega arith) (lp .at) (st .args .end) (st .pre .0) p in
     rw z (room, (omega (arith, lp .inv .1 .1), st .pre .1 .1))
-
-loop-less : tie.Need-loop-less Inv-loop μ-loop
-loop-less c = search needs
 
 loop-again : tie.Need-loop-again Inv-loop μ-loop
 loop-again c =
@@ -60,9 +48,6 @@ loop-again c =
       ),
     )
 
-same-length : tie.Need-same-length Inv-loop μ-loop
-same-length c = search needs
-
 returns : tie.Need-returns Inv-loop μ-loop
 returns c =
     let e : c .before .loop .i ≡ 0 = omega arith in
@@ -75,11 +60,11 @@ put-elements-spec =
     Inv-loop
     μ-loop
     loop-holds
-    sub-i
-    mul-z
-    shared-slice-copy-out-z
+    (λ c. search needs)
+    (λ c. search needs)
+    (λ c. search needs)
     put-element-requires
-    loop-less
+    (λ c. search needs)
     loop-again
-    same-length
+    (λ c. search needs)
     returns)

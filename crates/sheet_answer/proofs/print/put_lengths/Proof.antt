@@ -20,15 +20,6 @@ loop-holds c =
     let st = c .before .before in
     (omega arith, (parts-none digits (st .args .lens .now) (st .args .text .now) (st .args .end), refl))
 
-sub-i : tie.Need-sub-i Inv-loop μ-loop
-sub-i c = search needs
-
-mul-n : tie.Need-mul-n Inv-loop μ-loop
-mul-n c = search needs
-
-shared-slice-read-n : tie.Need-shared-slice-read-n Inv-loop μ-loop
-shared-slice-read-n c = search needs
-
 put-part-requires : tie.Need-put-part-requires Inv-loop μ-loop
 put-part-requires c κs =
     let st = c .before .before .before .before .before .before in
@@ -37,9 +28,6 @@ put-part-requires c κs =
     let p = lp .inv .1 .0 .place in
     let room = part-room digits xs 0 (lp .i) (lp .i - 1) (omega arith) (omega arith) (lp .at) (st .args .end) (st .pre .0) p in
     (room, omega (arith, lp .inv .1 .1))
-
-loop-less : tie.Need-loop-less Inv-loop μ-loop
-loop-less c = search needs
 
 loop-again : tie.Need-loop-again Inv-loop μ-loop
 loop-again c =
@@ -54,9 +42,6 @@ loop-again c =
       ),
     )
 
-same-length : tie.Need-same-length Inv-loop μ-loop
-same-length c = search needs
-
 returns : tie.Need-returns Inv-loop μ-loop
 returns c =
     let e : c .before .loop .i ≡ 0 = omega arith in
@@ -69,11 +54,11 @@ put-lengths-spec =
     Inv-loop
     μ-loop
     loop-holds
-    sub-i
-    mul-n
-    shared-slice-read-n
+    (λ c. search needs)
+    (λ c. search needs)
+    (λ c. search needs)
     put-part-requires
-    loop-less
+    (λ c. search needs)
     loop-again
-    same-length
+    (λ c. search needs)
     returns)

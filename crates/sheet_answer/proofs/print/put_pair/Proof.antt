@@ -6,27 +6,6 @@ use borrow.Author.Needs.{needs}
 use Rattle.sheet_answer.proofs.print.put_pair.Statement.{statement}
 use Rattle.sheet_answer.proofs.print.put_pair.Tie as tie
 
-mul-k : tie.Need-mul-k
-mul-k c = search needs
-
-element-copy-out-tens : tie.Need-element-copy-out-tens
-element-copy-out-tens c = search needs
-
-add-ones : tie.Need-add-ones
-add-ones c = search needs
-
-element-copy-out-ones : tie.Need-element-copy-out-ones
-element-copy-out-ones c = search needs
-
-put-byte-requires : tie.Need-put-byte-requires
-put-byte-requires c κs = search needs
-
-put-byte-requires-2 : tie.Need-put-byte-requires-2
-put-byte-requires-2 c κs = search needs
-
-same-length : tie.Need-same-length
-same-length c = search needs
-
 returns : tie.Need-returns
 returns c =
     let st = c .before .before .before .before .before .before .before .before .before .before .before in
@@ -41,11 +20,11 @@ pub put-pair-spec : {M : Type 1} → statement M
 put-pair-spec =
     tie.close
     (tie.spec
-    mul-k
-    element-copy-out-tens
-    add-ones
-    element-copy-out-ones
-    put-byte-requires
-    put-byte-requires-2
-    same-length
+    (λ c. search needs)
+    (λ c. search needs)
+    (λ c. search needs)
+    (λ c. search needs)
+    (λ c κs. search needs)
+    (λ c κs. search needs)
+    (λ c. search needs)
     returns)

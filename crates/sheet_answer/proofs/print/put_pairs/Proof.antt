@@ -46,12 +46,6 @@ returns c =
     let put = c .before .before .put-pair2 in
     spell-last-two (st .args .text .now) (lp .text) (lp .i) (st .args .end) (st .args .n) (lp .rest) (lp .inv) (put .last .0) (put .result) (st .pre .1 .0) (c .before .before .before .before .if1 .taken) (c .before .before .before .before .before .loop-test .left) (put .ensures)
 
-cast-d : tie.Need-cast-d Inv-loop μ-loop
-cast-d c = search needs
-
-add-put-byte : tie.Need-add-put-byte Inv-loop μ-loop
-add-put-byte c = search needs
-
 put-byte-requires : tie.Need-put-byte-requires Inv-loop μ-loop
 put-byte-requires c κs =
     let st = c .before .before .before .before .before in
@@ -81,8 +75,8 @@ put-pairs-spec =
     put-pair-requires-2
     same-length
     returns
-    cast-d
-    add-put-byte
+    (λ c. search needs)
+    (λ c. search needs)
     put-byte-requires
     same-length-2
     returns-2)

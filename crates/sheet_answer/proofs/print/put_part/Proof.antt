@@ -5,15 +5,6 @@ use borrow.Author.Needs.{needs}
 use Rattle.sheet_answer.proofs.print.put_part.Statement.{statement}
 use Rattle.sheet_answer.proofs.print.put_part.Tie as tie
 
-put-digits-requires : tie.Need-put-digits-requires
-put-digits-requires c κs = search needs
-
-put-byte-requires : tie.Need-put-byte-requires
-put-byte-requires c κs = search needs
-
-same-length : tie.Need-same-length
-same-length c = search needs
-
 returns : tie.Need-returns
 returns c =
     let st = c .before .before .before .before .before .before .before .before .before in
@@ -22,4 +13,4 @@ returns c =
     write-more (st .args .text .now) (d .last .0) (p .last .0) (p .result) (d .result) (st .args .end) (blank ∷ []) (digits (st .args .n)) (st .pre .1) (d .ensures) (p .ensures)
 
 pub put-part-spec : {M : Type 1} → statement M
-put-part-spec = tie.close (tie.spec put-digits-requires put-byte-requires same-length returns)
+put-part-spec = tie.close (tie.spec (λ c κs. search needs) (λ c κs. search needs) (λ c. search needs) returns)

@@ -15,18 +15,6 @@ Inv-loop line at negative first n₀ i₀ n i = (i ≤ length line) × ((0 < n) 
 abbrev μ-loop : tie.MeasureT-loop
 μ-loop line at negative first n₀ i₀ n i = length line - i
 
-loop-holds : tie.Need-loop-holds Inv-loop μ-loop
-loop-holds c = search needs
-
-shared-slice-read-b : tie.Need-shared-slice-read-b Inv-loop μ-loop
-shared-slice-read-b c = search needs
-
-digit-value-requires : tie.Need-digit-value-requires Inv-loop μ-loop
-digit-value-requires c κs = search needs
-
-no-number-requires : tie.Need-no-number-requires Inv-loop μ-loop
-no-number-requires c κs = search needs
-
 returns : tie.Need-returns Inv-loop μ-loop
 returns c =
     let st = c .before .before .before .before .before .before .before .before in
@@ -34,26 +22,11 @@ returns c =
     let e = c .before .before .before .digit-value in
     rw (lp .inv .1 .1, c .no-number .ensures, stops (st .args .line .now) (lp .i) (omega arith) (c .before .if2 .taken) (st .args .negative) (lp .n) (no-digit (getD (st .args .line .now) (lp .i) 0) (e .result) (e .ensures) (c .before .before .if1 .taken)))
 
-no-number-requires-2 : tie.Need-no-number-requires-2 Inv-loop μ-loop
-no-number-requires-2 c κs = search needs
-
 returns-2 : tie.Need-returns-2 Inv-loop μ-loop
 returns-2 c =
     let st = c .before .before .before .before .before .before .before .before in
     let lp = c .before .before .before .before .before .before .loop in
     rw (lp .inv .1 .1, c .no-number2 .ensures, over (st .args .negative) (lp .n) (drop (lp .i) (st .args .line .now)) (c .before .if3 .taken))
-
-mul-n : tie.Need-mul-n Inv-loop μ-loop
-mul-n c = search needs
-
-add-n : tie.Need-add-n Inv-loop μ-loop
-add-n c = search needs
-
-add-i : tie.Need-add-i Inv-loop μ-loop
-add-i c = search needs
-
-loop-less : tie.Need-loop-less Inv-loop μ-loop
-loop-less c = search needs
 
 loop-again : tie.Need-loop-again Inv-loop μ-loop
 loop-again c =
@@ -69,12 +42,6 @@ loop-again c =
       ),
     )
 
-add-whole : tie.Need-add-whole Inv-loop μ-loop
-add-whole c = search needs
-
-whole-requires : tie.Need-whole-requires Inv-loop μ-loop
-whole-requires c κs = search needs
-
 returns-3 : tie.Need-returns-3 Inv-loop μ-loop
 returns-3 c =
     let st = c .before .before .before .before in
@@ -89,18 +56,18 @@ after-digit-spec =
     (tie.spec
     Inv-loop
     μ-loop
-    loop-holds
-    shared-slice-read-b
-    digit-value-requires
-    no-number-requires
+    (λ c. search needs)
+    (λ c. search needs)
+    (λ c κs. search needs)
+    (λ c κs. search needs)
     returns
-    no-number-requires-2
+    (λ c κs. search needs)
     returns-2
-    mul-n
-    add-n
-    add-i
-    loop-less
+    (λ c. search needs)
+    (λ c. search needs)
+    (λ c. search needs)
+    (λ c. search needs)
     loop-again
-    add-whole
-    whole-requires
+    (λ c. search needs)
+    (λ c κs. search needs)
     returns-3)

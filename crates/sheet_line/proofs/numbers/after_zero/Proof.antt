@@ -6,33 +6,15 @@ use borrow.Author.Needs.{needs}
 use Rattle.sheet_line.proofs.numbers.after_zero.Statement.{statement}
 use Rattle.sheet_line.proofs.numbers.after_zero.Tie as tie
 
-add-whole : tie.Need-add-whole
-add-whole c = search needs
-
-whole-requires : tie.Need-whole-requires
-whole-requires c κs = search needs
-
 returns : tie.Need-returns
 returns c =
     let st = c .before .before .before in
     rw (c .whole .ensures) (number-ends (st .args .line .now) (st .args .at) (size false 0) (line-ends (st .args .line .now) (st .args .at) (omega arith)))
 
-shared-slice-read-if2 : tie.Need-shared-slice-read-if2
-shared-slice-read-if2 c = search needs
-
-add-whole-2 : tie.Need-add-whole-2
-add-whole-2 c = search needs
-
-whole-requires-2 : tie.Need-whole-requires-2
-whole-requires-2 c κs = search needs
-
 returns-2 : tie.Need-returns-2
 returns-2 c =
     let st = c .before .before .before .before .before in
     rw (c .whole2 .ensures) (number-ends (st .args .line .now) (st .args .at) (size false 0) (blank-ends (st .args .line .now) (st .args .at) (omega arith) (c .before .if2 .taken)))
-
-no-number-requires : tie.Need-no-number-requires
-no-number-requires c κs = search needs
 
 returns-3 : tie.Need-returns-3
 returns-3 c =
@@ -43,12 +25,12 @@ pub after-zero-spec : {M : Type 1} → statement M
 after-zero-spec =
     tie.close
     (tie.spec
-    add-whole
-    whole-requires
+    (λ c. search needs)
+    (λ c κs. search needs)
     returns
-    shared-slice-read-if2
-    add-whole-2
-    whole-requires-2
+    (λ c. search needs)
+    (λ c. search needs)
+    (λ c κs. search needs)
     returns-2
-    no-number-requires
+    (λ c κs. search needs)
     returns-3)

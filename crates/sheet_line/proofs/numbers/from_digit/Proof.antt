@@ -4,20 +4,11 @@ use borrow.Author.Needs.{needs}
 use Rattle.sheet_line.proofs.numbers.from_digit.Statement.{statement}
 use Rattle.sheet_line.proofs.numbers.from_digit.Tie as tie
 
-digit-value-requires : tie.Need-digit-value-requires
-digit-value-requires c κs = search needs
-
-no-number-requires : tie.Need-no-number-requires
-no-number-requires c κs = search needs
-
 returns : tie.Need-returns
 returns c =
     let e = c .before .before .digit-value in
     let st = c .before .before .before .before in
     rw (c .no-number .ensures, first-none (st .args .b) (st .args .negative) (no-digit (st .args .b) (e .result) (e .ensures) (c .before .if1 .taken)))
-
-after-digit-requires : tie.Need-after-digit-requires
-after-digit-requires c κs = search needs
 
 returns-2 : tie.Need-returns-2
 returns-2 c =
@@ -25,17 +16,11 @@ returns-2 c =
     let st = c .before .before .before .before .before in
     rw (first-size (st .args .b) (e .result) (is-digit (st .args .b) (e .result) (e .ensures) (c .before .before .if1 .left)) (st .args .negative) (c .before .if2 .taken)) (c .after-digit .ensures)
 
-no-number-requires-2 : tie.Need-no-number-requires-2
-no-number-requires-2 c κs = search needs
-
 returns-3 : tie.Need-returns-3
 returns-3 c =
     let e = c .before .before .before .before .digit-value in
     let st = c .before .before .before .before .before .before in
     rw (c .no-number2 .ensures, minus-zero (st .args .b) (e .result) (is-digit (st .args .b) (e .result) (e .ensures) (c .before .before .before .if1 .left)) (st .args .negative) (omega arith) (c .before .if3 .taken))
-
-after-zero-requires : tie.Need-after-zero-requires
-after-zero-requires c κs = search needs
 
 returns-4 : tie.Need-returns-4
 returns-4 c =
@@ -47,12 +32,12 @@ pub from-digit-spec : {M : Type 1} → statement M
 from-digit-spec =
     tie.close
     (tie.spec
-    digit-value-requires
-    no-number-requires
+    (λ c κs. search needs)
+    (λ c κs. search needs)
     returns
-    after-digit-requires
+    (λ c κs. search needs)
     returns-2
-    no-number-requires-2
+    (λ c κs. search needs)
     returns-3
-    after-zero-requires
+    (λ c κs. search needs)
     returns-4)

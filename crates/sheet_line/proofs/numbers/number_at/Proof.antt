@@ -27,20 +27,8 @@ after-sign c =
     (λ w. rw (w .1, w .2, ne-eqb (getD line at 0) minus (w .0 .left)) (first-byte false line at (omega arith) (λ t. w .0 .left)))
     (c .if2 .came))
 
-no-number-requires : tie.Need-no-number-requires
-no-number-requires c κs = search needs
-
 returns : tie.Need-returns
 returns c = rw (c .no-number .ensures, none-left (c .before .before .before .args .line .now) (c .before .before .before .args .at) (c .before .if1 .taken))
-
-shared-slice-read-b : tie.Need-shared-slice-read-b
-shared-slice-read-b c = search needs
-
-add-next : tie.Need-add-next
-add-next c = search needs
-
-no-number-requires-2 : tie.Need-no-number-requires-2
-no-number-requires-2 c κs = search needs
 
 returns-2 : tie.Need-returns-2
 returns-2 c =
@@ -54,12 +42,6 @@ returns-2 c =
       minus-alone line (at + 1) (c .before .if3 .taken),
     )
 
-shared-slice-read-b-2 : tie.Need-shared-slice-read-b-2
-shared-slice-read-b-2 c = search needs
-
-add-next-2 : tie.Need-add-next-2
-add-next-2 c = search needs
-
 from-digit-requires : tie.Need-from-digit-requires
 from-digit-requires c κs =
     let st = c .before .before .before .before in
@@ -72,13 +54,13 @@ pub number-at-spec : {M : Type 1} → statement M
 number-at-spec =
     tie.close
     (tie.spec
-    no-number-requires
+    (λ c κs. search needs)
     returns
-    shared-slice-read-b
-    add-next
-    no-number-requires-2
+    (λ c. search needs)
+    (λ c. search needs)
+    (λ c κs. search needs)
     returns-2
-    shared-slice-read-b-2
-    add-next-2
+    (λ c. search needs)
+    (λ c. search needs)
     from-digit-requires
     returns-3)

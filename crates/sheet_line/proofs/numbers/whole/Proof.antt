@@ -14,14 +14,8 @@ use Rattle.sheet_line.proofs.numbers.whole.Tie as tie
 read-size : (c : tie.Else2) → toZ w32 (c .before .before .args .size) ≡ pos (c .before .before .args .size)
 read-size c = toZ-pos w32 {n = c .before .before .args .size} (omega arith)
 
-no-number-requires : tie.Need-no-number-requires
-no-number-requires c κs = search needs
-
 returns : tie.Need-returns
 returns c = c .no-number .ensures ∙ rw (size-over (c .before .before .args .negative) (c .before .before .args .size) (c .before .if1 .taken))
-
-no-number-requires-2 : tie.Need-no-number-requires-2
-no-number-requires-2 c κs = search needs
 
 returns-2 : tie.Need-returns-2
 returns-2 c =
@@ -32,9 +26,6 @@ returns-3 : tie.Need-returns-3
 returns-3 c =
     let st = c .before .before .before in
     rw (least (st .args .negative) (st .args .size) (not-false (st .args .negative) (c .if3 .left)) (c .before .if2 .taken))
-
-cast-n : tie.Need-cast-n
-cast-n c = search needs
 
 sub-value : tie.Need-sub-value
 sub-value c = rw (read-size (c .before)) (opposite-fits (c .before .before .before .args .size) (omega arith))
@@ -53,12 +44,12 @@ pub whole-spec : {M : Type 1} → statement M
 whole-spec =
     tie.close
     (tie.spec
-    no-number-requires
+    (λ c κs. search needs)
     returns
-    no-number-requires-2
+    (λ c κs. search needs)
     returns-2
     returns-3
-    cast-n
+    (λ c. search needs)
     sub-value
     returns-4
     returns-5)

@@ -36,12 +36,6 @@ loop-holds c =
     let st = c .before in
     (omega arith, (refl, (refl, rw sub-zero (many-start number (st .args .count) (left (st .args .line .now) (st .args .at))))))
 
-number-at-requires : tie.Need-number-at-requires Inv-loop μ-loop
-number-at-requires c κs = search needs
-
-same-length : tie.Need-same-length Inv-loop μ-loop
-same-length c = search needs
-
 returns : tie.Need-returns Inv-loop μ-loop
 returns c =
     let st = c .before .before .before .before .before .before in
@@ -52,18 +46,6 @@ returns c =
           ∙ many-stop number (take (lp .i) (lp .out)) (st .args .count - lp .i) (st .args .count - (lp .i + 1)) j (left (st .args .line .now) (lp .place)) (z .result .good) (z .result .value) (left (st .args .line .now) (z .result .next)) (z .ensures) (not-true (z .result .good) (c .if1 .taken)),
       lp .inv .1 .1 .0,
     )
-
-mul-value : tie.Need-mul-value Inv-loop μ-loop
-mul-value c = search needs
-
-slice-set-from-value : tie.Need-slice-set-from-value Inv-loop μ-loop
-slice-set-from-value c = search needs
-
-add-i : tie.Need-add-i Inv-loop μ-loop
-add-i c = search needs
-
-loop-less : tie.Need-loop-less Inv-loop μ-loop
-loop-less c = search needs
 
 loop-again : tie.Need-loop-again Inv-loop μ-loop
 loop-again c =
@@ -86,9 +68,6 @@ loop-again c =
       ),
     )
 
-same-length-2 : tie.Need-same-length-2 Inv-loop μ-loop
-same-length-2 c = search needs
-
 returns-2 : tie.Need-returns-2 Inv-loop μ-loop
 returns-2 c =
     let st = c .before .before .before in
@@ -105,13 +84,13 @@ elements-at-spec =
     Inv-loop
     μ-loop
     loop-holds
-    number-at-requires
-    same-length
+    (λ c κs. search needs)
+    (λ c. search needs)
     returns
-    mul-value
-    slice-set-from-value
-    add-i
-    loop-less
+    (λ c. search needs)
+    (λ c. search needs)
+    (λ c. search needs)
+    (λ c. search needs)
     loop-again
-    same-length-2
+    (λ c. search needs)
     returns-2)

@@ -34,9 +34,6 @@ loop-holds c =
     let st = c .before in
     (omega arith, (search needs, (small-none, rw sub-zero (many-start (natural maxHeld) (st .args .rank) (left (st .args .line .now) (st .args .at))))))
 
-natural-at-requires : tie.Need-natural-at-requires Inv-loop μ-loop
-natural-at-requires c κs = search needs
-
 returns : tie.Need-returns Inv-loop μ-loop
 returns c =
     let st = c .before .before .before .before .before in
@@ -46,18 +43,6 @@ returns c =
       lp .inv .1 .1 .1 ∙ many-stop (natural maxHeld) (take (lp .i) (lp .lens)) (st .args .rank - lp .i) (st .args .rank - (lp .i + 1)) j (left (st .args .line .now) (lp .place)) (n .result .good) (n .result .value) (left (st .args .line .now) (n .result .next)) (n .ensures .0) (not-true (n .result .good) (c .if1 .taken)),
       small-zeros (st .args .rank) maxRank,
     )
-
-mul-lens : tie.Need-mul-lens Inv-loop μ-loop
-mul-lens c = search needs
-
-array-write-lens : tie.Need-array-write-lens Inv-loop μ-loop
-array-write-lens c = search needs
-
-add-i : tie.Need-add-i Inv-loop μ-loop
-add-i c = search needs
-
-loop-less : tie.Need-loop-less Inv-loop μ-loop
-loop-less c = search needs
 
 loop-again : tie.Need-loop-again Inv-loop μ-loop
 loop-again c =
@@ -92,11 +77,11 @@ lengths-at-spec =
     Inv-loop
     μ-loop
     loop-holds
-    natural-at-requires
+    (λ c κs. search needs)
     returns
-    mul-lens
-    array-write-lens
-    add-i
-    loop-less
+    (λ c. search needs)
+    (λ c. search needs)
+    (λ c. search needs)
+    (λ c. search needs)
     loop-again
     returns-2)

@@ -26,24 +26,12 @@ natural-is c = sym (sign-is (c .before)) ∙ c .if2 .left
 size-is : (c : tie.After-size) → c .size .result ≡ natAbs (c .before .before .before .before .before .number-at .result .value)
 size-is c = rw (value-is (c .before .before .before .before)) at (c .size .ensures)
 
-number-at-requires : tie.Need-number-at-requires
-number-at-requires c κs = search needs
-
-no-natural-requires : tie.Need-no-natural-requires
-no-natural-requires c κs = search needs
-
 returns : tie.Need-returns
 returns c =
     let st = c .before .before .before .before .before in
     let e = c .before .before .before .number-at in
     let m = c .no-natural .ensures in
     (rw (m .0) (no-natural (st .args .most) (left (st .args .line .now) (st .args .at)) (left (st .args .line .now) (e .result .next)) (e .result .good) (e .result .value) (e .ensures) (not-true _ (c .before .if1 .taken))), rw (m .1) (omega arith))
-
-negative-requires : tie.Need-negative-requires
-negative-requires c κs = search needs
-
-no-natural-requires-2 : tie.Need-no-natural-requires-2
-no-natural-requires-2 c κs = search needs
 
 returns-2 : tie.Need-returns-2
 returns-2 c =
@@ -52,12 +40,6 @@ returns-2 c =
     let m = c .no-natural2 .ensures in
     let n : negative (e .result .value) ≡ true = sym (sign-is (c .before .before)) ∙ c .before .if2 .taken in
     (rw (m .0) (natural-negative (st .args .most) (left (st .args .line .now) (st .args .at)) (left (st .args .line .now) (e .result .next)) (e .result .good) (e .result .value) (e .ensures) (not-false _ (c .before .before .before .if1 .left)) n), rw (m .1) (omega arith))
-
-size-requires : tie.Need-size-requires
-size-requires c κs = search needs
-
-no-natural-requires-3 : tie.Need-no-natural-requires-3
-no-natural-requires-3 c κs = search needs
 
 returns-3 : tie.Need-returns-3
 returns-3 c =
@@ -78,13 +60,13 @@ pub natural-at-spec : {M : Type 1} → statement M
 natural-at-spec =
     tie.close
     (tie.spec
-    number-at-requires
-    no-natural-requires
+    (λ c κs. search needs)
+    (λ c κs. search needs)
     returns
-    negative-requires
-    no-natural-requires-2
+    (λ c κs. search needs)
+    (λ c κs. search needs)
     returns-2
-    size-requires
-    no-natural-requires-3
+    (λ c κs. search needs)
+    (λ c κs. search needs)
     returns-3
     returns-4)

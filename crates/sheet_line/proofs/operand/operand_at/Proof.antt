@@ -17,24 +17,12 @@ made-is c =
     let long : length (ls .result .lens) ≡ maxRank = search needs in
     made (rank .result .value) (ls .result .lens) (c .before .of-lengths .result) (c .count .result) (rank .ensures .1) long (ls .ensures .1) (c .before .of-lengths .ensures) (c .count .ensures)
 
-natural-at-requires : tie.Need-natural-at-requires
-natural-at-requires c κs = search needs
-
-no-operand-requires : tie.Need-no-operand-requires
-no-operand-requires c κs = search needs
-
 returns : tie.Need-returns
 returns c =
     let st = c .before .before .before .before in
     let line = st .args .line .now in
     let rank = c .before .before .natural-at in
     untaken line (st .args .at) (st .args .out .now) (st .args .out .now) (c .no-operand .result) (c .no-operand .ensures) (no-rank (room (st .args .out .now)) (left line (st .args .at)) (rank .result .good) (rank .result .value) (left line (rank .result .next)) (rank .ensures .0) (not-true (rank .result .good) (c .before .if1 .taken)))
-
-lengths-at-requires : tie.Need-lengths-at-requires
-lengths-at-requires c κs = search needs
-
-no-operand-requires-2 : tie.Need-no-operand-requires-2
-no-operand-requires-2 c κs = search needs
 
 returns-2 : tie.Need-returns-2
 returns-2 c =
@@ -44,15 +32,6 @@ returns-2 c =
     let ls = c .before .before .before .lengths-at in
     untaken line (st .args .at) (st .args .out .now) (st .args .out .now) (c .no-operand2 .result) (c .no-operand2 .ensures)
     (no-lengths (room (st .args .out .now)) (left line (st .args .at)) (rank .result .good) (rank .result .value) (left line (rank .result .next)) (rank .ensures .0) (not-false (rank .result .good) (c .before .before .before .before .if1 .left)) (ls .result .good) (take (rank .result .value) (ls .result .lens)) (left line (ls .result .next)) (ls .ensures .0) (not-true (ls .result .good) (c .before .if2 .taken)))
-
-of-lengths-requires : tie.Need-of-lengths-requires
-of-lengths-requires c κs = search needs
-
-count-requires : tie.Need-count-requires
-count-requires c κs = search needs
-
-no-operand-requires-3 : tie.Need-no-operand-requires-3
-no-operand-requires-3 c κs = search needs
 
 returns-3 : tie.Need-returns-3
 returns-3 c =
@@ -64,9 +43,6 @@ returns-3 c =
     untaken line (st .args .at) (st .args .out .now) (st .args .out .now) (c .no-operand3 .result) (c .no-operand3 .ensures)
     (too-many (room (st .args .out .now)) (left line (st .args .at)) (rank .result .good) (rank .result .value) (left line (rank .result .next)) (rank .ensures .0) (not-false (rank .result .good) (c .before .before .before .before .before .before .before .if1 .left)) (ls .result .good) (take (rank .result .value) (ls .result .lens)) (left line (ls .result .next)) (ls .ensures .0) (not-false (ls .result .good) (c .before .before .before .before .if2 .left)) (omega (arith, m .held)))
 
-no-operand-requires-4 : tie.Need-no-operand-requires-4
-no-operand-requires-4 c κs = search needs
-
 returns-4 : tie.Need-returns-4
 returns-4 c =
     let st = c .before .before .before .before .before .before .before .before .before .before .before in
@@ -76,15 +52,6 @@ returns-4 c =
     let m = made-is (c .before .before .before) in
     untaken line (st .args .at) (st .args .out .now) (st .args .out .now) (c .no-operand4 .result) (c .no-operand4 .ensures)
     (too-many (room (st .args .out .now)) (left line (st .args .at)) (rank .result .good) (rank .result .value) (left line (rank .result .next)) (rank .ensures .0) (not-false (rank .result .good) (c .before .before .before .before .before .before .before .before .if1 .left)) (ls .result .good) (take (rank .result .value) (ls .result .lens)) (left line (ls .result .next)) (ls .ensures .0) (not-false (ls .result .good) (c .before .before .before .before .before .if2 .left)) (omega (arith, m .held)))
-
-elements-at-requires : tie.Need-elements-at-requires
-elements-at-requires c κs = search needs
-
-no-operand-requires-5 : tie.Need-no-operand-requires-5
-no-operand-requires-5 c κs = search needs
-
-same-length : tie.Need-same-length
-same-length c = search needs
 
 returns-5 : tie.Need-returns-5
 returns-5 c =
@@ -99,9 +66,6 @@ returns-5 c =
     let n : c .before .before .before .before .before .before .before .count .result ≡ count ns = omega (arith, m .held) in
     untaken line (st .args .at) (st .args .out .now) out (c .no-operand5 .result) (c .no-operand5 .ensures)
     (no-elements (room (st .args .out .now)) (left line (st .args .at)) (rank .result .good) (rank .result .value) (left line (rank .result .next)) (rank .ensures .0) (not-false (rank .result .good) (c .before .before .before .before .before .before .before .before .before .before .before .before .if1 .left)) (ls .result .good) ns (left line (ls .result .next)) (ls .ensures .0) (not-false (ls .result .good) (c .before .before .before .before .before .before .before .before .before .if2 .left)) (omega (arith, n)) (es .result .good) (take (count ns) out) (left line (es .result .next)) (rw n at (es .ensures .0)) (not-true (es .result .good) (c .before .if5 .taken)))
-
-same-length-2 : tie.Need-same-length-2
-same-length-2 c = search needs
 
 returns-6 : tie.Need-returns-6
 returns-6 c =
@@ -125,21 +89,21 @@ pub operand-at-spec : {M : Type 1} → statement M
 operand-at-spec =
     tie.close
     (tie.spec
-    natural-at-requires
-    no-operand-requires
+    (λ c κs. search needs)
+    (λ c κs. search needs)
     returns
-    lengths-at-requires
-    no-operand-requires-2
+    (λ c κs. search needs)
+    (λ c κs. search needs)
     returns-2
-    of-lengths-requires
-    count-requires
-    no-operand-requires-3
+    (λ c κs. search needs)
+    (λ c κs. search needs)
+    (λ c κs. search needs)
     returns-3
-    no-operand-requires-4
+    (λ c κs. search needs)
     returns-4
-    elements-at-requires
-    no-operand-requires-5
-    same-length
+    (λ c κs. search needs)
+    (λ c κs. search needs)
+    (λ c. search needs)
     returns-5
-    same-length-2
+    (λ c. search needs)
     returns-6)
