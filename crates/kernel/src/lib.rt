@@ -37,7 +37,8 @@ fn call_one(number: i32, g: i32, k: i32, rs: Shape, r: &[i32], out: &mut [i32]) 
         12 => vectors::ravel(g, rs, r, out),
         13 => vectors::interval(g, rs, r, out),
         14 => turns::reverse(g, k, rs, r, out),
-        _ => transposes::transpose(g, rs, r, out),
+        15 => transposes::transpose(g, rs, r, out),
+        _ => Answer::refused(1),
     }
 }
 
@@ -65,6 +66,7 @@ fn call_two(
         28 => masks::expand(g, k, ls, l, rs, r, out),
         29 => lookups::index_of(g, ls, l, rs, r, out),
         30 => lookups::member(g, ls, l, rs, r, out),
-        _ => selects::select(g, k, ls, l, rs, r, out),
+        31 => selects::select(g, k, ls, l, rs, r, out),
+        _ => Answer::refused(1),
     }
 }

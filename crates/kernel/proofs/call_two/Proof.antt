@@ -72,27 +72,33 @@ returns-10 c =
 returns-11 : tie.Need-returns-11
 returns-11 c =
     let st = c .before .before .before .before in
-    let m = c .before .before .before .match .rest in
-    let n = st .pre in
-    let e = n .is in
-    let above-21 = past 21 (n .low) (not-key 21 e (m .0 .0 .0 .0 .0 .0 .0 .0 .0 .1)) in
-    let above-22 = past 22 (above-21) (not-key 22 e (m .0 .0 .0 .0 .0 .0 .0 .0 .1)) in
-    let above-23 = past 23 (above-22) (not-key 23 e (m .0 .0 .0 .0 .0 .0 .0 .1)) in
-    let above-24 = past 24 (above-23) (not-key 24 e (m .0 .0 .0 .0 .0 .0 .1)) in
-    let above-25 = past 25 (above-24) (not-key 25 e (m .0 .0 .0 .0 .0 .1)) in
-    let above-26 = past 26 (above-25) (not-key 26 e (m .0 .0 .0 .0 .1)) in
-    let above-27 = past 27 (above-26) (not-key 27 e (m .0 .0 .0 .1)) in
-    let above-28 = past 28 (above-27) (not-key 28 e (m .0 .0 .1)) in
-    let above-29 = past 29 (above-28) (not-key 29 e (m .0 .1)) in
-    let above-30 = past 30 (above-29) (not-key 30 e (m .1)) in
-    let last : n .value ≡ 31 = omega (arith, above-30, n .high) in
     carried (lent (st .args .ls) (st .args .l .now)) (lent (st .args .rs) (st .args .r .now)) (st .args .out .now)
-    (sym (e ∙ ap pos last)) (read32 _ (st .fits .g)) (read32 _ (st .fits .k)) (c .before .select .ensures)
+    (sym (key 31 (st .fits .number) (lit< tt) (c .before .before .before .match .keys11))) (read32 _ (st .fits .g)) (read32 _ (st .fits .k)) (c .before .select .ensures)
+
+-- No number of the range is left.
+returns-12 : tie.Need-returns-12
+returns-12 c =
+    let m = c .before .match .rest in
+    let n = c .before .before .pre in
+    let e = n .is in
+    let above-21 = past 21 (n .low) (not-key 21 e (m .0 .0 .0 .0 .0 .0 .0 .0 .0 .0 .1)) in
+    let above-22 = past 22 (above-21) (not-key 22 e (m .0 .0 .0 .0 .0 .0 .0 .0 .0 .1)) in
+    let above-23 = past 23 (above-22) (not-key 23 e (m .0 .0 .0 .0 .0 .0 .0 .0 .1)) in
+    let above-24 = past 24 (above-23) (not-key 24 e (m .0 .0 .0 .0 .0 .0 .0 .1)) in
+    let above-25 = past 25 (above-24) (not-key 25 e (m .0 .0 .0 .0 .0 .0 .1)) in
+    let above-26 = past 26 (above-25) (not-key 26 e (m .0 .0 .0 .0 .0 .1)) in
+    let above-27 = past 27 (above-26) (not-key 27 e (m .0 .0 .0 .0 .1)) in
+    let above-28 = past 28 (above-27) (not-key 28 e (m .0 .0 .0 .1)) in
+    let above-29 = past 29 (above-28) (not-key 29 e (m .0 .0 .1)) in
+    let above-30 = past 30 (above-29) (not-key 30 e (m .0 .1)) in
+    let above-31 = past 31 (above-30) (not-key 31 e (m .1)) in
+    absurd (omega (arith, above-31, n .high))
 
 pub call-two-spec : {M : Type 1} → statement M
 call-two-spec =
     tie.close
     (tie.spec
+    (λ c κs. search needs)
     (λ c κs. search needs)
     (λ c κs. search needs)
     (λ c κs. search needs)
@@ -125,4 +131,5 @@ call-two-spec =
     (λ c. search needs)
     returns-10
     (λ c. search needs)
-    returns-11)
+    returns-11
+    returns-12)
