@@ -59,6 +59,10 @@ fn random_operand(random: &mut Random, quarter: usize) -> Operand {
         1 => shape.lens[0] = MAX_COUNT + 1,
         2 => shape.lens = [usize::MAX; MAX_RANK],
         3 => shape.rank = 4,
+        4 => {
+            shape.rank = 2;
+            shape.lens = [MAX_COUNT; MAX_RANK];
+        }
         _ => {}
     }
     Operand { shape, elements: Buffer::new(&elements, quarter) }

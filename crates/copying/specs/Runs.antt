@@ -1,4 +1,4 @@
--- What a run leaves in the buffer that it goes to.
+-- A run is elements that stand one after another in a buffer: what it leaves in the buffer that it goes to.
 use Prim.Native.Nat.{ℕ, min}
 use mathlib.Core.List.{List, _++_, reverse}
 use lib.ListN.{length, take, drop}

@@ -118,7 +118,7 @@ fn masked_and_found() {
     two(10, 27, &[1, 1, 0, 1, 0], Shape::scalar(), &[5], 5);
     two(11, 28, &[1, 0, 1], Shape::scalar(), &[5], 3);
     vectors(12, 28, &[1, 0, 1], &[5], 3);
-    two(13, 21, &[2, 2], Shape::vector(0), &[0], 4);
+    two(13, 21, &[2, 2], Shape::vector(0), &[9], 4);
     vectors(14, 29, &[7, 8, 7], &[7, 9], 2);
 }
 

@@ -17,5 +17,6 @@ unfoldable pub settlePart : ℕ → ℕ → ℕ → Part
 settlePart zero i size = record { start = i * size; length = size }
 settlePart (suc n) i size = record { start = 0; length = 0 }
 
+-- The leading item's part.
 unfoldable pub itemPart : Operand → ℤ → ℤ → Part
 itemPart R G i = settlePart (itemRefusal R G i) (natAbs (i -ℤ G)) (count (itemLengths R))

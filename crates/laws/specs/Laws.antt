@@ -55,7 +55,7 @@ TwoTranspositions =
     → IsLong (pos 26) G K l r out
     → Succeeds first × Succeeds second × Succeeds one × Same (given second) (given one)
 
--- 4. The first n along an axis joined to what dropping n leaves is the array, n from 0 to the axis's length.
+-- 4. The first n along an axis (23) joined (22) to what dropping n leaves (24) is the array, n from 0 to the axis's length.
 abbrev pub FirstAndRest : Type 0
 FirstAndRest =
     (G K K₁ K₂ : ℤ) (n : ℕ) (l₁ l₂ r : Operand) (out₁ out₂ out : List ℤ)
@@ -73,7 +73,7 @@ FirstAndRest =
     → IsLong (pos 22) G K (given first) (given rest) out
     → Succeeds first × Succeeds rest × Succeeds joined × Same (given joined) r
 
--- 5. Ravelled elements reshaped to the old lengths are the array.
+-- 5. Ravelled elements (12) reshaped (21) to the old lengths are the array.
 abbrev pub RavelledReshaped : Type 0
 RavelledReshaped =
     (G K₁ K₂ : ℤ) (l₁ l r : Operand) (out₁ out : List ℤ)
@@ -86,7 +86,8 @@ RavelledReshaped =
     → IsLong (pos 21) G K₂ l (given ravelled) out
     → Succeeds ravelled × Succeeds reshaped × Same (given reshaped) r
 
--- 6. Every rotation, every reversal and every transposition that permutes all axes keeps each number as often as before.
+-- 6. Every rotation, every reversal and every transposition that permutes all axes keeps each number as often as before. A rotation is 25
+-- with an L that it accepts, which is a single.
 abbrev pub RotationKeeps : Type 0
 RotationKeeps =
     (G K a : ℤ) (l r : Operand) (out : List ℤ)

@@ -32,7 +32,7 @@ IsTurnAxis G K r = within (K -ℤ G) (rank (asVector (arrayOf r))) ≡ true
 abbrev pub IsLong : ℤ → ℤ → ℤ → Operand → Operand → List ℤ → Type 0
 IsLong n G K L R out = count (meaningOf n G K L R .lengths) ≤ length out
 
--- A call that follows another takes the shape and elements that the other gave.
+-- A call that follows another takes the shape and elements that the other gave. Buffers are values here, so no later call writes them.
 abbrev pub given : Reply → Operand
 given a = record { shape = a .shape; buffer = a .out }
 
@@ -52,7 +52,7 @@ pub record Lists (l : Operand) (xs : List ℤ) : Type 0 where
   pub list : isList (arrayOf l) ≡ true
   pub elements : arrayOf l .elements ≡ xs
 
--- A single of amount a.
+-- "Single" means a scalar or a vector of one element, here a.
 abbrev pub IsSingle : Operand → ℤ → Type 0
 IsSingle l a = Lists l (a ∷ [])
 
@@ -73,10 +73,12 @@ pub data Transposition (G : ℤ) (r : ℕ) : Type 0 where
   by26 : (l : Operand) (ts : List ℕ) → Sends G l ts → Permutes r ts → Transposition G r
 
 module _ {G : ℤ} {r : ℕ} where
+  -- The call's number.
   abbrev pub callOf : Transposition G r → ℤ
   callOf (by15 l) = pos 15
   callOf (by26 l ts s p) = pos 26
 
+  -- Its L.
   abbrev pub leftOf : Transposition G r → Operand
   leftOf (by15 l) = l
   leftOf (by26 l ts s p) = l

@@ -23,7 +23,7 @@ pub record Array : Type 0 where
 abbrev pub arrayOf : Operand → Array
 arrayOf o = record { lengths = counted (o .shape); elements = take (count (counted (o .shape))) (o .buffer) }
 
--- Good form: a good shape, and a buffer that is not shorter than the count.
+-- Good form, without which the call is FORM: a good shape, and a buffer that is not shorter than the count.
 unfoldable pub goodForm : Operand → Bool
 goodForm o = goodShape (o .shape) && leb (count (counted (o .shape))) (length (o .buffer))
 

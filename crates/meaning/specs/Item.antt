@@ -31,9 +31,11 @@ pub record Item : Type 0 where
   pub shape : Shape
   pub part : List ℤ
 
+-- By the refusal's number; 0 gives the item.
 unfoldable pub settleItem : ℕ → List ℕ → ℕ → List ℤ → Item
 settleItem zero ns i buffer = record { number = 0; shape = shapeOf ns; part = take (count ns) (drop (i * count ns) buffer) }
 settleItem (suc n) ns i buffer = record { number = suc n; shape = scalar; part = [] }
 
+-- Leading item: item i less G of R's first axis, and what the sister call gives of it.
 unfoldable pub leadingItem : Operand → ℤ → ℤ → Item
 leadingItem R G i = settleItem (itemRefusal R G i) (itemLengths R) (natAbs (i -ℤ G)) (R .buffer)

@@ -194,7 +194,8 @@ drops L R =
       element = λ p. at r (droppedPlace (L .elements) p);
     }
 
--- 25 rotate: L is a list of one amount a, else LENGTH. Position i takes (i + a) mod n, never negative; a scalar returns as a scalar.
+-- 25 rotate: L is a list of one amount a, else LENGTH. Position i takes (i + a) mod n, never negative; length 0 is unchanged, since it has
+-- no position; a scalar returns as a scalar.
 unfoldable pub rotate : ℤ → ℤ → Array → Array → Meaning
 rotate G K L R =
     let k : ℕ = natAbs (K -ℤ G) in
@@ -267,7 +268,8 @@ expand G K L R =
           (pos 0);
     }
 
--- 29 index of: L has rank 1, else RANK. Each element of R gives G plus the first position holding it in L, or G plus L's count. R's shape.
+-- 29 index of: L has rank 1, else RANK. Each element of R gives G plus the first position holding it in L, or G plus L's count
+-- exactly if no position does. R's shape.
 unfoldable pub indexOf : ℤ → Array → Array → Meaning
 indexOf G L R = record {
   refusals = RANK unless eqb (rank L) 1 ∷ [];

@@ -6,9 +6,11 @@ use lib.Dec.{eqb}
 
 infix 68 _when_
 infix 68 _unless_
+-- The program that calls can cause NUMBER, FORM, ORIGIN and SPACE, the writer of the exercise the others.
 pub data Refusal : Type 0 where
   NUMBER FORM ORIGIN RANK AXIS LENGTH DOMAIN INDEX LIMIT SPACE : Refusal
 
+-- The number of each.
 unfoldable pub number : Refusal → ℕ
 number NUMBER = 1
 number FORM = 2

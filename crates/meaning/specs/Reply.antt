@@ -48,6 +48,7 @@ unknown = record {
   meaning = λ G K L R. record { refusals = NUMBER when true ∷ []; lengths = []; element = λ p. pos 0 };
 }
 
+-- The primitive of a number.
 unfoldable pub named : ℤ → List Primitive → Primitive
 named n [] = unknown
 named n (p ∷ ps) = cond (eqZ n (pos (p .number))) p (named n ps)

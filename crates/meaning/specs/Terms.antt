@@ -7,6 +7,7 @@ use lib.Dec.{eqb, leb, ltb}
 use lib.IntN.{ℤ, pos, negsuc}
 use Rattle.meaning.specs.Array.{Array, at}
 
+-- The rank: how many lengths there are.
 abbrev pub rank : Array → ℕ
 rank a = length (a .lengths)
 
@@ -22,10 +23,6 @@ isScalar a = eqb (rank a) 0
 abbrev pub isList : Array → Bool
 isList a = leb (rank a) 1
 
--- "Single" means a scalar or a vector of one element.
-abbrev pub isSingle : Array → Bool
-isSingle a = isList a && eqb (length (a .elements)) 1
-
 -- A scalar that is read as an array of n lengths of 1.
 abbrev pub asRank : ℕ → Array → Array
 asRank n a = cond (isScalar a) (record { lengths = replicate n 1; elements = a .elements }) a
@@ -39,6 +36,7 @@ unfoldable pub negative : ℤ → Bool
 negative (pos m) = false
 negative (negsuc m) = true
 
+-- Two whole numbers are the same.
 unfoldable pub eqZ : ℤ → ℤ → Bool
 eqZ (pos a) (pos b) = eqb a b
 eqZ (negsuc a) (negsuc b) = eqb a b

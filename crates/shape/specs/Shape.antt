@@ -32,6 +32,7 @@ small (n ∷ ns) = leb n maxCount && small ns
 unfoldable pub shapeRule : ℕ → List ℕ → Bool
 shapeRule rank ns = leb rank maxRank && (small ns && leb (count ns) maxCount)
 
+-- A good shape keeps the shape rule; every other is a bad one.
 abbrev pub goodShape : Shape → Bool
 goodShape s = shapeRule (s .rank) (counted s)
 

@@ -29,6 +29,7 @@ okLine line a = answerLine line (ok-word ∷ digits (length (a .lengths)) ∷ ma
 unfoldable pub noLine : ℕ → ℕ → List ℕ
 noLine line refusal = answerLine line (no-word ∷ digits refusal ∷ [])
 
+-- `bad`.
 unfoldable pub badLine : ℕ → List ℕ
 badLine line = answerLine line (bad-word ∷ [])
 

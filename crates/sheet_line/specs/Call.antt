@@ -24,15 +24,19 @@ maxHeld = 1024
 abbrev pub Reader : Type 0 → Type 0
 Reader A = List ℤ → Option (A × List ℤ)
 
+-- A value, and nothing is taken.
 abbrev pub give : {A : Type 0} → A → Reader A
 give a zs = some (a, zs)
 
+-- No value.
 abbrev pub fail : {A : Type 0} → Reader A
 fail zs = none
 
+-- One reader and then another, which may depend on the first's value.
 abbrev pub _then_ : {A B : Type 0} → Reader A → (A → Reader B) → Reader B
 (p then q) zs = andThen (p zs) (λ t. q (t .0) (t .1))
 
+-- The next number.
 abbrev pub number : Reader ℤ
 number [] = none
 number (z ∷ zs) = some (z, zs)
@@ -42,6 +46,7 @@ abbrev pub upTo : ℕ → ℤ → Reader ℕ
 upTo m (pos n) = cond (leb n m) (give n) fail
 upTo m (negsuc k) = fail
 
+-- The next number, from 0 to m.
 unfoldable pub natural : ℕ → Reader ℕ
 natural m = number then upTo m
 
@@ -89,6 +94,7 @@ abbrev pub allRead : {A : Type 0} → A × List ℤ → Option A
 allRead (a, []) = some a
 allRead (a, z ∷ zs) = none
 
+-- The call that all the numbers of a line say.
 unfoldable pub callOf : ℕ → ℕ → List ℤ → Option Call
 callOf roomL roomR zs = andThen (call roomL roomR zs) allRead
 

@@ -5,6 +5,7 @@ use mathlib.Core.Bool.{cond}
 use lib.Dec.{ltb}
 use lib.IntN.{ℤ, pos, negsuc}
 
+-- The bytes of the three signs.
 abbrev pub newline : ℕ
 newline = 10
 
