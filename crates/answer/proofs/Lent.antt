@@ -1,7 +1,7 @@
 -- What is known of a lent operand.
 use mathlib.Core.Path.{_≡_, refl, sym, ap, _∙_}
 use mathlib.Core.List.{List}
-use mathlib.Core.Bool.{Bool, true, false, cond, _&&_}
+use mathlib.Core.Bool.{Bool, true, false, _&&_}
 use Prim.Native.Nat.{ℕ, _-_, _≤_, _<_}
 use native.Mathlib.Nat.{sub-zero}
 use native.Mathlib.Omega.{arith}
@@ -16,6 +16,7 @@ use Rattle.shape.proofs.Bools.{both}
 use Rattle.shape.proofs.Counts.{good-rank, count-good, count-of, good-count, bad-count}
 use Rattle.meaning.specs.Array.{arrayOf, goodForm}
 use Rattle.meaning.specs.Terms.{rank, axis}
+use Rattle.meaning.specs.Refusal.{number, precedence, meets, winner}
 use Rattle.meaning.specs.Reply.{isOrigin}
 use Rattle.answer.specs.Answer.{lent, early}
 
@@ -80,33 +81,30 @@ pub record Fine (form : Bool) (G : ℤ) : Type 0 where
 
 module _ (G : ℤ) where
   pub early-form : (form : Bool) → form ≡ false → early form G ≡ 2
-  unfolding early
+  unfolding early precedence winner meets number
   early-form form h = rw h
 
   pub early-origin : (form : Bool) → form ≡ true → isOrigin G ≡ false → early form G ≡ 3
-  unfolding early
+  unfolding early precedence winner meets number
   early-origin form h o = rw (h, o)
 
   pub early-none : (form : Bool) → form ≡ true → isOrigin G ≡ true → early form G ≡ 0
-  unfolding early
+  unfolding early precedence winner meets number
   early-none form h o = rw (h, o)
 
   pub early-left : (a b : Bool) → a ≡ false → early (a && b) G ≡ 2
-  unfolding early
-  early-left a b h = rw h
+  early-left a b h = early-form (a && b) (rw h)
 
   pub early-right : (a b : Bool) → a ≡ true → early (a && b) G ≡ early b G
-  unfolding early
   early-right a b h = rw h
 
   pub early-fine : (form : Bool) → early form G ≡ 0 → Fine form G
-  unfolding early
-  early-fine false h = absurd (omega arith)
-  early-fine true h = by (isOrigin G) refl h
+  early-fine form h = by form refl (isOrigin G) refl h
     where
-      by : (b : Bool) → isOrigin G ≡ b → _≡_ {A = ℕ} (cond b 0 3) 0 → Fine true G
-      by true e h = record { forms = refl; origin = e }
-      by false e h = absurd (omega arith)
+      by : (f : Bool) → form ≡ f → (o : Bool) → isOrigin G ≡ o → early form G ≡ 0 → Fine form G
+      by false e o t h = absurd (omega (arith, early-form form e))
+      by true e false t h = absurd (omega (arith, early-origin form e t))
+      by true e true t h = record { forms = e; origin = t }
 
 -- The shape of a result that has the operand's lengths.
 pub made-is : (s : Shape) (b : List ℤ) → Lent s b → madeOf (s .rank) (s .lens) ≡ shapeOf (counted s)

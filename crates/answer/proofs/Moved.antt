@@ -11,7 +11,7 @@ use Rattle.shape.specs.Shape.{counted, count, aroundOf}
 use Rattle.shape.proofs.Axis.{count-axis}
 use Rattle.shape.proofs.Surround.{Parts, count-set}
 use Rattle.meaning.specs.Array.{Array, arrayOf, tab, build}
-use Rattle.meaning.specs.Terms.{rank, axis, along}
+use Rattle.meaning.specs.Terms.{rank, along}
 use Rattle.meaning.proofs.Tab.{tab-ext}
 use Rattle.copying.proofs.Blocks.{source, source-lt, along-source}
 use Rattle.answer.specs.Answer.{lent}

@@ -2,14 +2,13 @@
 use Prim.Native.Nat.{ℕ}
 use mathlib.Core.Path.{_≡_}
 use mathlib.Core.List.{List, [], _∷_}
-use mathlib.Core.Bool.{Bool, cond}
-use lib.Dec.{eqb}
+use mathlib.Core.Bool.{Bool}
 use lib.IntN.{ℤ}
 use Rattle.shape.specs.declared.Shape.{Shape}
 use Rattle.shape.specs.Shape.{scalar}
 use Rattle.meaning.specs.Array.{Operand}
-use Rattle.meaning.specs.Refusal.{Refusal, Rule, winner}
-use Rattle.meaning.specs.Refusal.Refusal.{RANK, AXIS, LENGTH, DOMAIN, INDEX}
+use Rattle.meaning.specs.Refusal.{Rule, _unless_, precedence, winner}
+use Rattle.meaning.specs.Refusal.Refusal.{FORM, ORIGIN}
 use Rattle.meaning.specs.Reply.{Reply, isOrigin}
 use Rattle.answer.specs.declared.Answer.{Answer}
 
@@ -25,15 +24,13 @@ answerOf y = record { number = y .number; shape = y .shape }
 abbrev pub refusal : ℕ → Answer
 refusal n = record { number = n; shape = scalar }
 
--- The order in which a call asks: FORM and ORIGIN, then the primitive's own refusals, then LIMIT and SPACE.
+-- A call asks for FORM and ORIGIN, then for the primitive's own refusals, then for LIMIT and SPACE; which wins, `precedence` decides.
+-- FORM and ORIGIN precede every primitive's own, so no primitive is named: 0 is the number of none.
 unfoldable pub early : Bool → ℤ → ℕ
-early form G = cond form (cond (isOrigin G) 0 3) 2
-
-unfoldable pub ownOrder : ℕ → List Refusal
-ownOrder n = cond (eqb n 28) (RANK ∷ AXIS ∷ DOMAIN ∷ LENGTH ∷ INDEX ∷ []) (RANK ∷ AXIS ∷ LENGTH ∷ DOMAIN ∷ INDEX ∷ [])
+early form G = winner (precedence 0) (FORM unless form ∷ ORIGIN unless isOrigin G ∷ [])
 
 abbrev pub own : ℕ → List Rule → ℕ
-own n rules = winner (ownOrder n) rules
+own n rules = winner (precedence n) rules
 
 -- A call's whole outcome: number, shape and output buffer are the reply's.
 pub record Replied (a : Answer) (out : List ℤ) (y : Reply) : Type 0 where

@@ -14,13 +14,13 @@ use Rattle.shape.specs.declared.Shape.{Shape}
 use Rattle.shape.specs.Shape.{maxRank, maxCount, counted, count, countOf, shapeOf, scalar, shapeRule, madeOf}
 use Rattle.shape.proofs.Made.{made-rule, made-no-rule, made-count}
 use Rattle.meaning.specs.Array.{Operand, Array, arrayOf, tab, build}
-use Rattle.meaning.specs.Refusal.{_unless_, number, meets, winner}
+use Rattle.meaning.specs.Refusal.{_unless_, number, precedence, meets, winner}
 use Rattle.meaning.specs.Refusal.Refusal.{RANK, LENGTH}
 use Rattle.meaning.specs.Terms.{rank, isList, asRank, eqZ}
 use Rattle.meaning.specs.Primitives.{takes, drops}
 use Rattle.meaning.proofs.Scalars.{scalar-as, array-as}
 use Rattle.meaning.specs.Reply.{Primitive, primitives, named}
-use Rattle.answer.specs.Answer.{lent, ownOrder, own}
+use Rattle.answer.specs.Answer.{lent, own}
 use Rattle.answer.proofs.Lent.{Lent}
 use Rattle.answer.proofs.Order.{Names}
 use Rattle.cuts.specs.Windows.{numberOf, cutMeaning, refusalOf, lengthsOf, sizesOf, tableOf, cutAt, Parts}
@@ -44,7 +44,7 @@ cut-names true G K L R = record {
 
 -- RANK and LENGTH, by their tests.
 own-tests : (d a b : Bool) → own (numberOf d) (RANK unless a ∷ LENGTH unless b ∷ []) ≡ cond a (cond b 0 6) 4
-unfolding ownOrder winner meets number
+unfolding precedence winner meets number
 own-tests false false b = refl
 own-tests false true false = refl
 own-tests false true true = refl

@@ -13,13 +13,13 @@ use Rattle.shape.specs.Shape.{counted, count, goodShape, shapeOf, without}
 use Rattle.shape.specs.Place.{place}
 use Rattle.shape.proofs.Bools.{both}
 use Rattle.meaning.specs.Array.{Operand, Array, arrayOf, goodForm, at, build}
-use Rattle.meaning.specs.Refusal.{number, meets, winner}
+use Rattle.meaning.specs.Refusal.{number, precedence, meets, winner}
 use Rattle.meaning.specs.Terms.{rank, axis, isScalar, within, every, putIn}
 use Rattle.meaning.specs.Primitives.{Meaning, select}
 use Rattle.meaning.specs.Reply.{isOrigin}
 use Rattle.meaning.specs.Item.{Item, itemRefusal, itemLengths, leadingItem}
 use Rattle.meaning.proofs.Tab.{tab-ext, tab-part}
-use Rattle.answer.specs.Answer.{ownOrder, own}
+use Rattle.answer.specs.Answer.{own}
 use Rattle.items.proofs.Refusals.{Accepted, accepted, item-rank, item-index, item-none, item-given}
 use Rattle.items.proofs.First.{index-first}
 use Rattle.items.proofs.Found.{item-axes, item-room}
@@ -48,7 +48,7 @@ module _ (R : Operand) (G i : ℤ) where
 
   -- 31 refuses the same numbers, where FORM and ORIGIN are not met.
   refused-rank : isScalar (arrayOf R) ≡ true → own 31 (selecting R G i .refusals) ≡ 4
-  unfolding select ownOrder winner meets number
+  unfolding select precedence winner meets number
   refused-rank s = rw s
 
   module _ (s : isScalar (arrayOf R) ≡ false) where
@@ -60,11 +60,11 @@ module _ (R : Operand) (G i : ℤ) where
     chosen t e = ap (λ z. within (i -ℤ G) (axis (arrayOf R) (natAbs z))) (+ℤ-invr G) ∙ e
 
     refused-index : within (i -ℤ G) (axis (arrayOf R) 0) ≡ false → own 31 (selecting R G i .refusals) ≡ 8
-    unfolding select ownOrder winner meets number every
+    unfolding select precedence winner meets number every
     refused-index w = rw (s, on-axis, chosen false w)
 
     refused-none : within (i -ℤ G) (axis (arrayOf R) 0) ≡ true → own 31 (selecting R G i .refusals) ≡ 0
-    unfolding select ownOrder winner meets number every
+    unfolding select precedence winner meets number every
     refused-none w = rw (s, on-axis, chosen true w)
 
   pub item-alike : goodForm R ≡ true → isOrigin G ≡ true → itemRefusal R G i ≡ own 31 (selecting R G i .refusals)

@@ -19,14 +19,14 @@ use Rattle.shape.proofs.Places.{In, place-in}
 use Rattle.shape.proofs.Axis.{in-at, in-set, axis-position, axis-index}
 use Rattle.shape.proofs.Surround.{factor, count-set}
 use Rattle.meaning.specs.Array.{Operand, Array, arrayOf, tab, build}
-use Rattle.meaning.specs.Refusal.{number, meets, winner}
+use Rattle.meaning.specs.Refusal.{number, precedence, meets, winner}
 use Rattle.meaning.specs.Terms.{axis, isScalar, eqZ, within, sameLengths}
 use Rattle.meaning.specs.Primitives.{side, higher, ranksFit, catenate}
 use Rattle.meaning.specs.Reply.{Primitive, primitives, named}
 use Rattle.meaning.proofs.Tab.{tab-ext}
 use Rattle.meaning.proofs.Positions.{within-lt}
 use Rattle.meaning.proofs.Sides.{ranks-beside, same-is, side-flat, sideAt}
-use Rattle.answer.specs.Answer.{ownOrder, own}
+use Rattle.answer.specs.Answer.{own}
 use Rattle.answer.proofs.Order.{Names}
 use Rattle.joins.specs.Joined.{joinedAt}
 
@@ -54,29 +54,29 @@ pub record Joins (G K : ℤ) (L R : Array) : Type 0 where
 
 module _ (G K : ℤ) (L R : Array) where
   pub catenate-rank : ranksFit L R ≡ false → own 22 (catenate G K L R .refusals) ≡ 4
-  unfolding catenate ownOrder winner meets number
+  unfolding catenate precedence winner meets number
   catenate-rank h = rw h
 
   module _ (fit : ranksFit L R ≡ true) where
     pub catenate-axis : within (K -ℤ G) (length (higher L R)) ≡ false → own 22 (catenate G K L R .refusals) ≡ 5
-    unfolding catenate ownOrder winner meets number
+    unfolding catenate precedence winner meets number
     catenate-axis h = rw (fit, h)
 
     module _ (on-axis : within (K -ℤ G) (length (higher L R)) ≡ true) where
       pub catenate-left : agree (higher L R) (natAbs (K -ℤ G)) L ≡ false → own 22 (catenate G K L R .refusals) ≡ 6
-      unfolding catenate ownOrder winner meets number
+      unfolding catenate precedence winner meets number
       catenate-left h = rw (fit, on-axis, h)
 
       pub catenate-right : agree (higher L R) (natAbs (K -ℤ G)) L ≡ true → agree (higher L R) (natAbs (K -ℤ G)) R ≡ false → own 22 (catenate G K L R .refusals) ≡ 6
-      unfolding catenate ownOrder winner meets number
+      unfolding catenate precedence winner meets number
       catenate-right g h = rw (fit, on-axis, g, h)
 
       pub catenate-none : agree (higher L R) (natAbs (K -ℤ G)) L ≡ true → agree (higher L R) (natAbs (K -ℤ G)) R ≡ true → own 22 (catenate G K L R .refusals) ≡ 0
-      unfolding catenate ownOrder winner meets number
+      unfolding catenate precedence winner meets number
       catenate-none g h = rw (fit, on-axis, g, h)
 
   pub catenate-fits : own 22 (catenate G K L R .refusals) ≡ 0 → Joins G K L R
-  unfolding catenate ownOrder winner meets number
+  unfolding catenate precedence winner meets number
   catenate-fits =
       by (ranksFit L R) (within (K -ℤ G) (length (higher L R))) (agree (higher L R) (natAbs (K -ℤ G)) L) (agree (higher L R) (natAbs (K -ℤ G)) R) refl refl refl refl
     where

@@ -13,7 +13,7 @@ use Rattle.shape.specs.declared.Shape.{Shape}
 use Rattle.shape.specs.Shape.{maxRank, counted, count, shapeOf, shapeRule, madeOf, scalar}
 use Rattle.shape.proofs.Places.{index-place}
 use Rattle.meaning.specs.Array.{Operand, Array, arrayOf, at, tab, build}
-use Rattle.meaning.specs.Refusal.{number, meets, winner}
+use Rattle.meaning.specs.Refusal.{number, precedence, meets, winner}
 use Rattle.meaning.specs.Terms.{eqZ, rank, firstAt}
 use Rattle.meaning.specs.Primitives.{indexOf, member}
 use Rattle.meaning.specs.Reply.{Primitive, primitives, named, isOrigin}
@@ -21,7 +21,7 @@ use Rattle.meaning.proofs.Tab.{tab-ext, length-tab, getD-tab}
 use Rattle.meaning.proofs.Arrays.{Whole}
 use Rattle.signed.proofs.Equal.{origin-is}
 use Rattle.copying.proofs.Runs.{filled, filled-whole, part-length, put-list}
-use Rattle.answer.specs.Answer.{ownOrder, own}
+use Rattle.answer.specs.Answer.{own}
 use Rattle.answer.proofs.Order.{Names}
 use Rattle.lookups.specs.Found.{positions, bit, members, entry, entries}
 
@@ -51,11 +51,11 @@ index-names G K L R = record {
 
 module _ (G : ℤ) (L R : Array) where
   pub index-rank : (rank L ≡ 1 → ⊥) → own 29 (indexOf G L R .refusals) ≡ 4
-  unfolding indexOf ownOrder winner meets number
+  unfolding indexOf precedence winner meets number
   index-rank h = rw (ne-eqb (rank L) 1 h)
 
   pub index-none : rank L ≡ 1 → own 29 (indexOf G L R .refusals) ≡ 0
-  unfolding indexOf ownOrder winner meets number
+  unfolding indexOf precedence winner meets number
   index-none h = rw (eq-eqb (rank L) 1 h)
 
   pub index-lengths : indexOf G L R .lengths ≡ R .lengths
@@ -91,7 +91,7 @@ member-names G K L R = record {
 
 module _ (L R : Array) where
   pub member-none : own 30 (member L R .refusals) ≡ 0
-  unfolding member ownOrder winner meets
+  unfolding member precedence winner meets
   member-none = refl
 
   pub member-lengths : member L R .lengths ≡ L .lengths

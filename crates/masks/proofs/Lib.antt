@@ -1,5 +1,6 @@
 pub mod Ones
 pub mod Filling
+pub mod Written
 pub mod Kept
 pub mod Opened
 pub mod Repeated

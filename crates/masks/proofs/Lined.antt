@@ -32,14 +32,14 @@ module _ (e : Bool) (l : List ℤ) (s : Shape) (k m total : ℕ) (r : List ℤ) 
       build (set (counted s) k m) (λ p. cond (takes e l (getD p k 0)) (along (arrayOf (lent s r)) k (taken e l (getD (counted s) k 0)) p) (pos 0)) .elements
 
   pub lined-none : total ≡ 0 → (out : List ℤ) → out ≡ lined ++ drop total out
-  lined-none z out = sym (ap₂ (λ x y. x ++ drop y out) (build-none (set (counted s) k m) _ (a .whole ∙ z)) z)
+  lined-none z out = sym (ap₂ (λ x y. x ++ drop y out) (build-none (set (counted s) k m) _ (a .operand .whole ∙ z)) z)
 
   module _ (long : length (s .lens) ≡ maxRank) (some : 0 < total) where
     good : Lent s r
-    good = lent-good s r long (a .form)
+    good = lent-good s r long (a .operand .form)
 
     around : Parts s k m total
-    around = parts s k m total (good .high) long (a .has) (a .whole) some (a .small)
+    around = parts s k m total (good .high) long (a .operand .has) (a .operand .whole) some (a .operand .small)
 
     low : (i : ℕ) → i < m → takes e l i ≡ true → taken e l (getD (counted s) k 0) i < aroundOf s k .length
     low i h t = rw (around .length-is) (taken-lt e l (getD (counted s) k 0) i (a .fitting) (omega (arith, a .wide)) t)
@@ -51,8 +51,8 @@ module _ (e : Bool) (l : List ℤ) (s : Shape) (k m total : ℕ) (r : List ℤ) 
         wide = a .wide;
         some = around .outer-some;
         row = around .inner-some;
-        source = omega (arith, good .room, held s k m total (omega (arith, good .rank-is, a .has)) around);
-        room = omega (arith, a .space, around .whole);
+        source = omega (arith, good .room, held s k m total (omega (arith, good .rank-is, a .operand .has)) around);
+        room = omega (arith, a .operand .space, around .whole);
       })
 
       pub lined-all : (out : List ℤ) → filled (placed (takes e l) (taken e l (v .length)) (v .length) m (v .inner) r) (v .outer * (m * v .inner)) out ≡ lined ++ drop total out
@@ -61,4 +61,4 @@ module _ (e : Bool) (l : List ℤ) (s : Shape) (k m total : ℕ) (r : List ℤ) 
           ap (λ (x : Around). filled (placed (takes e l) (taken e l (x .length)) (x .length) m (x .inner) r) (x .outer * (m * x .inner)) out) w
           ∙ ap (λ x. filled (placed (takes e l) (taken e l x) (aroundOf s k .length) m (aroundOf s k .inner) r) (aroundOf s k .outer * (m * aroundOf s k .inner)) out) (around .length-is)
           ∙ ap (λ x. filled (placed (takes e l) (taken e l (getD (counted s) k 0)) (aroundOf s k .length) m (aroundOf s k .inner) r) x out) size
-          ∙ ap (λ x. x ++ drop total out) (sym (along-placed s r k m total (takes e l) (taken e l (getD (counted s) k 0)) good (a .has) around low))
+          ∙ ap (λ x. x ++ drop total out) (sym (along-placed s r k m total (takes e l) (taken e l (getD (counted s) k 0)) good (a .operand .has) around low))

@@ -3,7 +3,7 @@ use mathlib.Core.Path.{_≡_, refl, sym, ap, ap₂, _∙_}
 use mathlib.Core.List.{List}
 use mathlib.Core.Bool.{Bool, true, false, cond}
 use Prim.Native.Nat.{ℕ, _+_, _*_, _/_, _%_, _-_, _≤_, _<_}
-use native.Mathlib.Nat.{div-lt-iff-lt-mul, mod-lt, div-add-mod', zero-mul, mul-le-mul-right}
+use native.Mathlib.Nat.{div-lt-iff-lt-mul, mod-lt, div-add-mod', zero-mul}
 use native.Mathlib.Omega.{arith}
 use lib.ListN.{length, getD, take, drop, set, length-drop}
 use lib.Seq.{length-take-le, getD-take, getD-drop}
@@ -18,12 +18,13 @@ use Rattle.shape.proofs.Surround.{Parts, count-set}
 use Rattle.meaning.specs.Array.{arrayOf, at, tab, build}
 use Rattle.meaning.specs.Terms.{rank, along}
 use Rattle.meaning.proofs.Tab.{length-tab, getD-tab, tab-ext}
-use Rattle.copying.proofs.Runs.{filled, filled-none, length-filled, put-list}
-use Rattle.copying.proofs.Blocks.{source, source-in}
+use Rattle.copying.proofs.Runs.{filled, put-list}
+use Rattle.copying.proofs.Blocks.{source, source-in, source-lt}
 use Rattle.answer.specs.Answer.{lent}
 use Rattle.answer.proofs.Lent.{Lent}
 use Rattle.masks.specs.Rows.{takes, taken, rowed, placed, Block, Blocks}
 use Rattle.masks.proofs.Uses.{taken-lt}
+use Rattle.masks.proofs.Written.{run-inside, Written, written-none, written-front, written-room, written-more}
 
 module _ (t : ℕ → Bool) (φ : ℕ → ℕ) (n m c : ℕ) (r : List ℤ) (o : ℕ) (c> : 0 < c) (low : (i : ℕ) → i < m → t i ≡ true → φ i < n) where
   -- Element i of block o, by the block's own part of r.
@@ -89,8 +90,8 @@ module _ (s : Shape) (b : List ℤ) (k m total : ℕ) (t : ℕ → Bool) (φ : �
 
     inside : t i ≡ true → source m (aroundOf s k .length) c φ j < count (counted s)
     inside w =
-        let q : j / c < aroundOf s k .outer * m = div-lt-iff-lt-mul (p .inner-some) .1 (rw (p .whole) j<) in
-        rw (held s k m total kl p) (digits-lt (digits-lt (div-lt-iff-lt-mul (p .some) .1 q) (low i (mod-lt (j / c) (p .some)) w)) (mod-lt j (p .inner-some)))
+        rw (held s k m total kl p)
+        (source-lt (aroundOf s k .outer) m (aroundOf s k .length) c j (λ x. φ i) (λ x q. low i (mod-lt (j / c) (p .some)) w) (p .inner-some) (p .some) (rw (p .whole) j<))
 
     taken-at : t i ≡ true → getD (take (count (counted s)) b) (index (counted s) (set (place (set (counted s) k m) j) k (φ i))) (pos 0)
         ≡ getD b (source m (aroundOf s k .length) c φ j) (pos 0)
@@ -124,45 +125,36 @@ module _ (s : Shape) (b : List ℤ) (k m total : ℕ) (t : ℕ → Bool) (φ : �
 pub record Passed (e : Bool) (l r : List ℤ) (outer n m c : ℕ) (out₀ out : List ℤ) (from to o : ℕ) : Type 0 where
   pub within : o ≤ outer
   pub source-at : from ≡ o * (n * c)
-  pub at : to ≡ o * (m * c)
-  pub long : length out ≡ length out₀
-  pub filling : out ≡ filled (placed (takes e l) (taken e l n) n m c r) to out₀
+  pub written : Written (placed (takes e l) (taken e l n) n m c r) (m * c) out₀ out to o
 
-module _ (e : Bool) (l r : List ℤ) (outer n m c : ℕ) (out₀ : List ℤ) where
-  pub passed-none : Passed e l r outer n m c out₀ out₀ 0 0 0
-  passed-none = record { within = omega arith; source-at = sym (zero-mul (n * c)); at = sym (zero-mul (m * c)); long = refl; filling = filled-none _ out₀ }
+pub passed-none : (e : Bool) (l r : List ℤ) (outer n m c : ℕ) (out₀ : List ℤ) → Passed e l r outer n m c out₀ out₀ 0 0 0
+passed-none e l r outer n m c out₀ = record { within = omega arith; source-at = sym (zero-mul (n * c)); written = written-none _ (m * c) out₀ }
 
-  pub passed-all : (out : List ℤ) (from to o : ℕ) → Passed e l r outer n m c out₀ out from to o → outer ≤ o
-      → out ≡ filled (placed (takes e l) (taken e l n) n m c r) (outer * (m * c)) out₀
-  passed-all out from to o k h =
-      let q : o ≡ outer = omega (arith, k .within) in
-      k .filling ∙ ap (λ x. filled (placed (takes e l) (taken e l n) n m c r) x out₀) (k .at ∙ ap (λ x. x * (m * c)) q)
+module _ {e : Bool} {l r : List ℤ} {outer n m c : ℕ} {out₀ out : List ℤ} {from to o : ℕ} (k : Passed e l r outer n m c out₀ out from to o) where
+  pub passed-all : outer ≤ o → out ≡ filled (placed (takes e l) (taken e l n) n m c r) (outer * (m * c)) out₀
+  passed-all h = written-front (k .written) outer (omega (arith, k .within))
 
-  module _ (b : Blocks e l outer n m c (length r) (length out₀)) where
-    module _ (out : List ℤ) (from to o : ℕ) (k : Passed e l r outer n m c out₀ out from to o) (h : o < outer) where
-      pub passed-inside : from + n * c ≤ length r
-      passed-inside = omega (arith, b .source, k .source-at, mul-le-mul-right {m = o + 1} {n = outer} (n * c) (omega arith))
+  module _ (b : Blocks e l outer n m c (length r) (length out₀)) (h : o < outer) where
+    pub passed-inside : from + n * c ≤ length r
+    passed-inside = run-inside (n * c) from o outer (length r) (k .source-at) h (b .source)
 
-      pub passed-room : to + m * c ≤ length out₀
-      passed-room = omega (arith, b .room, k .at, mul-le-mul-right {m = o + 1} {n = outer} (m * c) (omega arith))
+    pub passed-room : to + m * c ≤ length out₀
+    passed-room = written-room (k .written) outer h (b .room)
 
-      pub passed-block : Block e l n m c (length (take (from + n * c - from) (drop from r))) (length (take (to + m * c - to) (drop to out)))
-      passed-block = record {
-        fitting = b .fitting;
-        wide = b .wide;
-        source = length-take-le (from + n * c - from) (drop from r) (rw length-drop (omega (arith, passed-inside))) ∙ omega arith;
-        room = length-take-le (to + m * c - to) (drop to out) (rw (length-drop, k .long) (omega (arith, passed-room))) ∙ omega arith;
-      }
+    pub passed-block : Block e l n m c (length (take (from + n * c - from) (drop from r))) (length (take (to + m * c - to) (drop to out)))
+    passed-block = record {
+      fitting = b .fitting;
+      wide = b .wide;
+      source = length-take-le (from + n * c - from) (drop from r) (rw length-drop (omega (arith, passed-inside))) ∙ omega arith;
+      room = length-take-le (to + m * c - to) (drop to out) (rw (length-drop, k .written .long) (omega (arith, passed-room))) ∙ omega arith;
+    }
 
-      pub passed-more : (last : List ℤ) → last ≡ tab (m * c) (rowed (takes e l) (taken e l n) c (take (from + n * c - from) (drop from r)))
-          → Passed e l r outer n m c out₀ (putMid to (to + m * c - to) out last) (from + n * c) (to + m * c) (o + 1)
-      passed-more last w =
-          let filling : putMid to (to + m * c - to) out last ≡ filled (placed (takes e l) (taken e l n) n m c r) (to + m * c) out₀ =
-          put-block (takes e l) (taken e l n) n m c r o (b .row) (λ i q. taken-lt e l n i (b .fitting) (omega (arith, b .wide))) out out₀ last from to (k .filling) (k .at) (k .source-at) w in
-          record {
-            within = omega arith;
-            source-at = omega (arith, k .source-at);
-            at = omega (arith, k .at);
-            long = ap length filling ∙ length-filled _ (to + m * c) out₀ passed-room;
-            filling = filling;
-          }
+    pub passed-more : (last : List ℤ) → last ≡ tab (m * c) (rowed (takes e l) (taken e l n) c (take (from + n * c - from) (drop from r)))
+        → Passed e l r outer n m c out₀ (putMid to (to + m * c - to) out last) (from + n * c) (to + m * c) (o + 1)
+    passed-more last w = record {
+      within = omega arith;
+      source-at = omega (arith, k .source-at);
+      written =
+          written-more (k .written) passed-room
+          (put-block (takes e l) (taken e l n) n m c r o (b .row) (λ i q. taken-lt e l n i (b .fitting) (omega (arith, b .wide))) out out₀ last from to (k .written .filling) (k .written .at) (k .source-at) w);
+    }

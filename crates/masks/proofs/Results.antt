@@ -2,8 +2,7 @@
 use mathlib.Core.Path.{_≡_, refl, sym, ap, _∙_}
 use mathlib.Core.List.{List, [], _∷_}
 use mathlib.Core.Bool.{Bool, true, false, cond}
-use Prim.Native.Nat.{ℕ, _-_, _≤_, _<_}
-use native.Mathlib.Nat.{sub-zero}
+use Prim.Native.Nat.{ℕ, _≤_, _<_}
 use native.Mathlib.Omega.{arith}
 use borrow.Author.Tests.{le-leb, eq-eqb, ne-eqb, eqb-true, eqb-false}
 use lib.ListN.{length, getD, take}
@@ -13,8 +12,7 @@ use lib.IntN.{ℤ, natAbs, _-ℤ_}
 use Rattle.shape.specs.declared.Shape.{Shape}
 use Rattle.shape.specs.Shape.{maxRank, maxCount, counted, count, small, shapeRule, countOf, shapeOf}
 use Rattle.shape.proofs.Made.{made-rule, made-no-rule, made-count}
-use Rattle.shape.proofs.Bools.{and-true}
-use Rattle.meaning.specs.Array.{arrayOf, goodForm}
+use Rattle.meaning.specs.Array.{arrayOf}
 use Rattle.meaning.specs.Terms.{asVector, within}
 use Rattle.meaning.proofs.Positions.{positionOf, position-lt, position-none, within-lt}
 use Rattle.meaning.specs.Primitives.{Meaning}
@@ -104,15 +102,6 @@ module _ (G K : ℤ) (s : Shape) (long : length (s .lens) ≡ maxRank) (high : s
 
   pub axis-length : p < s .rank → getD (counted s) (natAbs (K -ℤ G)) 0 ≡ getD (s .lens) p 0
   axis-length h = ap (λ x. getD (counted s) x 0) (axis-number h) ∙ getD-take (s .rank) (s .lens) p 0 h
-
--- Good form, back from what is known of an operand.
-pub form-of : (s : Shape) (b : List ℤ) → Lent s b → goodForm (lent s b) ≡ true
-unfolding goodForm
-form-of s b g = and-true _ _ (g .good) (le-leb (count (counted s)) (length b) (g .room))
-
--- The part that a call takes of a lent buffer.
-pub part-is : (s : Shape) (b : List ℤ) (c : ℕ) → Lent s b → c ≡ countOf s → take (c - 0) b ≡ arrayOf (lent s b) .elements
-part-is s b c g e = ap (λ x. take x b) (sub-zero c ∙ e ∙ g .count-is)
 
 -- A call along an axis: s is the shape that R is read with, and p what `position` answers of K.
 pub record Call (G K : ℤ) (ls rs : Shape) (l r : List ℤ) (s : Shape) (p : ℕ) : Type 0 where

@@ -14,27 +14,28 @@ use Rattle.meaning.specs.Terms.{eqZ, ones}
 use Rattle.masks.specs.Rows.{width, fits, takes, taken, rowed, Block}
 use Rattle.masks.proofs.Ones.{ones-lt, one-below}
 
+-- A block by its use x, of rows of d elements.
+module _ (e : Bool) (l : List ℤ) (n m c from to : ℕ) (b : Block e l n m c from to) (x : Bool) (h : e ≡ x) where
+  use-fits : fits x l n ≡ true
+  use-fits = ap (λ y. fits y l n) (sym h) ∙ b .fitting
+
+  use-ready : (k : ℕ) → n ≡ k → (d : ℕ) → c ≡ d → (from ≡ k * d) × (to ≡ width x l * d)
+  use-ready k o d q = (b .source ∙ ap₂ (λ y z. y * z) o q, b .room ∙ ap₂ (λ y z. y * z) (b .wide ∙ ap (λ y. width y l) h) q)
+
+  use-block : (r : List ℤ) (d : ℕ) → c ≡ d → tab (width x l * d) (rowed (takes x l) (taken x l n) d r) ≡ tab (m * c) (rowed (takes e l) (taken e l n) c r)
+  use-block r d q = rw (b .wide, h, q)
+
 module _ (e : Bool) (l : List ℤ) (n m c from to : ℕ) (b : Block e l n m c from to) where
   -- Where it expands.
   module _ (h : e ≡ true) where
-    expand-width : m ≡ length l
-    unfolding width
-    expand-width = b .wide ∙ rw h
-
-    expand-ones : n ≡ length (ones l)
-    unfolding fits
-    expand-ones = sym (eqb-true (length (ones l)) n (ap (λ x. fits x l n) (sym h) ∙ b .fitting))
-
-    pub expand-source : (d : ℕ) → c ≡ d → from ≡ length (ones l) * d
-    expand-source d q = b .source ∙ ap₂ (λ x y. x * y) expand-ones q
-
-    pub expand-room : (d : ℕ) → c ≡ d → to ≡ length l * d
-    expand-room d q = b .room ∙ ap₂ (λ x y. x * y) expand-width q
+    pub expand-ready : (d : ℕ) → c ≡ d → (from ≡ length (ones l) * d) × (to ≡ length l * d)
+    unfolding width fits
+    expand-ready d q = use-ready e l n m c from to b true h _ (sym (eqb-true (length (ones l)) n (use-fits e l n m c from to b true h))) d q
 
     pub expand-block : (r : List ℤ) (d : ℕ) → c ≡ d
         → tab (length l * d) (rowed (λ i. eqZ (getD l i (pos 0)) (pos 1)) (λ i. length (ones (take i l))) d r) ≡ tab (m * c) (rowed (takes e l) (taken e l n) c r)
-    unfolding takes taken
-    expand-block r d q = rw (expand-width, h, q)
+    unfolding width takes taken
+    expand-block r d q = use-block e l n m c from to b true h r d q
 
   -- Where it compresses an axis of length 1.
   module _ (h : e ≡ false) (o : n ≡ 1) where
@@ -49,28 +50,18 @@ module _ (e : Bool) (l : List ℤ) (n m c from to : ℕ) (b : Block e l n m c fr
 
   -- Where it compresses any other.
   module _ (h : e ≡ false) (o : n ≡ 1 → ⊥) where
-    compress-width : m ≡ length (ones l)
-    unfolding width
-    compress-width = b .wide ∙ rw h
-
-    compress-length : n ≡ length l
-    unfolding fits
-    compress-length =
-        sym (eqb-true (length l) n (ap (λ x. x || eqb (length l) n) (sym (ne-eqb n 1 o)) ∙ ap (λ x. fits x l n) (sym h) ∙ b .fitting))
-
-    pub compress-source : (d : ℕ) → c ≡ d → from ≡ length l * d
-    compress-source d q = b .source ∙ ap₂ (λ x y. x * y) compress-length q
-
-    pub compress-room : (d : ℕ) → c ≡ d → to ≡ length (ones l) * d
-    compress-room d q = b .room ∙ ap₂ (λ x y. x * y) compress-width q
+    pub compress-ready : (d : ℕ) → c ≡ d → (from ≡ length l * d) × (to ≡ length (ones l) * d)
+    unfolding width fits
+    compress-ready d q =
+        use-ready e l n m c from to b false h _
+        (sym (eqb-true (length l) n (ap (λ x. x || eqb (length l) n) (sym (ne-eqb n 1 o)) ∙ use-fits e l n m c from to b false h))) d q
 
     pub compress-block : (r : List ℤ) (d : ℕ) → c ≡ d
         → tab (length (ones l) * d) (rowed (λ i. true) (λ i. getD (ones l) i 0) d r) ≡ tab (m * c) (rowed (takes e l) (taken e l n) c r)
-    unfolding takes taken
+    unfolding width takes taken
     compress-block r d q =
-        ap₂ (λ x y. tab (x * y) (rowed (λ i. true) (λ i. getD (ones l) i 0) y r)) (sym compress-width) (sym q)
-        ∙ ap (λ b. tab (m * c) (rowed (λ i. true) (λ i. cond b 0 (getD (ones l) i 0)) c r)) (sym (ne-eqb n 1 o))
-        ∙ ap (λ b. tab (m * c) (rowed (takes b l) (taken b l n) c r)) (sym h)
+        ap (λ b. tab (length (ones l) * d) (rowed (λ i. true) (λ i. cond b 0 (getD (ones l) i 0)) d r)) (sym (ne-eqb n 1 o))
+        ∙ use-block e l n m c from to b false h r d q
 
 -- What is taken is a position of the axis.
 pub taken-lt : (e : Bool) (l : List ℤ) (n i : ℕ) → fits e l n ≡ true → i < width e l → takes e l i ≡ true → taken e l n i < n

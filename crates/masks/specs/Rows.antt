@@ -1,7 +1,7 @@
 -- What a mask takes, position by position and row by row; a row is the elements after one position of the axis.
 use mathlib.Core.Path.{_≡_}
 use Prim.Native.Nat.{ℕ, _+_, _*_, _/_, _%_, _≤_, _<_}
-use mathlib.Core.List.{List, [], _∷_}
+use mathlib.Core.List.{List}
 use mathlib.Core.Bool.{Bool, true, cond, _||_}
 use lib.ListN.{length, take, getD, set, replicate}
 use lib.Dec.{eqb}
@@ -56,37 +56,22 @@ pub record Blocks (expands : Bool) (l : List ℤ) (outer n m c from to : ℕ) : 
   pub room : outer * (m * c) ≤ to
 
 -- A good operand whose axis k goes to m positions, `total` elements in all.
-pub record Along (expands : Bool) (l : List ℤ) (s : Shape) (k m total : ℕ) (r : List ℤ) (room : ℕ) : Type 0 where
+pub record Resized (s : Shape) (k m total : ℕ) (r : List ℤ) (room : ℕ) : Type 0 where
   pub form : goodForm (lent s r) ≡ true
   pub has : k < s .rank
-  pub fitting : fits expands l (getD (counted s) k 0) ≡ true
-  pub wide : m ≡ width expands l
   pub whole : count (set (counted s) k m) ≡ total
   pub small : total ≤ maxCount
   pub space : total ≤ room
+
+pub record Along (expands : Bool) (l : List ℤ) (s : Shape) (k m total : ℕ) (r : List ℤ) (room : ℕ) : Type 0 where
+  pub operand : Resized s k m total r room
+  pub fitting : fits expands l (getD (counted s) k 0) ≡ true
+  pub wide : m ≡ width expands l
 
 -- 27: the position that position i of the result takes on an axis of length n.
 unfoldable pub keptAt : List ℤ → ℕ → ℕ → ℕ
 keptAt l n i = cond (eqb n 1) 0 (getD (ones (maskOf l n)) i 0)
 
-pub record Compressed (l : List ℤ) (s : Shape) (k m total : ℕ) (r : List ℤ) (room : ℕ) : Type 0 where
-  pub form : goodForm (lent s r) ≡ true
-  pub has : k < s .rank
-  pub fitting : (eqb (length l) 1 || eqb (getD (counted s) k 0) 1 || eqb (length l) (getD (counted s) k 0)) ≡ true
-  pub wide : m ≡ length (ones (maskOf l (getD (counted s) k 0)))
-  pub whole : count (set (counted s) k m) ≡ total
-  pub small : total ≤ maxCount
-  pub space : total ≤ room
-
 -- 28: only a scalar R is repeated.
 unfoldable pub openedAt : Bool → List ℤ → ℕ → ℕ
 openedAt scalar l i = cond scalar 0 (length (ones (take i l)))
-
-pub record Expanded (scalar : Bool) (l : List ℤ) (s : Shape) (k total : ℕ) (r : List ℤ) (room : ℕ) : Type 0 where
-  pub form : goodForm (lent s r) ≡ true
-  pub has : k < s .rank
-  pub alone : scalar ≡ true → counted s ≡ 1 ∷ []
-  pub fitting : (scalar || eqb (length (ones l)) (getD (counted s) k 0)) ≡ true
-  pub whole : count (set (counted s) k (length l)) ≡ total
-  pub small : total ≤ maxCount
-  pub space : total ≤ room

@@ -14,9 +14,9 @@ ghost use Rattle.meaning.specs.Terms.{along, every, isBit, eqZ, ones};
 ghost use Rattle.meaning.specs.Reply.{reply};
 ghost use Rattle.copying.proofs.Runs.{filled};
 ghost use Rattle.answer.specs.Answer.{lent, own, Replied};
-ghost use Rattle.masks.specs.Rows.{maskOf, takes, taken, rowed, placed, Block, Blocks, Along, keptAt, Compressed, openedAt, Expanded};
+ghost use Rattle.masks.specs.Rows.{maskOf, takes, taken, rowed, placed, Block, Blocks, Along, keptAt, openedAt};
 ghost use Rattle.masks.specs.Vector.{vectorShape};
-ghost use Rattle.masks.specs.Uses.{numbered, masking, compressTest, expandTest, resultWidth, maskElement, Masked};
+ghost use Rattle.masks.specs.Uses.{numbered, masking, compressTest, expandTest, resultWidth, maskElement, Masked, Compressed, Expanded};
 use answer::Answer;
 use shape::Shape;
 

@@ -14,7 +14,7 @@ use Rattle.shape.specs.Place.{place}
 use Rattle.shape.proofs.Axis.{count-axis}
 use Rattle.shape.proofs.Surround.{Parts}
 use Rattle.meaning.specs.Array.{Operand, Array, arrayOf, at, tab, build}
-use Rattle.meaning.specs.Refusal.{number, meets, winner}
+use Rattle.meaning.specs.Refusal.{number, precedence, meets, winner}
 use Rattle.meaning.specs.Terms.{rank, axis, isScalar, isList, eqZ, within, every, putIn, along}
 use Rattle.meaning.specs.Primitives.{select}
 use Rattle.meaning.specs.Reply.{Primitive, primitives, named}
@@ -23,7 +23,7 @@ use Rattle.meaning.proofs.Scalars.{scalar-count}
 use Rattle.meaning.proofs.Positions.{within-lt}
 use Rattle.meaning.proofs.Every.{every-at}
 use Rattle.meaning.proofs.Without.{removed, count-without}
-use Rattle.answer.specs.Answer.{lent, ownOrder, own}
+use Rattle.answer.specs.Answer.{lent, own}
 use Rattle.answer.proofs.Order.{Names}
 use Rattle.answer.proofs.Lent.{Lent}
 use Rattle.selects.specs.Chosen.{chosen, Chosen, selectedLengths}
@@ -48,30 +48,30 @@ pub record Selects (G K : ℤ) (L R : Array) : Type 0 where
 
 module _ (G K : ℤ) (L R : Array) where
   pub select-scalar : rank R ≡ 0 → own 31 (select G K L R .refusals) ≡ 4
-  unfolding select ownOrder winner meets number
+  unfolding select precedence winner meets number
   select-scalar h = rw (eq-eqb (rank R) 0 h)
 
   module _ (some : 0 < rank R) where
     pub select-rank : 1 < rank L → own 31 (select G K L R .refusals) ≡ 4
-    unfolding select ownOrder winner meets number
+    unfolding select precedence winner meets number
     select-rank h = rw (ne-eqb (rank R) 0 (λ e. omega arith), lt-leb (rank L) 1 h)
 
     module _ (list : rank L ≤ 1) where
       pub select-axis : within (K -ℤ G) (rank R) ≡ false → own 31 (select G K L R .refusals) ≡ 5
-      unfolding select ownOrder winner meets number
+      unfolding select precedence winner meets number
       select-axis h = rw (ne-eqb (rank R) 0 (λ e. omega arith), le-leb (rank L) 1 list, h)
 
       module _ (on-axis : within (K -ℤ G) (rank R) ≡ true) where
         pub select-index : every (λ z. within (z -ℤ G) (axis R (natAbs (K -ℤ G)))) (L .elements) ≡ false → own 31 (select G K L R .refusals) ≡ 8
-        unfolding select ownOrder winner meets number
+        unfolding select precedence winner meets number
         select-index h = rw (ne-eqb (rank R) 0 (λ e. omega arith), le-leb (rank L) 1 list, on-axis, h)
 
         pub select-none : every (λ z. within (z -ℤ G) (axis R (natAbs (K -ℤ G)))) (L .elements) ≡ true → own 31 (select G K L R .refusals) ≡ 0
-        unfolding select ownOrder winner meets number
+        unfolding select precedence winner meets number
         select-none h = rw (ne-eqb (rank R) 0 (λ e. omega arith), le-leb (rank L) 1 list, on-axis, h)
 
   pub select-fits : own 31 (select G K L R .refusals) ≡ 0 → Selects G K L R
-  unfolding select ownOrder winner meets number
+  unfolding select precedence winner meets number
   select-fits =
       by (isScalar R) (isList L) (within (K -ℤ G) (rank R)) (every (λ z. within (z -ℤ G) (axis R (natAbs (K -ℤ G)))) (L .elements)) refl refl refl refl
     where

@@ -17,14 +17,14 @@ use Rattle.shape.proofs.Rule.{rule-small}
 use Rattle.shape.proofs.Counts.{good-count, count-good, count-of}
 use Rattle.shape.proofs.Made.{made-counted}
 use Rattle.meaning.specs.Array.{Operand, Array, arrayOf, at, build, goodForm}
-use Rattle.meaning.specs.Refusal.{number, meets, winner}
+use Rattle.meaning.specs.Refusal.{number, precedence, meets, winner}
 use Rattle.meaning.specs.Terms.{rank, eqZ, within, every}
 use Rattle.meaning.specs.Primitives.{Meaning, sentTo, axesTo, sentLengths, broughtBack, backwards, transpose, allOccur, transposeBy}
 use Rattle.meaning.specs.Reply.{Reply, Primitive, primitives, named, reply, settle}
 use Rattle.meaning.proofs.Positions.{within-lt, position-lt}
 use Rattle.meaning.proofs.Sent.{axes-lt, axes-le, sent-has, Occur, all-occur, occur-all}
 use Rattle.answer.specs.declared.Answer.{Answer}
-use Rattle.answer.specs.Answer.{lent, ownOrder, own, Replied}
+use Rattle.answer.specs.Answer.{lent, own, Replied}
 use Rattle.answer.proofs.Lent.{Lent}
 use Rattle.answer.proofs.Order.{Names, earlyOf, space-reply, given-reply}
 use Rattle.transposes.specs.Strides.{shortest}
@@ -111,7 +111,7 @@ transpose-names G K L R = record {
 }
 
 transpose-none : (a : Array) → own 15 (transpose a .refusals) ≡ 0
-unfolding transpose ownOrder winner meets
+unfolding transpose precedence winner meets
 transpose-none a = refl
 
 backwards-few : (r : ℕ) → axesTo (backwards r) ≤ r
@@ -180,21 +180,21 @@ module _ (G : ℤ) (L R : Array) where
   domain = every (λ z. within (z -ℤ G) (rank R)) (L .elements) && allOccur named-axes
 
   pub by-rank : 1 < rank L → own 26 (transposeBy G L R .refusals) ≡ 4
-  unfolding transposeBy ownOrder winner meets number
+  unfolding transposeBy precedence winner meets number
   by-rank h = rw (lt-leb (rank L) 1 h)
 
   module _ (list : rank L ≤ 1) where
     pub by-length : (length (L .elements) ≡ rank R → ⊥) → own 26 (transposeBy G L R .refusals) ≡ 6
-    unfolding transposeBy ownOrder winner meets number
+    unfolding transposeBy precedence winner meets number
     by-length h = rw (le-leb (rank L) 1 list, ne-eqb (length (L .elements)) (rank R) h)
 
     module _ (same : length (L .elements) ≡ rank R) where
       by-domain : domain ≡ false → own 26 (transposeBy G L R .refusals) ≡ 7
-      unfolding transposeBy ownOrder winner meets number
+      unfolding transposeBy precedence winner meets number
       by-domain h = rw (le-leb (rank L) 1 list, eq-eqb (length (L .elements)) (rank R) same, h)
 
       by-none : domain ≡ true → own 26 (transposeBy G L R .refusals) ≡ 0
-      unfolding transposeBy ownOrder winner meets number
+      unfolding transposeBy precedence winner meets number
       by-none h = rw (le-leb (rank L) 1 list, eq-eqb (length (L .elements)) (rank R) same, h)
 
 -- Elements that are axes.

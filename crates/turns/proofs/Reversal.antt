@@ -7,11 +7,11 @@ use lib.ListN.{length, drop}
 use lib.IntN.{ℤ, pos, natAbs, _-ℤ_}
 use Rattle.shape.specs.Shape.{count, shapeRule}
 use Rattle.meaning.specs.Array.{Operand, Array, arrayOf, build}
-use Rattle.meaning.specs.Refusal.{number, meets, winner}
+use Rattle.meaning.specs.Refusal.{number, precedence, meets, winner}
 use Rattle.meaning.specs.Terms.{rank, axis, asVector, eqZ, within, along}
 use Rattle.meaning.specs.Primitives.{reverse}
 use Rattle.meaning.specs.Reply.{Primitive, primitives, named}
-use Rattle.answer.specs.Answer.{ownOrder, own}
+use Rattle.answer.specs.Answer.{own}
 use Rattle.answer.proofs.Order.{Names}
 use Rattle.turns.specs.Rows.{turnPosition}
 
@@ -28,11 +28,11 @@ reverse-names G K L R = record {
 
 module _ (G K : ℤ) (a : Array) where
   pub reverse-axis : within (K -ℤ G) (rank (asVector a)) ≡ false → 5 ≡ own 14 (reverse G K a .refusals)
-  unfolding reverse ownOrder winner meets number
+  unfolding reverse precedence winner meets number
   reverse-axis h = rw h
 
   pub reverse-none : within (K -ℤ G) (rank (asVector a)) ≡ true → own 14 (reverse G K a .refusals) ≡ 0
-  unfolding reverse ownOrder winner meets number
+  unfolding reverse precedence winner meets number
   reverse-none h = rw h
 
   pub reverse-lengths : reverse G K a .lengths ≡ a .lengths

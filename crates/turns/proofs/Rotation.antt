@@ -12,11 +12,11 @@ use lib.IntN.{ℤ, pos, natAbs, _+ℤ_, _-ℤ_}
 use Rattle.shape.specs.declared.Shape.{Shape}
 use Rattle.shape.specs.Shape.{counted, count, countOf, shapeRule}
 use Rattle.meaning.specs.Array.{Operand, Array, arrayOf, build}
-use Rattle.meaning.specs.Refusal.{number, meets, winner}
+use Rattle.meaning.specs.Refusal.{number, precedence, meets, winner}
 use Rattle.meaning.specs.Terms.{rank, axis, isList, asVector, eqZ, within, along, modulo}
 use Rattle.meaning.specs.Primitives.{rotate}
 use Rattle.meaning.specs.Reply.{Primitive, primitives, named}
-use Rattle.answer.specs.Answer.{lent, ownOrder, own}
+use Rattle.answer.specs.Answer.{lent, own}
 use Rattle.answer.proofs.Lent.{Lent}
 use Rattle.answer.proofs.Order.{Names}
 use Rattle.turns.specs.Rows.{turnPosition}
@@ -34,19 +34,19 @@ rotate-names G K L R = record {
 
 module _ (G K : ℤ) (l a : Array) where
   pub rotate-rank : isList l ≡ false → 4 ≡ own 25 (rotate G K l a .refusals)
-  unfolding rotate ownOrder winner meets number
+  unfolding rotate precedence winner meets number
   rotate-rank h = rw h
 
   pub rotate-axis : isList l ≡ true → within (K -ℤ G) (rank (asVector a)) ≡ false → 5 ≡ own 25 (rotate G K l a .refusals)
-  unfolding rotate ownOrder winner meets number
+  unfolding rotate precedence winner meets number
   rotate-axis h t = rw (h, t)
 
   pub rotate-length : isList l ≡ true → within (K -ℤ G) (rank (asVector a)) ≡ true → eqb (length (l .elements)) 1 ≡ false → 6 ≡ own 25 (rotate G K l a .refusals)
-  unfolding rotate ownOrder winner meets number
+  unfolding rotate precedence winner meets number
   rotate-length h t e = rw (h, t, e)
 
   pub rotate-none : isList l ≡ true → within (K -ℤ G) (rank (asVector a)) ≡ true → eqb (length (l .elements)) 1 ≡ true → own 25 (rotate G K l a .refusals) ≡ 0
-  unfolding rotate ownOrder winner meets number
+  unfolding rotate precedence winner meets number
   rotate-none h t e = rw (h, t, e)
 
   pub rotate-lengths : rotate G K l a .lengths ≡ a .lengths

@@ -14,14 +14,14 @@ use Rattle.shape.specs.declared.Shape.{Shape}
 use Rattle.shape.specs.Shape.{maxCount, counted, count, shapeOf, shapeRule}
 use Rattle.shape.proofs.Rule.{vector-rule}
 use Rattle.meaning.specs.Array.{Operand, Array, arrayOf, tab, build}
-use Rattle.meaning.specs.Refusal.{number, meets, winner}
+use Rattle.meaning.specs.Refusal.{number, precedence, meets, winner}
 use Rattle.meaning.specs.Terms.{eqZ, rank, negative}
 use Rattle.meaning.specs.Primitives.{interval}
 use Rattle.meaning.specs.Reply.{Primitive, primitives, named, isOrigin}
 use Rattle.meaning.proofs.Tab.{tab-ext}
 use Rattle.signed.proofs.Equal.{origin-is}
 use Rattle.copying.proofs.Runs.{filled}
-use Rattle.answer.specs.Answer.{lent, ownOrder, own}
+use Rattle.answer.specs.Answer.{lent, own}
 use Rattle.answer.proofs.Order.{Names}
 use Rattle.vectors.proofs.Vector.{vector-elements, vector-count, vector-no-rule}
 
@@ -48,19 +48,19 @@ pub record Single (a : Array) : Type 0 where
 
 module _ (G : ℤ) (a : Array) where
   pub interval-rank : 1 < rank a → own 13 (interval G a .refusals) ≡ 4
-  unfolding interval ownOrder winner meets number
+  unfolding interval precedence winner meets number
   interval-rank h = rw (lt-leb (rank a) 1 h)
 
   pub interval-length : rank a ≤ 1 → (length (a .elements) ≡ 1 → ⊥) → own 13 (interval G a .refusals) ≡ 6
-  unfolding interval ownOrder winner meets number
+  unfolding interval precedence winner meets number
   interval-length h k = rw (le-leb (rank a) 1 h, ne-eqb (length (a .elements)) 1 k)
 
   pub interval-domain : rank a ≤ 1 → length (a .elements) ≡ 1 → negative (ends a) ≡ true → own 13 (interval G a .refusals) ≡ 7
-  unfolding interval ownOrder winner meets number
+  unfolding interval precedence winner meets number
   interval-domain h k n = rw (le-leb (rank a) 1 h, eq-eqb (length (a .elements)) 1 k, n)
 
   pub interval-none : Single a → own 13 (interval G a .refusals) ≡ 0
-  unfolding interval ownOrder winner meets number
+  unfolding interval precedence winner meets number
   interval-none s = rw (le-leb (rank a) 1 (s .list), eq-eqb (length (a .elements)) 1 (s .one), s .not-below)
 
   pub interval-single : own 13 (interval G a .refusals) ≡ 0 → Single a

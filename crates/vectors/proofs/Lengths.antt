@@ -15,14 +15,14 @@ use Rattle.shape.specs.Shape.{maxRank, maxCount, counted, count, goodShape, sha
 use Rattle.shape.proofs.Counts.{good-rank}
 use Rattle.shape.proofs.Rule.{rule-small, small-at, vector-rule}
 use Rattle.meaning.specs.Array.{Operand, Array, arrayOf, tab, build}
-use Rattle.meaning.specs.Refusal.{meets, winner}
+use Rattle.meaning.specs.Refusal.{precedence, meets, winner}
 use Rattle.meaning.specs.Terms.{eqZ, rank, axis}
 use Rattle.meaning.specs.Primitives.{lengthsOf}
 use Rattle.meaning.specs.Reply.{Primitive, primitives, named}
 use Rattle.meaning.proofs.Tab.{tab-ext}
 use Rattle.signed.proofs.Reading.{read-pos, whole-is}
 use Rattle.copying.proofs.Runs.{filled}
-use Rattle.answer.specs.Answer.{lent, ownOrder, own}
+use Rattle.answer.specs.Answer.{lent, own}
 use Rattle.answer.proofs.Lent.{Lent, axis-is}
 use Rattle.answer.proofs.Order.{Names}
 use Rattle.vectors.proofs.Vector.{vector-elements, vector-count}
@@ -48,7 +48,7 @@ shape-names G K L R = record {
 }
 
 pub shape-none : (a : Array) → own 11 (lengthsOf a .refusals) ≡ 0
-unfolding lengthsOf ownOrder winner meets
+unfolding lengthsOf precedence winner meets
 shape-none a = refl
 
 pub shape-lengths : (a : Array) → lengthsOf a .lengths ≡ rank a ∷ []

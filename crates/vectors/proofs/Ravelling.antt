@@ -9,16 +9,15 @@ use mathlib.Core.Bool.{true}
 use Rattle.shape.specs.Shape.{maxCount, count, countOf, shapeOf, shapeRule}
 use Rattle.shape.proofs.Rule.{vector-rule}
 use Rattle.meaning.specs.Array.{Operand, Array, arrayOf, build}
-use Rattle.meaning.specs.Refusal.{number, meets}
+use Rattle.meaning.specs.Refusal.{number, precedence, meets, winner}
 use Rattle.meaning.specs.Terms.{eqZ}
 use Rattle.meaning.specs.Primitives.{ravel}
 use Rattle.meaning.specs.Reply.{Primitive, primitives, named}
 use Rattle.meaning.proofs.Tab.{tab-getD}
 use Rattle.shape.specs.declared.Shape.{Shape}
-use Rattle.meaning.specs.Refusal.{winner}
 use Rattle.copying.specs.Runs.{copied}
 use Rattle.copying.proofs.Runs.{copied-fits}
-use Rattle.answer.specs.Answer.{lent, ownOrder, own}
+use Rattle.answer.specs.Answer.{lent, own}
 use Rattle.answer.proofs.Lent.{Lent, lent-part}
 use Rattle.answer.proofs.Order.{Names}
 use Rattle.vectors.proofs.Vector.{vector-elements, vector-count}
@@ -48,7 +47,7 @@ unfolding ravel
 ravel-rule a h = vector-rule (length (a .elements)) h
 
 pub ravel-none : (a : Array) → own 12 (ravel a .refusals) ≡ 0
-unfolding ravel ownOrder winner meets
+unfolding ravel precedence winner meets
 ravel-none a = refl
 
 -- What the copy leaves.

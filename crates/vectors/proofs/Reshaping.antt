@@ -9,13 +9,13 @@ use lib.IntN.{ℤ, pos, natAbs}
 use Rattle.shape.specs.Shape.{count, shapeRule}
 use Rattle.shape.proofs.Places.{index-place}
 use Rattle.meaning.specs.Array.{Operand, Array, arrayOf, tab, build}
-use Rattle.meaning.specs.Refusal.{number, meets, winner}
+use Rattle.meaning.specs.Refusal.{number, precedence, meets, winner}
 use Rattle.meaning.specs.Terms.{eqZ, rank, negative, every}
 use Rattle.meaning.specs.Primitives.{reshape}
 use Rattle.meaning.specs.Reply.{Primitive, primitives, named}
 use Rattle.meaning.proofs.Tab.{tab-ext}
 use Rattle.copying.proofs.Runs.{filled}
-use Rattle.answer.specs.Answer.{ownOrder, own}
+use Rattle.answer.specs.Answer.{own}
 use Rattle.answer.proofs.Order.{Names}
 use Rattle.vectors.specs.Cycle.{cycled}
 
@@ -32,15 +32,15 @@ reshape-names G K L R = record {
 
 module _ (L R : Array) where
   pub reshape-rank : 1 < rank L → own 21 (reshape L R .refusals) ≡ 4
-  unfolding reshape ownOrder winner meets number
+  unfolding reshape precedence winner meets number
   reshape-rank h = rw (lt-leb (rank L) 1 h)
 
   pub reshape-domain : rank L ≤ 1 → every (λ z. not (negative z)) (L .elements) ≡ false → own 21 (reshape L R .refusals) ≡ 7
-  unfolding reshape ownOrder winner meets number
+  unfolding reshape precedence winner meets number
   reshape-domain h e = rw (le-leb (rank L) 1 h, e)
 
   pub reshape-none : rank L ≤ 1 → every (λ z. not (negative z)) (L .elements) ≡ true → own 21 (reshape L R .refusals) ≡ 0
-  unfolding reshape ownOrder winner meets number
+  unfolding reshape precedence winner meets number
   reshape-none h e = rw (le-leb (rank L) 1 h, e)
 
   pub reshape-lengths : reshape L R .lengths ≡ map natAbs (L .elements)

@@ -4,10 +4,6 @@ use Rattle.answer.proofs.Lent.{early-form, early-origin, early-none}
 use borrow.Author.Needs.{needs}
 use Rattle.answer.proofs.early_one.Statement.{statement}
 use Rattle.answer.proofs.early_one.Tie as tie
-use Rattle.answer.proofs.early_one.Reads as reads
-use Rattle.answer.proofs.early_one.Lts as lts
-use Rattle.answer.proofs.good_form.Reads as good-form-reads
-use Rattle.signed.proofs.is_origin.Reads as is-origin-reads
 
 -- src/lib.rt:37:1
 returns : tie.Need-returns

@@ -4,10 +4,6 @@ use Rattle.answer.proofs.Lent.{early-left, early-right}
 use borrow.Author.Needs.{needs}
 use Rattle.answer.proofs.early_two.Statement.{statement}
 use Rattle.answer.proofs.early_two.Tie as tie
-use Rattle.answer.proofs.early_two.Reads as reads
-use Rattle.answer.proofs.early_two.Lts as lts
-use Rattle.answer.proofs.early_one.Reads as early-one-reads
-use Rattle.answer.proofs.good_form.Reads as good-form-reads
 
 -- src/lib.rt:48:1
 returns : tie.Need-returns

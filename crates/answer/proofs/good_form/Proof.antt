@@ -4,9 +4,6 @@ use Rattle.answer.proofs.Lent.{form-bad, form-by}
 use borrow.Author.Needs.{needs}
 use Rattle.answer.proofs.good_form.Statement.{statement}
 use Rattle.answer.proofs.good_form.Tie as tie
-use Rattle.answer.proofs.good_form.Reads as reads
-use Rattle.answer.proofs.good_form.Lts as lts
-use Rattle.shape.proofs.Shape.count.Reads as count-reads
 
 -- src/lib.rt:31:9
 returns : tie.Need-returns

@@ -9,9 +9,6 @@ use Rattle.signed.proofs.Reading.{read32}
 use Rattle.meaning.proofs.Every.{every-next, every-stop, every-end}
 use Rattle.masks.proofs.all_bits.Statement.{statement}
 use Rattle.masks.proofs.all_bits.Tie as tie
-use Rattle.masks.proofs.all_bits.Reads as reads
-use Rattle.masks.proofs.all_bits.Lts as lts
-use Rattle.signed.proofs.is_bit.Reads as is-bit-reads
 
 abbrev Inv-loop : tie.InvT-loop
 Inv-loop l i₀ i = (i ≤ length l) × (every isBit l ≡ every isBit (drop i l))

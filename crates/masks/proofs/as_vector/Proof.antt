@@ -3,9 +3,6 @@ use Rattle.masks.proofs.Results.{scalar-vector, array-vector}
 use borrow.Author.Needs.{needs}
 use Rattle.masks.proofs.as_vector.Statement.{statement}
 use Rattle.masks.proofs.as_vector.Tie as tie
-use Rattle.masks.proofs.as_vector.Reads as reads
-use Rattle.masks.proofs.as_vector.Lts as lts
-use Rattle.shape.proofs.Shape.vector.Reads as vector-reads
 
 -- src/lib.rt:29:9
 returns : tie.Need-returns

@@ -1,31 +1,20 @@
 use mathlib.Core.Path.{refl, _∙_}
-use Rattle.masks.proofs.Uses.{expand-source, expand-room, expand-block, repeat-source, repeat-block, compress-source, compress-room, compress-block}
+use Rattle.masks.proofs.Uses.{expand-ready, expand-block, repeat-source, repeat-block, compress-ready, compress-block}
 use borrow.Author.Needs.{needs}
 use Rattle.masks.proofs.block.Statement.{statement}
 use Rattle.masks.proofs.block.Tie as tie
-use Rattle.masks.proofs.block.Reads as reads
-use Rattle.masks.proofs.block.Lts as lts
-use Rattle.masks.proofs.rows.compress_line.Reads as compress-line-reads
-use Rattle.masks.proofs.rows.compress_rows.Reads as compress-rows-reads
-use Rattle.masks.proofs.rows.expand_line.Reads as expand-line-reads
-use Rattle.masks.proofs.rows.expand_rows.Reads as expand-rows-reads
-use Rattle.masks.proofs.rows.repeat_row.Reads as repeat-row-reads
 
 -- src/lib.rt:93:13
 expand-line-requires : tie.Need-expand-line-requires
 expand-line-requires c κs =
     let e = c .before in
-    let b = e .before .before .pre .1 in
-    let h = e .before .if1 .taken in
-    (expand-source _ _ _ _ _ _ _ b h 1 (e .if2 .taken), expand-room _ _ _ _ _ _ _ b h 1 (e .if2 .taken))
+    expand-ready _ _ _ _ _ _ _ (e .before .before .pre .1) (e .before .if1 .taken) 1 (e .if2 .taken)
 
 -- src/lib.rt:95:13
 expand-rows-requires : tie.Need-expand-rows-requires
 expand-rows-requires c κs =
     let e = c .before in
-    let b = e .before .before .pre .1 in
-    let h = e .before .if1 .taken in
-    (expand-source _ _ _ _ _ _ _ b h _ refl, expand-room _ _ _ _ _ _ _ b h _ refl)
+    expand-ready _ _ _ _ _ _ _ (e .before .before .pre .1) (e .before .if1 .taken) _ refl
 
 -- src/lib.rt:97:9
 returns : tie.Need-returns
@@ -56,17 +45,13 @@ returns-3 c =
 compress-line-requires : tie.Need-compress-line-requires
 compress-line-requires c κs =
     let e = c .before .before in
-    let b = e .before .before .pre .1 in
-    let h = e .before .if1 .left in
-    (compress-source _ _ _ _ _ _ _ b h (e .if3 .left) 1 (c .before .if4 .taken), compress-room _ _ _ _ _ _ _ b h (e .if3 .left) 1 (c .before .if4 .taken))
+    compress-ready _ _ _ _ _ _ _ (e .before .before .pre .1) (e .before .if1 .left) (e .if3 .left) 1 (c .before .if4 .taken)
 
 -- src/lib.rt:106:9
 compress-rows-requires : tie.Need-compress-rows-requires
 compress-rows-requires c κs =
     let e = c .before .before in
-    let b = e .before .before .pre .1 in
-    let h = e .before .if1 .left in
-    (compress-source _ _ _ _ _ _ _ b h (e .if3 .left) _ refl, compress-room _ _ _ _ _ _ _ b h (e .if3 .left) _ refl)
+    compress-ready _ _ _ _ _ _ _ (e .before .before .pre .1) (e .before .if1 .left) (e .if3 .left) _ refl
 
 -- src/lib.rt:83:1
 returns-4 : tie.Need-returns-4

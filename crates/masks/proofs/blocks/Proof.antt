@@ -6,9 +6,6 @@ use native.Mathlib.Nat.{mul-le-mul-right}
 use Rattle.masks.proofs.Placing.{Passed, passed-none, passed-all, passed-inside, passed-room, passed-block, passed-more}
 use Rattle.masks.proofs.blocks.Statement.{statement}
 use Rattle.masks.proofs.blocks.Tie as tie
-use Rattle.masks.proofs.blocks.Reads as reads
-use Rattle.masks.proofs.blocks.Lts as lts
-use Rattle.masks.proofs.block.Reads as block-reads
 
 abbrev Inv-loop : tie.InvT-loop
 Inv-loop expands l r outer n m inner out₀ size part from₀ to₀ o₀ out from to o = Passed expands l r outer n m inner out₀ out from to o
@@ -21,13 +18,13 @@ inside : (c : tie.In-loop Inv-loop μ-loop) → c .before .loop .from + c .befor
 inside c =
     let lp = c .before .loop in
     let st = c .before .before in
-    passed-inside _ _ _ _ _ _ _ _ (st .pre) (lp .out) (lp .from) (lp .to) (lp .o) (lp .inv) (omega arith)
+    passed-inside (lp .inv) (st .pre) (omega arith)
 
 room : (c : tie.In-loop Inv-loop μ-loop) → c .before .loop .to + c .before .before .args .m * c .before .before .args .inner ≤ length (c .before .before .args .out .now)
 room c =
     let lp = c .before .loop in
     let st = c .before .before in
-    passed-room _ _ _ _ _ _ _ _ (st .pre) (lp .out) (lp .from) (lp .to) (lp .o) (lp .inv) (omega arith)
+    passed-room (lp .inv) (st .pre) (omega arith)
 
 -- src/lib.rt:119:16
 mul-size : tie.Need-mul-size Inv-loop μ-loop
@@ -63,29 +60,29 @@ mul-block-2 c = omega (arith, room (c .before))
 
 -- src/lib.rt:127:56
 part-block-end-2 : tie.Need-part-block-end-2 Inv-loop μ-loop
-part-block-end-2 c = let lp = c .before .before .loop in omega (arith, room (c .before), lp .inv .long)
+part-block-end-2 c = let lp = c .before .before .loop in omega (arith, room (c .before), lp .inv .written .long)
 
 -- src/lib.rt:127:9
 block-requires : tie.Need-block-requires Inv-loop μ-loop
 block-requires c κs =
     let lp = c .before .before .before .loop in
     let st = c .before .before .before .before in
-    (st .pre .row, passed-block _ _ _ _ _ _ _ _ (st .pre) (lp .out) (lp .from) (lp .to) (lp .o) (lp .inv) (omega arith))
+    (st .pre .row, passed-block (lp .inv) (st .pre) (omega arith))
 
 -- src/lib.rt:124:5
 loop-again : tie.Need-loop-again Inv-loop μ-loop
 loop-again c =
     let lp = c .before .before .before .before .before .loop in
     let st = c .before .before .before .before .before .before in
-    passed-more _ _ _ _ _ _ _ _ (st .pre) (lp .out) (lp .from) (lp .to) (lp .o) (lp .inv) (omega arith) _ (c .before .block .ensures)
+    passed-more (lp .inv) (st .pre) (omega arith) _ (c .before .block .ensures)
 
 -- src/lib.rt:111:1
 same-length : tie.Need-same-length Inv-loop μ-loop
-same-length c = c .before .loop .inv .long
+same-length c = c .before .loop .inv .written .long
 
 -- src/lib.rt:111:1
 returns : tie.Need-returns Inv-loop μ-loop
-returns c = passed-all _ _ _ _ _ _ _ _ _ _ _ _ (c .before .loop .inv) (omega arith)
+returns c = passed-all (c .before .loop .inv) (omega arith)
 
 pub blocks-spec : {M : Type 1} → statement M
 blocks-spec =

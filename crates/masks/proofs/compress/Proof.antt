@@ -2,9 +2,6 @@ use Rattle.signed.proofs.Reading.{read32}
 use borrow.Author.Needs.{needs}
 use Rattle.masks.proofs.compress.Statement.{statement}
 use Rattle.masks.proofs.compress.Tie as tie
-use Rattle.masks.proofs.compress.Reads as reads
-use Rattle.masks.proofs.compress.Lts as lts
-use Rattle.masks.proofs.masked.Reads as masked-reads
 
 -- src/lib.rt:329:1
 returns : tie.Need-returns

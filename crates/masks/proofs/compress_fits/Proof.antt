@@ -6,8 +6,6 @@ use Rattle.shape.proofs.Bools.{or-left}
 use borrow.Author.Tests.{eq-eqb, ne-eqb}
 use Rattle.masks.proofs.compress_fits.Statement.{statement}
 use Rattle.masks.proofs.compress_fits.Tie as tie
-use Rattle.masks.proofs.compress_fits.Reads as reads
-use Rattle.masks.proofs.compress_fits.Lts as lts
 
 -- The first two tests.
 either : (c : tie.Joined1) → c .if1 .if2 ≡ (eqb (c .before .args .c) 1 || eqb (c .before .args .n) 1)

@@ -3,14 +3,13 @@ use mathlib.Core.List.{_++_}
 use native.Mathlib.Omega.{arith}
 use lib.ListN.{length, drop}
 use Rattle.shape.specs.Shape.{maxRank}
-use Rattle.masks.proofs.Compressing.{single-inside, single-out, list-along, list-elements}
+use Rattle.masks.proofs.Compressing.{single-inside, single-out}
+use Rattle.masks.proofs.Masking.{masked-lines, masked-elements}
 use borrow.Author.Needs.{needs}
+use borrow.Author.Tests.{ne-eqb}
+use Rattle.masks.specs.Uses.{maskElement}
 use Rattle.masks.proofs.compress_into.Statement.{statement}
 use Rattle.masks.proofs.compress_into.Tie as tie
-use Rattle.masks.proofs.compress_into.Reads as reads
-use Rattle.masks.proofs.compress_into.Lts as lts
-use Rattle.copying.proofs.copy_run.Reads as copy-run-reads
-use Rattle.masks.proofs.lines.Reads as lines-reads
 
 long : (st : tie.Start) → length (st .args .s .lens) ≡ maxRank
 long st = search needs
@@ -21,7 +20,7 @@ part-copy-run-end c = let st = c .before in omega (arith, single-inside _ _ _ _ 
 
 -- src/lib.rt:198:9
 lines-requires : tie.Need-lines-requires
-lines-requires c κs = let st = c .before .before in list-along _ _ _ _ _ _ _ (st .pre) (long st) (c .before .if1 .left)
+lines-requires c κs = masked-lines _ _ _ _ _ _ _ _ _ (c .before .before .pre) (ne-eqb _ 1 (c .before .if1 .left))
 
 -- src/lib.rt:186:1
 returns : tie.Need-returns
@@ -32,11 +31,12 @@ returns c =
 
 -- src/lib.rt:186:1
 returns-2 : tie.Need-returns-2
+unfolding maskElement
 returns-2 c =
     let e = c .before .before .before in
     let st = e .before in
     c .before .lines .ensures
-    ∙ ap (λ x. x ++ drop (st .args .total) (st .args .out .now)) (list-elements _ _ _ _ _ _ _ (st .pre) (long st) (e .if1 .left))
+    ∙ ap (λ x. x ++ drop (st .args .total) (st .args .out .now)) (masked-elements _ _ _ _ _ _ _ _ _ (st .pre) (ne-eqb _ 1 (e .if1 .left)))
 
 pub compress-into-spec : {M : Type 1} → statement M
 compress-into-spec =

@@ -10,8 +10,6 @@ use Rattle.meaning.specs.Terms.{eqZ}
 use Rattle.masks.proofs.Ones.{test-one, test-other, before, before-none, before-one, before-other, before-all, before-le}
 use Rattle.masks.proofs.count_ones.Statement.{statement}
 use Rattle.masks.proofs.count_ones.Tie as tie
-use Rattle.masks.proofs.count_ones.Reads as reads
-use Rattle.masks.proofs.count_ones.Lts as lts
 
 abbrev Inv-loop : tie.InvT-loop
 Inv-loop l n₀ i₀ n i = (i ≤ length l) × (n ≡ before i l)

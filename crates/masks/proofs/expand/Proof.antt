@@ -2,9 +2,6 @@ use Rattle.signed.proofs.Reading.{read32}
 use borrow.Author.Needs.{needs}
 use Rattle.masks.proofs.expand.Statement.{statement}
 use Rattle.masks.proofs.expand.Tie as tie
-use Rattle.masks.proofs.expand.Reads as reads
-use Rattle.masks.proofs.expand.Lts as lts
-use Rattle.masks.proofs.masked.Reads as masked-reads
 
 -- src/lib.rt:338:1
 returns : tie.Need-returns

@@ -8,9 +8,6 @@ use Rattle.meaning.specs.Terms.{ones}
 use borrow.Author.Needs.{needs}
 use Rattle.masks.proofs.expand_fits.Statement.{statement}
 use Rattle.masks.proofs.expand_fits.Tie as tie
-use Rattle.masks.proofs.expand_fits.Reads as reads
-use Rattle.masks.proofs.expand_fits.Lts as lts
-use Rattle.masks.proofs.count_ones.Reads as count-ones-reads
 
 -- src/lib.rt:118:9
 returns : tie.Need-returns

@@ -5,14 +5,12 @@ use lib.IntN.{pos}
 use lib.ListN.{length, getD, drop}
 use Rattle.shape.specs.Shape.{maxRank}
 use Rattle.signed.proofs.Reading.{read32}
-use Rattle.masks.proofs.Expanding.{scalar-first, scalar-room, scalar-out, array-along, array-elements}
+use Rattle.masks.specs.Uses.{maskElement}
+use Rattle.masks.proofs.Expanding.{scalar-first, scalar-room, scalar-out}
+use Rattle.masks.proofs.Masking.{masked-lines, masked-elements}
 use borrow.Author.Needs.{needs}
 use Rattle.masks.proofs.expand_into.Statement.{statement}
 use Rattle.masks.proofs.expand_into.Tie as tie
-use Rattle.masks.proofs.expand_into.Reads as reads
-use Rattle.masks.proofs.expand_into.Lts as lts
-use Rattle.masks.proofs.lines.Reads as lines-reads
-use Rattle.masks.proofs.rows.spread.Reads as spread-reads
 
 long : (st : tie.Start) → length (st .args .s .lens) ≡ maxRank
 long st = search needs
@@ -27,7 +25,7 @@ spread-requires c κs = let st = c .before .before .before in scalar-room _ _ _ 
 
 -- src/lib.rt:284:9
 lines-requires : tie.Need-lines-requires
-lines-requires c κs = let st = c .before .before in array-along _ _ _ _ _ _ _ (st .pre) (long st) (c .before .if1 .left)
+lines-requires c κs = masked-lines _ _ _ _ _ _ _ _ _ (c .before .before .pre) (c .before .if1 .left)
 
 -- src/lib.rt:269:1
 returns : tie.Need-returns
@@ -39,10 +37,11 @@ returns c =
 
 -- src/lib.rt:269:1
 returns-2 : tie.Need-returns-2
+unfolding maskElement
 returns-2 c =
     let e = c .before .before .before in
     let st = e .before in
-    c .before .lines .ensures ∙ ap (λ x. x ++ drop (st .args .total) (st .args .out .now)) (array-elements _ _ _ _ _ _ _ (st .pre) (long st) (e .if1 .left))
+    c .before .lines .ensures ∙ ap (λ x. x ++ drop (st .args .total) (st .args .out .now)) (masked-elements _ _ _ _ _ _ _ _ _ (st .pre) (e .if1 .left))
 
 pub expand-into-spec : {M : Type 1} → statement M
 expand-into-spec =

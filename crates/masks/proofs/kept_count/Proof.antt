@@ -8,10 +8,6 @@ use Rattle.masks.proofs.Ones.{kept-list, kept-all, kept-no}
 use borrow.Author.Needs.{needs, sfits-of}
 use Rattle.masks.proofs.kept_count.Statement.{statement}
 use Rattle.masks.proofs.kept_count.Tie as tie
-use Rattle.masks.proofs.kept_count.Reads as reads
-use Rattle.masks.proofs.kept_count.Lts as lts
-use Rattle.masks.proofs.count_ones.Reads as count-ones-reads
-use Rattle.signed.proofs.is_one.Reads as is-one-reads
 
 test : (c : tie.After-is-one) → c .is-one .result ≡ eqZ (getD (c .before .before .before .args .l .now) 0 (pos 0)) (pos 1)
 test c = c .is-one .ensures ∙ ap (λ z. eqZ z (pos 1)) (read32 (getD (c .before .before .before .args .l .now) 0 (pos 0)) (sfits-of (c .before .is-one-arg .given)))

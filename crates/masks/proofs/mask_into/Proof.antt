@@ -2,17 +2,14 @@ use mathlib.Core.Path.{ap, _∙_}
 use mathlib.Core.List.{_++_}
 use lib.ListN.{drop}
 use Rattle.masks.proofs.Masking.{expanding-ready, compressing-ready, expanding-element, compressing-element}
+use Rattle.masks.specs.Uses.{maskElement}
 use borrow.Author.Needs.{needs}
 use Rattle.masks.proofs.mask_into.Statement.{statement}
 use Rattle.masks.proofs.mask_into.Tie as tie
-use Rattle.masks.proofs.mask_into.Reads as reads
-use Rattle.masks.proofs.mask_into.Lts as lts
-use Rattle.masks.proofs.compress_into.Reads as compress-into-reads
-use Rattle.masks.proofs.expand_into.Reads as expand-into-reads
 
 -- src/lib.rt:290:9
 expand-into-requires : tie.Need-expand-into-requires
-expand-into-requires c κs = let st = c .before .before in expanding-ready _ _ _ _ _ _ _ _ _ (st .pre) (c .before .if1 .taken) .1
+expand-into-requires c κs = let st = c .before .before in expanding-ready _ _ _ _ _ _ _ _ _ (st .pre) (c .before .if1 .taken)
 
 -- src/lib.rt:292:9
 compress-into-requires : tie.Need-compress-into-requires
@@ -20,6 +17,7 @@ compress-into-requires c κs = let st = c .before .before in compressing-ready _
 
 -- src/lib.rt:280:1
 returns : tie.Need-returns
+unfolding maskElement
 returns c =
     let e = c .before .before .before in
     let a = e .before .args in
@@ -27,6 +25,7 @@ returns c =
 
 -- src/lib.rt:280:1
 returns-2 : tie.Need-returns-2
+unfolding maskElement
 returns-2 c =
     let e = c .before .before .before in
     let a = e .before .args in

@@ -1,5 +1,5 @@
 use mathlib.Core.Path.{_≡_, refl, sym, ap, ap₂, _∙_}
-use mathlib.Core.Bool.{true}
+use mathlib.Core.Bool.{Bool, true, false}
 use Prim.Native.Nat.{_-_, _≤_}
 use native.Mathlib.Omega.{arith}
 use lib.Dec.{eqb}
@@ -16,21 +16,14 @@ use Rattle.meaning.proofs.Positions.{positionOf}
 use Rattle.signed.proofs.Reading.{read32}
 use Rattle.answer.specs.Answer.{lent, own}
 use Rattle.meaning.specs.Primitives.{Meaning}
-use Rattle.answer.proofs.Lent.{Lent, lent-good}
+use Rattle.answer.proofs.Lent.{Lent, lent-good, lent-part}
 use Rattle.masks.specs.Vector.{vectorShape}
-use Rattle.masks.proofs.Results.{part-is, vector-long, vector-high, axis-named, axis-unnamed, axis-length}
-use Rattle.masks.specs.Uses.{numbered, masking, compressTest, expandTest}
-use Rattle.masks.proofs.Masking.{maskingOf, masking-rank, masking-axis, expanding-test, compressing-test, masking-refusal}
+use Rattle.masks.proofs.Results.{vector-long, vector-high, axis-named, axis-unnamed, axis-length}
+use Rattle.masks.specs.Uses.{numbered, masking, maskFits, maskTest}
+use Rattle.masks.proofs.Masking.{maskingOf, masking-rank, masking-axis, masking-test, masking-refusal}
 use borrow.Author.Needs.{needs}
 use Rattle.masks.proofs.mask_refusal.Statement.{statement}
 use Rattle.masks.proofs.mask_refusal.Tie as tie
-use Rattle.masks.proofs.mask_refusal.Reads as reads
-use Rattle.masks.proofs.mask_refusal.Lts as lts
-use Rattle.masks.proofs.as_vector.Reads as as-vector-reads
-use Rattle.masks.proofs.compress_test.Reads as compress-test-reads
-use Rattle.masks.proofs.expand_test.Reads as expand-test-reads
-use Rattle.shape.proofs.Shape.count.Reads as count-reads
-use Rattle.signed.proofs.position.Reads as position-reads
 
 -- L, and what is known of both shapes.
 abbrev left : tie.Start → Array
@@ -76,7 +69,7 @@ has c = let st = c .before .before .before .before .before in axis-named (st .ar
 
 mask-is : (c : tie.After-count)
     → (let st = c .before .before .before .before .before .before in take (c .count .result - 0) (st .args .l .now) ≡ left st .elements)
-mask-is c = let st = c .before .before .before .before .before .before in part-is (st .args .ls) (st .args .l .now) (c .count .result) (good st) (c .count .ensures)
+mask-is c = let st = c .before .before .before .before .before .before in lent-part (st .args .ls) (st .args .l .now) (good st) (c .count .result) (c .count .ensures)
 
 length-is : (c : tie.After-count)
     → (let v = c .before .before .before in
@@ -88,6 +81,21 @@ length-is c =
     let st = v .before .before .before in
     sym (axis-length (st .args .g) (st .args .k) (v .as-vector .result) (s-long v) (s-high v) _ (at-is p) (omega arith))
 
+-- What the mask meets.
+tested : (c : tie.After-count) (e : Bool) → c .before .before .before .before .before .before .args .expands ≡ e → (b : List ℤ)
+    → (let p = c .before .before in
+    let st = p .before .before .before .before in
+    maskTest e (eqb (st .args .rs .rank) 0) (take (c .count .result - 0) (st .args .l .now)) (getD (p .before .as-vector .result .lens) (p .position .result) 0)
+    ≡ own (numbered (st .args .expands)) (masking (st .args .expands) (st .args .g) (st .args .k) (left st) (arrayOf (lent (st .args .rs) b)) .refusals))
+tested c e q b =
+    let v = c .before .before .before in
+    let st = v .before .before .before in
+    let s = v .as-vector .result in
+    ap₂ (maskTest e (eqb (st .args .rs .rank) 0)) (mask-is c) (length-is c)
+    ∙ ap (λ x. maskTest x (eqb (st .args .rs .rank) 0) (left st .elements) (getD (counted s) (natAbs (st .args .k -ℤ st .args .g)) 0)) (sym q)
+    ∙ sym (masking-test (st .args .g) (st .args .k) (left st) (eqb (st .args .rs .rank) 0) (arrayOf (lent s b)) (st .args .expands) (list (v .before)) (has (c .before)))
+    ∙ by-shape st s (v .as-vector .ensures) b
+
 inside : (c : tie.After-count) → c .count .result ≤ length (c .before .before .before .before .before .before .args .l .now)
 inside c = let g = good (c .before .before .before .before .before .before) in omega (arith, g .room, g .count-is, c .count .ensures)
 
@@ -98,7 +106,7 @@ returns c b =
     let s = vectorShape (st .args .rs) in
     sym
     (sym (by-shape st s refl b)
-    ∙ masking-rank (st .args .expands) (st .args .g) (st .args .k) (left st) (eqb (st .args .rs .rank) 0) (arrayOf (lent s b)) (omega (arith, good st .rank-is)))
+    ∙ masking-rank (st .args .g) (st .args .k) (left st) (eqb (st .args .rs .rank) 0) (arrayOf (lent s b)) (st .args .expands) (omega (arith, good st .rank-is)))
 
 -- src/lib.rt:134:9
 returns-2 : tie.Need-returns-2
@@ -108,7 +116,7 @@ returns-2 c b =
     let s = v .as-vector .result in
     sym
     (sym (by-shape st s (v .as-vector .ensures) b)
-    ∙ masking-axis (st .args .expands) (st .args .g) (st .args .k) (left st) (eqb (st .args .rs .rank) 0) (arrayOf (lent s b)) (list (v .before))
+    ∙ masking-axis (st .args .g) (st .args .k) (left st) (eqb (st .args .rs .rank) 0) (arrayOf (lent s b)) (st .args .expands) (list (v .before))
     (axis-unnamed (st .args .g) (st .args .k) s (s-long v) (s-high v) _ (at-is (c .before)) (omega arith)))
 
 -- src/lib.rt:137:13
@@ -129,31 +137,12 @@ part-compress-test-end c = omega (arith, inside (c .before .before))
 
 -- src/lib.rt:121:1
 returns-3 : tie.Need-returns-3
-returns-3 c b =
-    let t = c .before .before in
-    let n = t .before .before in
-    let e = n .before in
-    let v = e .before .before in
-    let st = v .before .before .before in
-    let s = v .as-vector .result in
-    c .expand-test .ensures
-    ∙ ap₂ (λ x y. expandTest x (eqb (st .args .rs .rank) 0) y) (mask-is n) (length-is n)
-    ∙ sym (expanding-test (st .args .expands) (st .args .g) (st .args .k) (left st) (eqb (st .args .rs .rank) 0) (arrayOf (lent s b)) (list (v .before)) (has e) (t .if3 .taken))
-    ∙ by-shape st s (v .as-vector .ensures) b
+returns-3 c b = let t = c .before .before in c .expand-test .ensures ∙ tested (t .before .before) true (t .if3 .taken) b
 
 -- src/lib.rt:121:1
 returns-4 : tie.Need-returns-4
-returns-4 c b =
-    let t = c .before .before in
-    let n = t .before .before in
-    let e = n .before in
-    let v = e .before .before in
-    let st = v .before .before .before in
-    let s = v .as-vector .result in
-    c .compress-test .ensures
-    ∙ ap₂ compressTest (mask-is n) (length-is n)
-    ∙ sym (compressing-test (st .args .expands) (st .args .g) (st .args .k) (left st) (eqb (st .args .rs .rank) 0) (arrayOf (lent s b)) (list (v .before)) (has e) (t .if3 .left))
-    ∙ by-shape st s (v .as-vector .ensures) b
+unfolding maskFits
+returns-4 c b = let t = c .before .before in c .compress-test .ensures ∙ tested (t .before .before) false (t .if3 .left) b
 
 pub mask-refusal-spec : {M : Type 1} → statement M
 mask-refusal-spec =

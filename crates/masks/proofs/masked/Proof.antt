@@ -21,18 +21,7 @@ use Rattle.masks.proofs.Masking.{maskingOf, maskingPrimitive, masking-i
 use borrow.Author.Needs.{needs}
 use Rattle.masks.proofs.masked.Statement.{statement}
 use Rattle.masks.proofs.masked.Tie as tie
-use Rattle.masks.proofs.masked.Reads as reads
-use Rattle.masks.proofs.masked.Lts as lts
-use Rattle.answer.proofs.Answer.refused.Reads as refused-reads
-use Rattle.answer.proofs.early_two.Reads as early-two-reads
-use Rattle.masks.proofs.as_vector.Reads as as-vector-reads
-use Rattle.masks.proofs.mask_into.Reads as mask-into-reads
-use Rattle.masks.proofs.mask_refusal.Reads as mask-refusal-reads
-use Rattle.masks.proofs.width_of.Reads as width-of-reads
 use Rattle.shape.proofs.Made.{with-length-is}
-use Rattle.shape.proofs.Shape.with_length.Reads as with-length-reads
-use Rattle.shape.proofs.Shape.count.Reads as count-reads
-use Rattle.signed.proofs.position.Reads as position-reads
 
 -- The operands.
 abbrev left : tie.Start → Operand
@@ -130,7 +119,7 @@ lengths c = set (counted (at-axis c .before .as-vector .result)) (at-axis c .pos
 lengths-is : (c : tie.After-count2) → lengths c ≡ meaning (at-axis c) .lengths
 lengths-is c =
     let p = at-axis c in
-    masking-lengths (call p) _ (c .before .before .before .before .before .count .ensures) _ (none p) _ (c .before .before .width-of .ensures)
+    masking-lengths (call p) _ (none p) _ (c .before .before .before .before .before .count .ensures) _ (c .before .before .width-of .ensures)
 
 shape-is : (c : tie.After-count2) → c .before .with-length .result ≡ shapeOf (lengths c)
 shape-is c = let p = at-axis c in c .before .with-length .ensures ∙ with-length-is (p .before .as-vector .result) (p .position .result) _ (high p) (has p)
@@ -210,7 +199,7 @@ mask-into-requires c κs =
     let e = c .before .before .before .before in
     let t = e .before in
     let p = at-axis t in
-    masking-ready (call p) _ (t .before .before .before .before .before .count .ensures) _ (none p) _ (t .before .before .width-of .ensures) _ _ (total-is t) (small e) (omega arith)
+    masking-ready (call p) _ (none p) _ (t .before .before .before .before .before .count .ensures) _ (t .before .before .width-of .ensures) _ _ (total-is t) (small e) (omega arith)
 
 -- src/lib.rt:297:1
 returns-5 : tie.Need-returns-5
@@ -221,7 +210,7 @@ returns-5 c =
     let out = start p .args .out .now in
     replied-given _ (meaning p) out _ (ap (λ z. record { number = 0; shape = z }) (shape-is t ∙ ap shapeOf (lengths-is t)))
     (c .before .mask-into .ensures
-    ∙ ap₂ (λ x y. x ++ drop y out) (masking-elements (call p) _ (t .before .before .before .before .before .count .ensures) _ (none p) _ (t .before .before .width-of .ensures)) (sym (size e)))
+    ∙ ap₂ (λ x y. x ++ drop y out) (masking-elements (call p) _ (none p) _ (t .before .before .before .before .before .count .ensures) _ (t .before .before .width-of .ensures)) (sym (size e)))
     (given-reply (names p) out (fine (p .before .before .before .before)) (none p) (rule e) (omega (arith, size e)))
 
 pub masked-spec : {M : Type 1} → statement M

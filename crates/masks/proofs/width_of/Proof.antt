@@ -3,9 +3,6 @@ use Rattle.masks.specs.Uses.{resultWidth}
 use borrow.Author.Needs.{needs}
 use Rattle.masks.proofs.width_of.Statement.{statement}
 use Rattle.masks.proofs.width_of.Tie as tie
-use Rattle.masks.proofs.width_of.Reads as reads
-use Rattle.masks.proofs.width_of.Lts as lts
-use Rattle.masks.proofs.kept_count.Reads as kept-count-reads
 
 -- src/lib.rt:150:9
 returns : tie.Need-returns

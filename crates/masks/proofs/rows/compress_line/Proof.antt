@@ -12,8 +12,6 @@ use Rattle.masks.proofs.Ones.{test-one, test-other, before}
 use Rattle.masks.proofs.Kept.{Kept, kept-none, kept-all, kept-one, kept-other, kept-room}
 use Rattle.masks.proofs.rows.compress_line.Statement.{statement}
 use Rattle.masks.proofs.rows.compress_line.Tie as tie
-use Rattle.masks.proofs.rows.compress_line.Reads as reads
-use Rattle.masks.proofs.rows.compress_line.Lts as lts
 
 abbrev Inv-loop : tie.InvT-loop
 Inv-loop l r out₀ to₀ i₀ out to i = Kept l r 1 out₀ out to i
@@ -31,7 +29,7 @@ other c = test-other _ (sfits-of (c .before .if12 .given)) (c .if1 .left)
 room : (c : tie.Then1 Inv-loop μ-loop) → c .before .before .before .loop .to < length (c .before .before .before .before .args .out .now)
 room c =
     let lp = c .before .before .before .loop in
-    omega (arith, kept-room _ _ 1 _ (omega arith) (lp .out) (lp .to) (lp .i) (lp .inv) (omega arith) (one c))
+    omega (arith, kept-room (lp .inv) (omega arith) (omega arith) (one c))
 
 -- src/rows.rt:22:5
 loop-holds : tie.Need-loop-holds Inv-loop μ-loop
@@ -57,16 +55,14 @@ loop-again c =
     ⊎-elim
     (λ w.
     rw (w .2, w .3)
-    (kept-one _ _ (st .args .out .now) (lp .out) (lp .to) (lp .i) (omega arith) (lp .inv) (omega arith) (one (record { before = c .before; if1 = w .0 })) _
+    (kept-one (lp .inv) (omega arith) (omega arith) (one (record { before = c .before; if1 = w .0 })) _
     (read32 (getD (st .args .r .now) (lp .i) (pos 0)) (sfits-of (w .1 .given)))))
-    (λ w. rw (w .1, w .2) (kept-other _ _ 1 _ (omega arith) (lp .out) (lp .to) (lp .i) (lp .inv) (omega arith) (other (record { before = c .before; if1 = w .0 }))))
+    (λ w. rw (w .1, w .2) (kept-other (lp .inv) (omega arith) (omega arith) (other (record { before = c .before; if1 = w .0 }))))
     (c .if1 .came)
 
 -- src/rows.rt:12:1
 returns : tie.Need-returns Inv-loop μ-loop
-returns c =
-    let st = c .before .before in
-    kept-all _ _ 1 _ (omega arith) _ _ _ (c .before .loop .inv) (omega arith)
+returns c = let st = c .before .before in kept-all (c .before .loop .inv) (omega arith) (omega arith)
 
 pub compress-line-spec : {M : Type 1} → statement M
 compress-line-spec =

@@ -1,6 +1,5 @@
 use borrow.Author.Needs.{needs, sfits-of}
 use native.Mathlib.Omega.{arith}
-use native.Mathlib.Nat.{mul-le-mul-right}
 use Prim.Native.Nat.{_+_, _-_, _*_, _≤_}
 use mathlib.Core.Path.{_≡_, sym, ap, _∙_}
 use mathlib.Core.Logic.{⊎-elim}
@@ -8,13 +7,10 @@ use lib.IntN.{pos}
 use lib.ListN.{length, getD}
 use Rattle.meaning.specs.Terms.{eqZ}
 use Rattle.signed.proofs.Reading.{read32}
+use Rattle.masks.proofs.Written.{run-inside}
 use Rattle.masks.proofs.Kept.{Kept, kept-none, kept-all, kept-row, kept-other, kept-room}
 use Rattle.masks.proofs.rows.compress_rows.Statement.{statement}
 use Rattle.masks.proofs.rows.compress_rows.Tie as tie
-use Rattle.masks.proofs.rows.compress_rows.Reads as reads
-use Rattle.masks.proofs.rows.compress_rows.Lts as lts
-use Rattle.copying.proofs.copy_run.Reads as copy-run-reads
-use Rattle.signed.proofs.is_one.Reads as is-one-reads
 
 abbrev Inv-loop : tie.InvT-loop
 Inv-loop l r inner out₀ from₀ to₀ i₀ out from to i = (from ≡ i * inner) × Kept l r inner out₀ out to i
@@ -31,13 +27,13 @@ inside : (c : tie.In-loop Inv-loop μ-loop) → c .before .loop .from + c .befor
 inside c =
     let a = c .before .before .args in
     let lp = c .before .loop in
-    omega (arith, mul-le-mul-right {m = lp .i + 1} {n = length (a .l .now)} (a .inner) (omega arith))
+    run-inside (a .inner) (lp .from) (lp .i) (length (a .l .now)) _ (lp .inv .0) (omega arith) (omega arith)
 
 room : (c : tie.Then1 Inv-loop μ-loop) → c .before .before .before .before .loop .to + c .before .before .before .before .before .args .inner ≤ length (c .before .before .before .before .before .args .out .now)
 room c =
     let lp = c .before .before .before .before .loop in
     let a = c .before .before .before .before .before .args in
-    kept-room _ _ (a .inner) _ (omega arith) (lp .out) (lp .to) (lp .i) (lp .inv .1) (omega arith) (sym (test (c .before)) ∙ c .if1 .taken)
+    kept-room (lp .inv .1) (omega arith) (omega arith) (sym (test (c .before)) ∙ c .if1 .taken)
 
 -- src/rows.rt:43:5
 loop-holds : tie.Need-loop-holds Inv-loop μ-loop
@@ -65,7 +61,7 @@ mul-copy-run-2 c = omega (arith, room (c .before))
 
 -- src/rows.rt:47:47
 part-copy-run-end-2 : tie.Need-part-copy-run-end-2 Inv-loop μ-loop
-part-copy-run-end-2 c = let lp = c .before .before .before .before .before .loop in omega (arith, room (c .before), lp .inv .1 .long)
+part-copy-run-end-2 c = let lp = c .before .before .before .before .before .loop in omega (arith, room (c .before), lp .inv .1 .written .long)
 
 -- src/rows.rt:43:5
 loop-again : tie.Need-loop-again Inv-loop μ-loop
@@ -78,19 +74,19 @@ loop-again c =
       ⊎-elim
           (λ w.
           rw (w .5, w .6)
-          (kept-row _ _ (a .inner) _ (omega arith) (lp .out) (lp .to) (lp .i) (lp .inv .1) (omega arith) (sym (test (c .before)) ∙ w .0 .taken) (lp .from) (lp .inv .0) (inside next) _
+          (kept-row (lp .inv .1) (omega arith) (omega arith) (sym (test (c .before)) ∙ w .0 .taken) (lp .from) (lp .inv .0) (inside next) _
           (w .3 .ensures)))
-          (λ w. rw (w .1, w .2) (kept-other _ _ (a .inner) _ (omega arith) (lp .out) (lp .to) (lp .i) (lp .inv .1) (omega arith) (sym (test (c .before)) ∙ w .0 .left)))
+          (λ w. rw (w .1, w .2) (kept-other (lp .inv .1) (omega arith) (omega arith) (sym (test (c .before)) ∙ w .0 .left)))
           (c .if1 .came),
     )
 
 -- src/rows.rt:32:1
 same-length : tie.Need-same-length Inv-loop μ-loop
-same-length c = c .before .loop .inv .1 .long
+same-length c = c .before .loop .inv .1 .written .long
 
 -- src/rows.rt:32:1
 returns : tie.Need-returns Inv-loop μ-loop
-returns c = kept-all _ _ _ _ (omega arith) _ _ _ (c .before .loop .inv .1) (omega arith)
+returns c = kept-all (c .before .loop .inv .1) (omega arith) (omega arith)
 
 pub compress-rows-spec : {M : Type 1} → statement M
 compress-rows-spec =

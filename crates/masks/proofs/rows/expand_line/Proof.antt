@@ -12,8 +12,6 @@ use Rattle.signed.proofs.Reading.{read32}
 use Rattle.masks.proofs.Opened.{Opened, opened-none, opened-all, opened-one, opened-zero, opened-inside}
 use Rattle.masks.proofs.rows.expand_line.Statement.{statement}
 use Rattle.masks.proofs.rows.expand_line.Tie as tie
-use Rattle.masks.proofs.rows.expand_line.Reads as reads
-use Rattle.masks.proofs.rows.expand_line.Lts as lts
 
 abbrev Inv-loop : tie.InvT-loop
 Inv-loop l r out₀ from₀ i₀ out from i = Opened l r 1 out₀ out from i i
@@ -31,7 +29,7 @@ other c = test-other _ (sfits-of (c .before .if12 .given)) (c .if1 .left)
 inside : (c : tie.Then1 Inv-loop μ-loop) → c .before .before .before .loop .from < length (c .before .before .before .before .args .r .now)
 inside c =
     let lp = c .before .before .before .loop in
-    omega (arith, opened-inside _ _ 1 _ (omega arith) (lp .out) (lp .from) (lp .i) (lp .i) (lp .inv) (omega arith) (one c) (omega arith))
+    omega (arith, opened-inside (lp .inv) (omega arith) (omega arith) (one c) (omega arith))
 
 -- src/rows.rt:86:5
 loop-holds : tie.Need-loop-holds Inv-loop μ-loop
@@ -57,20 +55,20 @@ loop-again c =
     ⊎-elim
     (λ w.
     rw (w .2, w .3)
-    (opened-one _ _ (st .args .out .now) (lp .out) (lp .from) (lp .i) (omega arith) (lp .inv) (omega arith) _ (one (record { before = c .before; if1 = w .0 }))
+    (opened-one (lp .inv) (omega arith) (omega arith) _ (one (record { before = c .before; if1 = w .0 }))
     (read32 (getD (st .args .r .now) (lp .from) (pos 0)) (sfits-of (w .1 .given)))))
     (λ w.
     rw (w .1, w .2)
-    (opened-zero _ _ (st .args .out .now) (lp .out) (lp .from) (lp .i) (omega arith) (lp .inv) (omega arith) _ (other (record { before = c .before; if1 = w .0 })) refl))
+    (opened-zero (lp .inv) (omega arith) (omega arith) _ (other (record { before = c .before; if1 = w .0 })) refl))
     (c .if1 .came)
 
 -- src/rows.rt:75:1
 same-length : tie.Need-same-length Inv-loop μ-loop
-same-length c = c .before .loop .inv .long
+same-length c = c .before .loop .inv .written .long
 
 -- src/rows.rt:75:1
 returns : tie.Need-returns Inv-loop μ-loop
-returns c = opened-all _ _ 1 _ (omega arith) _ _ _ _ (c .before .loop .inv) (omega arith)
+returns c = opened-all (c .before .loop .inv) (omega arith) (omega arith)
 
 pub expand-line-spec : {M : Type 1} → statement M
 expand-line-spec =

@@ -10,11 +10,6 @@ use Rattle.signed.proofs.Reading.{read32}
 use Rattle.masks.proofs.Opened.{Opened, opened-none, opened-all, opened-row, opened-zeros, opened-room, opened-inside}
 use Rattle.masks.proofs.rows.expand_rows.Statement.{statement}
 use Rattle.masks.proofs.rows.expand_rows.Tie as tie
-use Rattle.masks.proofs.rows.expand_rows.Reads as reads
-use Rattle.masks.proofs.rows.expand_rows.Lts as lts
-use Rattle.copying.proofs.copy_run.Reads as copy-run-reads
-use Rattle.copying.proofs.fill_run.Reads as fill-run-reads
-use Rattle.signed.proofs.is_one.Reads as is-one-reads
 
 abbrev Inv-loop : tie.InvT-loop
 Inv-loop l r inner out₀ from₀ to₀ i₀ out from to i = Opened l r inner out₀ out from to i
@@ -30,13 +25,13 @@ test c = c .is-one .ensures ∙ ap (λ z. eqZ z (pos 1)) (read32 (getD (c .befor
 room : (c : tie.In-loop Inv-loop μ-loop) → c .before .loop .to + c .before .before .args .inner ≤ length (c .before .before .args .out .now)
 room c =
     let lp = c .before .loop in
-    opened-room _ _ (c .before .before .args .inner) _ (omega arith) (lp .out) (lp .from) (lp .to) (lp .i) (lp .inv) (omega arith)
+    opened-room (lp .inv) (omega arith) (omega arith)
 
 inside : (c : tie.Then1 Inv-loop μ-loop) → c .before .before .before .before .loop .from + c .before .before .before .before .before .args .inner ≤ length (c .before .before .before .before .before .args .r .now)
 inside c =
     let lp = c .before .before .before .before .loop in
     let a = c .before .before .before .before .before .args in
-    opened-inside _ _ (a .inner) _ (omega arith) (lp .out) (lp .from) (lp .to) (lp .i) (lp .inv) (omega arith) (sym (test (c .before)) ∙ c .if1 .taken) (omega arith)
+    opened-inside (lp .inv) (omega arith) (omega arith) (sym (test (c .before)) ∙ c .if1 .taken) (omega arith)
 
 -- src/rows.rt:110:5
 loop-holds : tie.Need-loop-holds Inv-loop μ-loop
@@ -64,7 +59,7 @@ mul-copy-run-2 c = omega (arith, room (c .before .before .before .before))
 
 -- src/rows.rt:114:47
 part-copy-run-end-2 : tie.Need-part-copy-run-end-2 Inv-loop μ-loop
-part-copy-run-end-2 c = let lp = c .before .before .before .before .before .loop in omega (arith, room (c .before .before .before .before), lp .inv .long)
+part-copy-run-end-2 c = let lp = c .before .before .before .before .before .loop in omega (arith, room (c .before .before .before .before), lp .inv .written .long)
 
 -- src/rows.rt:117:34
 mul-fill-run : tie.Need-mul-fill-run Inv-loop μ-loop
@@ -72,7 +67,7 @@ mul-fill-run c = omega (arith, room (c .before .before .before))
 
 -- src/rows.rt:117:34
 part-fill-run-end : tie.Need-part-fill-run-end Inv-loop μ-loop
-part-fill-run-end c = let lp = c .before .before .before .before .loop in omega (arith, room (c .before .before .before), lp .inv .long)
+part-fill-run-end c = let lp = c .before .before .before .before .loop in omega (arith, room (c .before .before .before), lp .inv .written .long)
 
 -- src/rows.rt:110:5
 loop-again : tie.Need-loop-again Inv-loop μ-loop
@@ -83,19 +78,19 @@ loop-again c =
     ⊎-elim
     (λ w.
     rw (w .5, w .6)
-    (opened-row _ _ (a .inner) _ (omega arith) (lp .out) (lp .from) (lp .to) (lp .i) (lp .inv) (omega arith) (sym (test (c .before)) ∙ w .0 .taken) (omega arith) _ (w .3 .ensures)))
+    (opened-row (lp .inv) (omega arith) (omega arith) (sym (test (c .before)) ∙ w .0 .taken) (omega arith) _ (w .3 .ensures)))
     (λ w.
     rw (w .4, w .5)
-    (opened-zeros _ _ (a .inner) _ (omega arith) (lp .out) (lp .from) (lp .to) (lp .i) (lp .inv) (omega arith) (sym (test (c .before)) ∙ w .0 .left) _ (w .2 .ensures)))
+    (opened-zeros (lp .inv) (omega arith) (omega arith) (sym (test (c .before)) ∙ w .0 .left) _ (w .2 .ensures)))
     (c .if1 .came)
 
 -- src/rows.rt:98:1
 same-length : tie.Need-same-length Inv-loop μ-loop
-same-length c = c .before .loop .inv .long
+same-length c = c .before .loop .inv .written .long
 
 -- src/rows.rt:98:1
 returns : tie.Need-returns Inv-loop μ-loop
-returns c = opened-all _ _ _ _ (omega arith) _ _ _ _ (c .before .loop .inv) (omega arith)
+returns c = opened-all (c .before .loop .inv) (omega arith) (omega arith)
 
 pub expand-rows-spec : {M : Type 1} → statement M
 expand-rows-spec =

@@ -8,10 +8,6 @@ use Rattle.signed.proofs.Reading.{read32}
 use Rattle.masks.proofs.Repeated.{Repeated, repeated-none, repeated-all, repeated-one, repeated-row, repeated-room}
 use Rattle.masks.proofs.rows.repeat_row.Statement.{statement}
 use Rattle.masks.proofs.rows.repeat_row.Tie as tie
-use Rattle.masks.proofs.rows.repeat_row.Reads as reads
-use Rattle.masks.proofs.rows.repeat_row.Lts as lts
-use Rattle.copying.proofs.copy_run.Reads as copy-run-reads
-use Rattle.copying.proofs.fill_run.Reads as fill-run-reads
 
 abbrev Inv-loop : tie.InvT-loop
 Inv-loop r m inner out₀ to₀ i₀ out to i = Repeated r m inner out₀ out to i
@@ -23,7 +19,7 @@ room : (c : tie.In-loop Inv-loop μ-loop) → c .before .loop .to + c .before .b
 room c =
     let lp = c .before .loop in
     let a = c .before .before .before .args in
-    repeated-room _ (a .m) (a .inner) _ (omega arith) (lp .out) (lp .to) (lp .i) (lp .inv) (omega arith)
+    repeated-room (lp .inv) (omega arith) (omega arith)
 
 -- src/rows.rt:62:9
 returns : tie.Need-returns Inv-loop μ-loop
@@ -47,7 +43,7 @@ mul-copy-run c = omega (arith, room c)
 
 -- src/rows.rt:68:30
 part-copy-run-end : tie.Need-part-copy-run-end Inv-loop μ-loop
-part-copy-run-end c = let lp = c .before .loop in omega (arith, room c, lp .inv .long)
+part-copy-run-end c = let lp = c .before .loop in omega (arith, room c, lp .inv .written .long)
 
 -- src/rows.rt:66:5
 loop-again : tie.Need-loop-again Inv-loop μ-loop
@@ -55,15 +51,15 @@ loop-again c =
     let st = c .before .before .before .before .before .before in
     let lp = c .before .before .before .before .loop in
     let a = st .args in
-    repeated-row _ (a .m) (a .inner) _ (omega arith) (lp .out) (lp .to) (lp .i) (lp .inv) (omega arith) (omega arith) _ (c .before .copy-run .ensures)
+    repeated-row (lp .inv) (omega arith) (omega arith) (omega arith) _ (c .before .copy-run .ensures)
 
 -- src/rows.rt:56:1
 same-length-2 : tie.Need-same-length-2 Inv-loop μ-loop
-same-length-2 c = c .before .loop .inv .long
+same-length-2 c = c .before .loop .inv .written .long
 
 -- src/rows.rt:56:1
 returns-2 : tie.Need-returns-2 Inv-loop μ-loop
-returns-2 c = repeated-all _ _ _ _ (omega arith) _ _ _ (c .before .loop .inv) (omega arith)
+returns-2 c = repeated-all (c .before .loop .inv) (omega arith) (omega arith)
 
 pub repeat-row-spec : {M : Type 1} → statement M
 repeat-row-spec =

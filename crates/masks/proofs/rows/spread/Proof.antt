@@ -2,23 +2,22 @@ use Rattle.masks.proofs.Ones.{test-one, test-other}
 use borrow.Author.Needs.{needs, sfits-of}
 use native.Mathlib.Omega.{arith}
 use Prim.Native.Nat.{_-_, _≤_}
-use mathlib.Core.Path.{_≡_, refl, sym, ap, _∙_}
+use mathlib.Core.Path.{_≡_, sym, ap, _∙_}
 use mathlib.Core.Bool.{true, false, cond}
 use mathlib.Core.Logic.{⊎-elim}
 use lib.IntN.{pos}
-use lib.ListN.{length, getD, length-set}
+use lib.ListN.{length, getD}
 use mir.Syntax.{w32}
 use mir.Val.{toZ, ofZ}
 use Rattle.meaning.specs.Terms.{eqZ}
 use Rattle.signed.proofs.Reading.{read32}
-use Rattle.copying.proofs.Runs.{filled, filled-none, filled-one}
+use Rattle.copying.proofs.Runs.{filled}
+use Rattle.masks.proofs.Written.{Written, written-none, written-one}
 use Rattle.masks.proofs.rows.spread.Statement.{statement}
 use Rattle.masks.proofs.rows.spread.Tie as tie
-use Rattle.masks.proofs.rows.spread.Reads as reads
-use Rattle.masks.proofs.rows.spread.Lts as lts
 
 abbrev Inv-loop : tie.InvT-loop
-Inv-loop x l out₀ i₀ out i = (i ≤ length l) × ((length out ≡ length out₀) × (out ≡ filled (λ j. cond (eqZ (getD l j (pos 0)) (pos 1)) (toZ w32 x) (pos 0)) i out₀))
+Inv-loop x l out₀ i₀ out i = (i ≤ length l) × Written (λ j. cond (eqZ (getD l j (pos 0)) (pos 1)) (toZ w32 x) (pos 0)) 1 out₀ out i i
 
 abbrev μ-loop : tie.MeasureT-loop
 μ-loop x l out₀ i₀ out i = length l - i
@@ -32,7 +31,7 @@ other c = test-other _ (sfits-of (c .before .if12 .given)) (c .if1 .left)
 
 -- src/rows.rt:134:5
 loop-holds : tie.Need-loop-holds Inv-loop μ-loop
-loop-holds c = (omega arith, (refl, filled-none _ _))
+loop-holds c = (omega arith, written-none _ 1 _)
 
 -- src/rows.rt:134:5
 loop-again : tie.Need-loop-again Inv-loop μ-loop
@@ -42,22 +41,14 @@ loop-again c =
     let x = toZ w32 (ofZ w32 (st .args .x)) in (
       omega arith,
       ⊎-elim
-          (λ w.
-          rw (w .1) (
-            simp length-set (lp .inv .1 .0),
-            rw (lp .inv .1 .1) (filled-one _ (pos 0) _ (lp .i) (st .args .out .now) (omega arith) (sym (ap (λ b. cond b x (pos 0)) (one (record { before = c .before; if1 = w .0 }))))),
-          ))
-          (λ w.
-          rw (w .1) (
-            simp length-set (lp .inv .1 .0),
-            rw (lp .inv .1 .1) (filled-one _ (pos 0) _ (lp .i) (st .args .out .now) (omega arith) (sym (ap (λ b. cond b x (pos 0)) (other (record { before = c .before; if1 = w .0 }))))),
-          ))
+          (λ w. rw (w .1) (written-one (lp .inv .1) (omega arith) _ (sym (ap (λ b. cond b x (pos 0)) (one (record { before = c .before; if1 = w .0 }))))))
+          (λ w. rw (w .1) (written-one (lp .inv .1) (omega arith) _ (sym (ap (λ b. cond b x (pos 0)) (other (record { before = c .before; if1 = w .0 }))))))
           (c .if1 .came),
     )
 
 -- src/rows.rt:126:1
 same-length : tie.Need-same-length Inv-loop μ-loop
-same-length c = c .before .loop .inv .1 .0
+same-length c = c .before .loop .inv .1 .long
 
 -- src/rows.rt:126:1
 returns : tie.Need-returns Inv-loop μ-loop
@@ -65,7 +56,7 @@ returns c =
     let st = c .before .before in
     let a = st .args in
     let e : c .before .loop .i ≡ length (a .l .now) = omega arith in
-    c .before .loop .inv .1 .1
+    c .before .loop .inv .1 .filling
     ∙ ap (λ y. filled (λ j. cond (eqZ (getD (a .l .now) j (pos 0)) (pos 1)) y (pos 0)) (c .before .loop .i) (a .out .now)) (read32 (a .x) (st .fits .x))
     ∙ ap (λ y. filled (λ j. cond (eqZ (getD (a .l .now) j (pos 0)) (pos 1)) (a .x) (pos 0)) y (a .out .now)) e
 
