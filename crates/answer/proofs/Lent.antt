@@ -5,19 +5,19 @@ use mathlib.Core.Bool.{Bool, true, false, _&&_}
 use Prim.Native.Nat.{ℕ, _-_, _≤_, _<_}
 use native.Mathlib.Nat.{sub-zero}
 use native.Mathlib.Omega.{arith}
-use borrow.Author.Tests.{leb-true, le-leb}
 use lib.ListN.{length, getD, take}
 use lib.Seq.{length-take-le, getD-take}
 use lib.Dec.{leb}
 use lib.IntN.{ℤ}
 use Rattle.shape.specs.declared.Shape.{Shape}
-use Rattle.shape.specs.Shape.{maxRank, maxCount, counted, count, goodShape, countOf, shapeRule, shapeOf, madeOf}
+use Rattle.shape.specs.Shape.{maxRank, maxCount, counted, count, goodShape, countOf, shapeRule}
 use Rattle.shape.proofs.Bools.{both}
 use Rattle.shape.proofs.Counts.{good-rank, count-good, count-of, good-count, bad-count}
 use Rattle.meaning.specs.Array.{arrayOf, goodForm}
 use Rattle.meaning.specs.Terms.{rank, axis}
 use Rattle.meaning.specs.Refusal.{number, precedence, meets, winner}
 use Rattle.meaning.specs.Reply.{isOrigin}
+use Rattle.meaning.proofs.Arrays.{form-shape, form-room, form-whole}
 use Rattle.answer.specs.Answer.{lent, early}
 
 module _ (s : Shape) (b : List ℤ) where
@@ -45,13 +45,10 @@ pub record Lent (s : Shape) (b : List ℤ) : Type 0 where
   pub whole : length (arrayOf (lent s b) .elements) ≡ count (counted s)
 
 pub lent-good : (s : Shape) (b : List ℤ) → length (s .lens) ≡ maxRank → goodForm (lent s b) ≡ true → Lent s b
-unfolding goodForm
 lent-good s b l h =
-    let t = both (goodShape s) (leb (count (counted s)) (length b)) h in
-    let g : goodShape s ≡ true = t .0 in
+    let g : goodShape s ≡ true = form-shape (lent s b) h in
     let c : countOf s ≡ count (counted s) = count-of s g in
     let high : s .rank ≤ maxRank = good-rank s g in
-    let room : count (counted s) ≤ length b = leb-true (count (counted s)) (length b) (t .1) in
     let rank-is : rank (arrayOf (lent s b)) ≡ s .rank = length-take-le (s .rank) (s .lens) (omega arith) in
     record {
       form = h;
@@ -62,8 +59,8 @@ lent-good s b l h =
       rule = ap (λ r. shapeRule r (counted s)) rank-is ∙ g;
       count-is = c;
       count-small = omega (arith, count-good s g);
-      room = room;
-      whole = length-take-le (count (counted s)) b room;
+      room = form-room (lent s b) h;
+      whole = form-whole (lent s b) h;
     }
 
 -- The length of an axis that counts.
@@ -105,10 +102,6 @@ module _ (G : ℤ) where
       by false e o t h = absurd (omega (arith, early-form form e))
       by true e false t h = absurd (omega (arith, early-origin form e t))
       by true e true t h = record { forms = e; origin = t }
-
--- The shape of a result that has the operand's lengths.
-pub made-is : (s : Shape) (b : List ℤ) → Lent s b → madeOf (s .rank) (s .lens) ≡ shapeOf (counted s)
-made-is s b g = rw (le-leb (s .rank) maxRank (g .high))
 
 -- All that a call knows where neither was met, of one operand and of two.
 pub record FineOne (G : ℤ) (s : Shape) (b : List ℤ) : Type 0 where

@@ -4,25 +4,24 @@ use mathlib.Core.List.{List}
 use Prim.Native.Nat.{ℕ, _+_, _-_, _*_, _≤_, _<_}
 use native.Mathlib.Nat.{zero-mul}
 use native.Mathlib.Omega.{arith}
-use lib.ListN.{length, getD, take, drop, length-drop, List·getD-append}
-use lib.Seq.{length-take-le}
+use lib.ListN.{length, getD, take, drop, List·getD-append}
 use lib.IntN.{ℤ, pos}
-use borrow.Rule.Slice.PartMut.{putMid}
+use borrow.Rule.Slice.PartMut.{putMid, mid-len}
 use Rattle.meaning.specs.Array.{tab}
 use Rattle.meaning.proofs.Tab.{length-tab, getD-tab}
 use Rattle.copying.proofs.Runs.{filled, filled-none, length-filled, put-list}
 
 -- Before the first part.
-pub filled-start : (g : ℕ → ℤ) (c : ℕ) (out : List ℤ) → out ≡ filled g (0 * c) out
+pub filled-start : {A : Type 0} (g : ℕ → A) (c : ℕ) (out : List A) → out ≡ filled g (0 * c) out
 filled-start g c out = filled-none g out ∙ ap (λ n. filled g n out) (sym (zero-mul c))
 
 -- A part has as many elements as it is long.
 pub part-long : {A : Type 0} (xs : List A) (at w : ℕ) → at + w ≤ length xs → length (take (at + w - at) (drop at xs)) ≡ w
-part-long xs at w h = length-take-le (at + w - at) (drop at xs) (rw length-drop (omega arith)) ∙ omega arith
+part-long xs at w h = mid-len at (at + w) xs h ∙ omega arith
 
 -- So in a buffer that keeps its length.
-pub part-kept : {A : Type 0} (xs ys : List A) (at w : ℕ) → length xs ≡ length ys → at + w ≤ length ys → length (take (at + w - at) (drop at xs)) ≡ w
-part-kept xs ys at w e h = part-long xs at w (omega arith)
+pub part-room : {A : Type 0} (xs : List A) (at w n : ℕ) → length xs ≡ n → at + w ≤ n → length (take (at + w - at) (drop at xs)) ≡ w
+part-room xs at w n e h = part-long xs at w (omega arith)
 
 -- A part that was filled by h stands in a buffer that is filled by g.
 pub part-filled : (g h : ℕ → ℤ) (n m e : ℕ) (out out₀ last part : List ℤ) → out ≡ filled g n out₀ → e ≡ n + m

@@ -7,13 +7,12 @@ use native.Mathlib.Omega.{arith}
 use mathlib.Core.Path.{_≡_, refl, sym, ap, ap₂, _∙_}
 use mathlib.Core.List.{List, [], _∷_, _++_, append-assoc, append-nil, reverse}
 use lib.IntN.{ℤ}
-use lib.ListN.{length, getD, take, drop, set, replicate, length-append, length-drop, length-replicate, getD-replicate, length-reverse, drop-of-length-le}
-use lib.Seq.{take-at, drop-at, drop-drop, drop-cons, set-at, append-snoc, take-all, length-take-le, getD-take, getD-drop}
-use borrow.Rule.Slice.PartMut.{putMid}
+use lib.ListN.{length, getD, take, drop, set, replicate, length-append, length-drop, length-replicate, getD-replicate, drop-of-length-le}
+use lib.Seq.{take-at, drop-at, drop-drop, drop-cons, set-at, append-snoc, take-all}
+use borrow.Rule.Slice.PartMut.{putMid, mid-len}
 use Rattle.meaning.specs.Array.{tabFrom, tab}
 use Rattle.copying.specs.Runs.{common, copied, reversed}
-use Rattle.meaning.proofs.Tab.{length-tab, tab-ext, tab-getD, tab-add}
-use Rattle.copying.proofs.Steps.{getD-reverse}
+use Rattle.meaning.proofs.Tab.{length-tab, tab-ext, tab-getD, tab-add, getD-part}
 
 -- What the contracts come to where the run fits.
 pub copied-fits : (src out : List ℤ) → length src ≤ length out → copied src out ≡ src ++ drop (length src) out
@@ -45,15 +44,7 @@ put-part out xs ys l at e o x h =
 pub part-length : {A : Type 0} (out xs l : List A) (at e : ℕ) → out ≡ xs ++ drop at l → length xs ≡ at → at ≤ e → e ≤ length l
     → length (take (e - at) (drop at out)) ≡ e - at
 part-length out xs l at e o x h k =
-    rw (o, drop-at xs (drop at l) at x) (length-take-le (e - at) (drop at l) (rw length-drop (omega arith)))
-
--- A run ys copied after xs.
-pub put-run : (out xs ys l last : List ℤ) (at e : ℕ) → out ≡ xs ++ drop at l → length xs ≡ at → at + length ys ≡ e → e ≤ length l
-    → last ≡ copied ys (take (e - at) (drop at out))
-    → putMid at (e - at) out last ≡ (xs ++ ys) ++ drop e l
-put-run out xs ys l last at e o x y h q =
-    let whole : last ≡ ys = q ∙ copied-whole ys (take (e - at) (drop at out)) (omega (arith, part-length out xs l at e o x (omega arith) h)) in
-    rw whole (put-part out xs ys l at e o x (omega arith))
+    mid-len at e out (rw (o, length-append, length-drop) (omega arith))
 
 module _ {A : Type 0} where
   -- The first n elements are g 0, g 1, .., and the others are those of out.
@@ -95,7 +86,7 @@ module _ {A : Type 0} where
       ∙ ap₂ (λ x k. (tab n g ++ x) ++ drop k out₀) (tab-is ys d m (λ i. g (n + i)) long same) end
       ∙ ap (λ x. x ++ drop (n + m) out₀) (sym (tab-add n m g))
 
--- The three runs as a caller has them: the part n .. e of out, m elements long, and the part from .. to of r.
+-- Runs as a caller has them: the part n .. e of out, m elements long, and the part from .. to of r.
 module _ (g : ℕ → ℤ) (n m e : ℕ) (out out₀ last : List ℤ) (o : out ≡ filled g n out₀) (end : e ≡ n + m) (room : e ≤ length out₀) where
   room-length : length (take (e - n) (drop n out)) ≡ m
   room-length = part-length out (tab n g) out₀ n e o (length-tab n g) (omega arith) room ∙ omega arith
@@ -113,14 +104,10 @@ module _ (g : ℕ → ℤ) (n m e : ℕ) (out out₀ last : List ℤ) (o : out �
     run = take (to - from) (drop from r)
 
     run-length : length run ≡ m
-    run-length = length-take-le (to - from) (drop from r) (rw length-drop (omega arith)) ∙ omega arith
+    run-length = mid-len from to r inside ∙ omega arith
 
     run-at : (i : ℕ) → i < m → getD run i d ≡ getD r (from + i) d
-    run-at i l = getD-take (to - from) (drop from r) i d (omega arith) ∙ getD-drop from r i d
-
-    run-back : (i : ℕ) → i < m → getD (reverse run) i d ≡ getD r (from + (m - 1 - i)) d
-    run-back i l =
-        getD-reverse run i d (omega (arith, run-length)) ∙ ap (λ k. getD run (k - 1 - i) d) run-length ∙ run-at (m - 1 - i) (omega arith)
+    run-at i l = getD-part r from (to - from) i d (omega arith)
 
     -- A run that is copied.
     pub put-copied : ((i : ℕ) → i < m → g (n + i) ≡ getD r (from + i) d)
@@ -129,12 +116,3 @@ module _ (g : ℕ → ℤ) (n m e : ℕ) (out out₀ last : List ℤ) (o : out �
     put-copied same q =
         let whole : last ≡ run = q ∙ copied-whole run (take (e - n) (drop n out)) (run-length ∙ sym room-length) in
         put-list g d n m e out out₀ last o end (ap length whole ∙ run-length) (λ i l. same i l ∙ sym (ap (λ ys. getD ys i d) whole ∙ run-at i l))
-
-    -- A run that is reversed.
-    pub put-reversed : ((i : ℕ) → i < m → g (n + i) ≡ getD r (from + (m - 1 - i)) d)
-        → last ≡ reversed (take (to - from) (drop from r)) (take (e - n) (drop n out))
-        → putMid n (e - n) out last ≡ filled g (n + m) out₀
-    put-reversed same q =
-        let whole : last ≡ reverse run = q ∙ reversed-whole run (take (e - n) (drop n out)) (run-length ∙ sym room-length) in
-        put-list g d n m e out out₀ last o end (ap length whole ∙ length-reverse run ∙ run-length)
-        (λ i l. same i l ∙ sym (ap (λ ys. getD ys i d) whole ∙ run-back i l))

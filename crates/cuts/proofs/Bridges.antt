@@ -13,13 +13,12 @@ use lib.IntN.{ℤ, pos, negsuc, natAbs, _+ℤ_}
 use Rattle.shape.specs.Shape.{count}
 use Rattle.shape.specs.Place.{inside, index, place}
 use Rattle.shape.proofs.Bools.{both, no-way}
+use Rattle.shape.proofs.Places.{row-in}
 use Rattle.meaning.specs.Array.{Array, at, tab, build}
 use Rattle.meaning.specs.Terms.{negative, every, rank, asRank, isScalar}
 use Rattle.meaning.specs.Primitives.{takes, drops, takenFrom, takenPlace, atOrZero, droppedLengths, droppedPlace}
 use Rattle.meaning.proofs.Tab.{tab-ext}
 use Rattle.cuts.specs.Windows.{cutMeaning, sizeOf, endOf, sizesOf, tableOf, cutAt}
-use Rattle.cuts.proofs.Cutting.{div-below}
-use Rattle.cuts.proofs.Tables.{factor-pos}
 
 -- Position i of the result lies in the window of an axis.
 abbrev seen : Bool → ℤ → ℕ → ℕ → Bool
@@ -85,9 +84,9 @@ taken-cut [] (n ∷ ns) xs at j l h = absurd (omega arith)
 taken-cut (z ∷ zs) [] xs at j l h = absurd (omega arith)
 taken-cut (z ∷ zs) (n ∷ ns) xs at j l h =
     let c : ℕ = count (sizesOf false zs ns) in
-    let some : 0 < c = factor-pos (natAbs z) c (omega arith) in
-    by-test z n zs ns xs at (j / c) (place (sizesOf false zs ns) (j % c)) _ (div-below j (natAbs z) c some h)
-    (λ b. taken-cut zs ns xs b (j % c) (omega arith) (mod-lt j some)) (seen false z n (j / c)) refl
+    let r = row-in (natAbs z) c j h in
+    by-test z n zs ns xs at (j / c) (place (sizesOf false zs ns) (j % c)) _ (r .1)
+    (λ b. taken-cut zs ns xs b (j % c) (omega arith) (mod-lt j (r .0))) (seen false z n (j / c)) refl
   where
     by-test : (z : ℤ) (n : ℕ) (zs : List ℤ) (ns : List ℕ) (xs : List ℤ) (at i : ℕ) (p : List ℕ) (rest : ℕ → ℤ) → i < natAbs z
         → ((b : ℕ) → atOr ns xs b (takenPlace zs ns p) ≡ rest b) → (t : Bool) → seen false z n i ≡ t
@@ -107,12 +106,12 @@ dropped-cut [] (n ∷ ns) xs at j l h = absurd (omega arith)
 dropped-cut (z ∷ zs) [] xs at j l h = absurd (omega arith)
 dropped-cut (z ∷ zs) (n ∷ ns) xs at j l h =
     let c : ℕ = count (sizesOf true zs ns) in
-    let some : 0 < c = factor-pos (n - natAbs z) c (omega arith) in
-    let w = dropped-in z n (j / c) (div-below j (n - natAbs z) c some h) in
+    let r = row-in (n - natAbs z) c j h in
+    let w = dropped-in z n (j / c) (r .1) in
     let from : ℕ = source true z n (j / c) in
     let x : ℕ = index ns (droppedPlace zs (place (sizesOf true zs ns) (j % c))) in
     let to : at + (from * count ns + x) ≡ at + from * count ns + x = omega arith in
-    rw (w .0, ← w .1) (ap (λ y. getD xs y (pos 0)) to ∙ dropped-cut zs ns xs (at + from * count ns) (j % c) (omega arith) (mod-lt j some))
+    rw (w .0, ← w .1) (ap (λ y. getD xs y (pos 0)) to ∙ dropped-cut zs ns xs (at + from * count ns) (j % c) (omega arith) (mod-lt j (r .0)))
 
 -- The result's lengths.
 sizes-taken : (zs : List ℤ) (ns : List ℕ) → length zs ≡ length ns → map natAbs zs ≡ sizesOf false zs ns

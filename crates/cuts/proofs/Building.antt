@@ -1,18 +1,18 @@
 -- The result's lengths and the table, as they are built axis by axis.
 use Prim.Native.Nat.{ℕ, zero, suc, _+_, _*_, _-_, _≤_, _<_, min}
-use native.Mathlib.Nat.{mul-comm, mul-le-mul-right, sub-zero}
+use native.Mathlib.Nat.{mul-comm, sub-zero}
 use native.Mathlib.Numerals.{add-one}
 use native.Mathlib.Omega.{arith}
 use mathlib.Core.Path.{_≡_, refl, sym, ap, ap₂, _∙_}
 use mathlib.Core.List.{List, [], _∷_, _++_, append-assoc}
 use mathlib.Core.Bool.{Bool}
-use lib.ListN.{length, getD, take, drop, set, drop-of-length-le}
-use lib.Seq.{take-suc, take-suc-set, drop-cons, getD-take, length-take-le, sets, length-sets, sets-eq, drop-at, take-nil}
+use lib.ListN.{length, getD, take, drop, set}
+use lib.Seq.{take-suc, take-suc-set, length-take-le, slice-empty, slice-cons, sets, length-sets, sets-eq, drop-at, take-nil}
 use lib.IntN.{ℤ, pos}
 use Rattle.shape.specs.Shape.{maxRank, maxCount, count}
+use Rattle.shape.proofs.Counts.{count-drop}
 use Rattle.cuts.specs.declared.Window.{Window}
 use Rattle.cuts.specs.Windows.{sizeOf, windowOf, sizesOf, tableOf, Cut}
-use Rattle.cuts.proofs.Tables.{factor-pos}
 
 -- The window of an axis, as its code finds it from the result's length m and what of it lies beyond n.
 pub window-end : (m n size lead : ℕ) → size ≡ m → lead ≡ size - n
@@ -45,21 +45,12 @@ sizes-more d l lens sizes i v a b c e q =
     rw (add-one i, take-suc-set sizes i v c, take-suc l i (pos 0) a, take-suc lens i 0 b, e, q)
     (sym (sizes-snoc d (take i l) (take i lens) (getD l i (pos 0)) (getD lens i 0) (length-take-le i l (omega arith) ∙ sym (length-take-le i lens (omega arith)))))
 
--- The first `rank` of a list, from element k on.
-pub front-cons : {A : Type 0} (xs : List A) (rank k : ℕ) (d : A) → k < rank → rank ≤ length xs
-    → drop k (take rank xs) ≡ getD xs k d ∷ drop (suc k) (take rank xs)
-front-cons xs rank k d h l =
-    drop-cons (take rank xs) k d (omega (arith, length-take-le rank xs l)) ∙ ap (λ x. x ∷ drop (suc k) (take rank xs)) (getD-take rank xs k d h)
-
-pub front-none : {A : Type 0} (xs : List A) (rank : ℕ) → rank ≤ length xs → drop rank (take rank xs) ≡ []
-front-none xs rank l = drop-of-length-le (take rank xs) {i = rank} (omega (arith, length-take-le rank xs l))
-
 -- Two lists of lengths that are the same from one axis on are so from the axis before it, if that is the same.
 pub same-more : (lens sizes : List ℕ) (rank k i : ℕ) → i ≡ suc k → k < rank → rank ≤ length lens → rank ≤ length sizes
     → drop i (take rank lens) ≡ drop i (take rank sizes) → getD lens k 0 ≡ getD sizes k 0 → drop k (take rank lens) ≡ drop k (take rank sizes)
 same-more lens sizes rank k i e h a b s q =
     let s′ : drop (suc k) (take rank lens) ≡ drop (suc k) (take rank sizes) = rw e at s in
-    front-cons lens rank k 0 h a ∙ ap₂ (λ x xs. x ∷ xs) q s′ ∙ sym (front-cons sizes rank k 0 h b)
+    slice-cons k rank lens 0 h a ∙ ap₂ (λ x xs. x ∷ xs) q s′ ∙ sym (slice-cons k rank sizes 0 h b)
 
 -- The counts of the later axes.
 sizes-drop : (d : Bool) (k : ℕ) (zs : List ℤ) (ns : List ℕ) → length zs ≡ length ns → sizesOf d (drop k zs) (drop k ns) ≡ drop k (sizesOf d zs ns)
@@ -69,15 +60,6 @@ sizes-drop d (suc k) [] [] l = refl
 sizes-drop d (suc k) [] (n ∷ ns) l = absurd (omega arith)
 sizes-drop d (suc k) (z ∷ zs) [] l = absurd (omega arith)
 sizes-drop d (suc k) (z ∷ zs) (n ∷ ns) l = sizes-drop d k zs ns (omega arith)
-
-count-drop : (k : ℕ) (ns : List ℕ) → 0 < count ns → count (drop k ns) ≤ count ns
-unfolding count
-count-drop zero ns h = omega arith
-count-drop (suc k) [] h = omega arith
-count-drop (suc k) (zero ∷ ns) h = absurd (omega arith)
-count-drop (suc k) (suc n ∷ ns) h =
-    let some : 0 < count ns = factor-pos (suc n) (count ns) h in
-    omega (arith, count-drop k ns some, mul-le-mul-right {m = 1} {n = suc n} (count ns) (omega arith))
 
 -- A part of a front.
 drop-take : {A : Type 0} (p n : ℕ) (xs : List A) → drop p (take n xs) ≡ take (n - p) (drop p xs)
@@ -126,11 +108,11 @@ module _ (d : Bool) (rank : ℕ) (lens : List ℕ) (l : List ℤ) (c : Cut d ran
   pub built-none : (table : List ℕ) → length table ≡ 5 * maxRank → Built d rank lens l table 1 1 rank
   unfolding tableOf sizesOf count
   built-none table t =
-      let zs : drop rank (take rank l) ≡ [] = front-none l rank (c .enough) in
-      let ns : drop rank (take rank lens) ≡ [] = front-none lens rank (omega (arith, c .high)) in
+      let zs : drop rank (take rank l) ≡ [] = slice-empty rank l in
+      let ns : drop rank (take rank lens) ≡ [] = slice-empty rank lens in
       record {
         below = omega arith;
-        rows = front-none table (rank * 5) (omega (arith, c .high)) ∙ sym (rw zs);
+        rows = slice-empty (rank * 5) table ∙ sym (rw zs);
         long = t;
         steps = sym (rw ns);
         blocks = sym (rw zs);
@@ -151,10 +133,10 @@ module _ (d : Bool) (rank : ℕ) (lens : List ℕ) (l : List ℤ) (c : Cut d ran
     m = sizeOf d (getD l k (pos 0)) n
 
     ns-cons : drop k (take rank lens) ≡ n ∷ drop i (take rank lens)
-    ns-cons = front-cons lens rank k 0 (omega (arith, b .below)) (omega (arith, c .high)) ∙ ap (λ x. n ∷ drop x (take rank lens)) (sym e)
+    ns-cons = slice-cons k rank lens 0 (omega (arith, b .below)) (omega (arith, c .high)) ∙ ap (λ x. n ∷ drop x (take rank lens)) (sym e)
 
     zs-cons : drop k (take rank l) ≡ getD l k (pos 0) ∷ drop i (take rank l)
-    zs-cons = front-cons l rank k (pos 0) (omega (arith, b .below)) (c .enough) ∙ ap (λ x. getD l k (pos 0) ∷ drop x (take rank l)) (sym e)
+    zs-cons = slice-cons k rank l (pos 0) (omega (arith, b .below)) (c .enough) ∙ ap (λ x. getD l k (pos 0) ∷ drop x (take rank l)) (sym e)
 
     next-step : step * n ≡ count (drop k (take rank lens))
     unfolding count
@@ -166,12 +148,12 @@ module _ (d : Bool) (rank : ℕ) (lens : List ℕ) (l : List ℤ) (c : Cut d ran
 
     -- The products stay within the limit.
     pub step-small : step * n ≤ maxCount
-    step-small = rw next-step (omega (arith, count-drop k (take rank lens) (c .some), c .small))
+    step-small = rw next-step (omega (arith, count-drop k (take rank lens) (c .some) .1, c .small))
 
     pub block-small : block * m ≤ maxCount
     block-small =
         rw (next-block, sizes-drop d k (take rank l) (take rank lens) same)
-        (omega (arith, count-drop k (sizesOf d (take rank l) (take rank lens)) (c .result), c .limit))
+        (omega (arith, count-drop k (sizesOf d (take rank l) (take rank lens)) (c .result) .1, c .limit))
 
     pub built-more : (table′ : List ℕ) (w : Window) → table′ ≡ stored table (k * 5) (w .lead) (w .from) (w .len) step block
         → w ≡ windowOf d (getD l k (pos 0)) n → Built d rank lens l table′ (step * n) (block * w .size) k

@@ -1,18 +1,20 @@
 -- 23 and 24 as their code asks and answers, with the flag open.
-use Prim.Native.Nat.{ℕ, zero, suc, _+_, _*_, _-_, _≤_, _<_}
+use Prim.Native.Nat.{ℕ, _+_, _-_, _≤_, _<_}
 use native.Mathlib.Nat.{sub-zero}
 use native.Mathlib.Omega.{arith}
 use mathlib.Core.Path.{_≡_, refl, sym, ap, ap₂, _∙_}
 use mathlib.Core.List.{List, [], _∷_, _++_}
 use mathlib.Core.Bool.{Bool, true, false, cond}
-use borrow.Author.Tests.{eq-eqb, eqb-true, eqb-false, le-leb, lt-leb}
+use borrow.Author.Tests.{eq-eqb, eqb-true, eqb-false}
 use lib.Dec.{eqb, leb}
 use lib.ListN.{length, take, drop, replicate, length-replicate, replicate-append-replicate}
 use lib.Seq.{take-at, length-take-le}
 use lib.IntN.{ℤ, pos}
 use Rattle.shape.specs.declared.Shape.{Shape}
-use Rattle.shape.specs.Shape.{maxRank, maxCount, counted, count, countOf, shapeOf, scalar, shapeRule, madeOf}
-use Rattle.shape.proofs.Made.{made-rule, made-no-rule, made-count}
+use Rattle.shape.specs.Shape.{maxRank, maxCount, counted, count, countOf, shapeOf, shapeRule, madeOf}
+use Rattle.shape.proofs.Rule.{rule-high}
+use Rattle.shape.proofs.Counts.{count-ones}
+use Rattle.shape.proofs.Made.{made-is}
 use Rattle.meaning.specs.Array.{Operand, Array, arrayOf, tab, build}
 use Rattle.meaning.specs.Refusal.{_unless_, number, precedence, meets, winner}
 use Rattle.meaning.specs.Refusal.Refusal.{RANK, LENGTH}
@@ -21,7 +23,7 @@ use Rattle.meaning.specs.Primitives.{takes, drops}
 use Rattle.meaning.proofs.Scalars.{scalar-as, array-as}
 use Rattle.meaning.specs.Reply.{Primitive, primitives, named}
 use Rattle.answer.specs.Answer.{lent, own}
-use Rattle.answer.proofs.Lent.{Lent}
+use Rattle.answer.proofs.Lent.{Lent, lent-part}
 use Rattle.answer.proofs.Order.{Names}
 use Rattle.cuts.specs.Windows.{numberOf, cutMeaning, refusalOf, lengthsOf, sizesOf, tableOf, cutAt, Parts}
 use Rattle.cuts.proofs.Bridges.{cut-lengths, cut-elements, size-length}
@@ -57,17 +59,6 @@ both-passed false b h = absurd (omega arith)
 both-passed true false h = absurd (omega arith)
 both-passed true true h = refl
 
--- The shape of some lengths: its count tells whether they keep the rule.
-module _ (ns : List ℕ) (n : ℕ) (e : n ≡ countOf (shapeOf ns)) where
-  pub rule-broken : maxCount < n → shapeRule (length ns) ns ≡ false
-  rule-broken h = made-no-rule ns (omega arith)
-
-  pub rule-kept : n ≤ maxCount → shapeRule (length ns) ns ≡ true
-  rule-kept h = made-rule ns (omega arith)
-
-  pub count-kept : n ≤ maxCount → n ≡ count ns
-  count-kept h = e ∙ made-count ns (omega arith)
-
 -- A scalar has as many axes as are asked for.
 rank-as : (n : ℕ) (a : Array) → eqb n (rank (asRank n a)) ≡ cond (eqb (rank a) 0) true (eqb n (rank a))
 rank-as n a = by (eqb (rank a) 0)
@@ -75,11 +66,6 @@ rank-as n a = by (eqb (rank a) 0)
     by : (b : Bool) → eqb n (rank (cond b (record { lengths = replicate n 1; elements = a .elements }) a)) ≡ cond b true (eqb n (rank a))
     by true = eq-eqb n (length (replicate {A = ℕ} n 1)) (sym (length-replicate n 1))
     by false = refl
-
-ones-count : (n : ℕ) → count (replicate n 1) ≡ 1
-unfolding count
-ones-count zero = refl
-ones-count (suc n) = ap (λ x. 1 * x) (ones-count n)
 
 ones-front : (k m : ℕ) → k ≤ m → take k (replicate {A = ℕ} m 1) ≡ replicate k 1
 ones-front k m h =
@@ -138,11 +124,7 @@ module _ (ls : Shape) (l : List ℤ) (rs : Shape) (r : List ℤ) (gl : Lent ls l
 
     -- More numbers than a shape has lengths.
     pub too-many : maxRank < k → shapeRule (length (cutMeaning d L R .lengths)) (cutMeaning d L R .lengths) ≡ false
-    unfolding shapeRule
-    too-many h =
-        let ns : List ℕ = cutMeaning d L R .lengths in
-        let high : maxRank < length ns = omega (arith, ap length (cut-lengths L R fit d), size-length d (L .elements) (read .lengths) fit, fit, numbers) in
-        rw (lt-leb (length ns) maxRank high)
+    too-many h = rule-high _ (cutMeaning d L R .lengths) (omega (arith, ap length (cut-lengths L R fit d), size-length d (L .elements) (read .lengths) fit, fit, numbers))
 
     pub enough : k ≤ length l
     enough = omega (arith, e, gl .count-is, gl .room)
@@ -170,7 +152,7 @@ module _ (ls : Shape) (l : List ℤ) (rs : Shape) (r : List ℤ) (gl : Lent ls l
         by true q =
             let none : rs .rank ≡ 0 = eqb-true (rs .rank) 0 q in
             ap (λ a. count (a .lengths)) (scalar-as (length (L .elements)) R (gr .rank-is ∙ none))
-            ∙ ones-count (length (L .elements))
+            ∙ count-ones (length (L .elements))
             ∙ sym (ap (λ x. count (take x (rs .lens))) none)
         by false q =
             let ne = eqb-false (rs .rank) 0 q in
@@ -186,10 +168,7 @@ module _ (ls : Shape) (l : List ℤ) (rs : Shape) (r : List ℤ) (gl : Lent ls l
 
       -- The result's shape.
       pub shape-is : (s : Shape) → s ≡ madeOf k sizes → s ≡ shapeOf (cutMeaning d L R .lengths)
-      shape-is s q =
-          q
-          ∙ ap (λ b. cond b (shapeOf (take k sizes)) scalar) (le-leb k maxRank high)
-          ∙ ap shapeOf (m ∙ sizes-are ∙ sym (cut-lengths L R fit d))
+      shape-is s q = q ∙ made-is _ k sizes high (m ∙ sizes-are ∙ sym (cut-lengths L R fit d))
 
       -- What is handed on to fill the result: R's elements, and as much of the output as the result counts.
       module _ (out : List ℤ) (src c : ℕ) (a : src ≡ countOf rs) (small : c ≤ maxCount) (room : c ≤ length out) (b : c ≡ count (cutMeaning d L R .lengths)) where
@@ -216,7 +195,7 @@ module _ (ls : Shape) (l : List ℤ) (rs : Shape) (r : List ℤ) (gl : Lent ls l
         pub result-out : (last : List ℤ) → last ≡ tab (length (take (c - 0) out)) (cutAt (tableOf d (take k l) (take k lens)) (take (src - 0) r) 0)
             → last ++ drop (c - 0) out ≡ build (cutMeaning d L R .lengths) (cutMeaning d L R .element) .elements ++ drop (count (cutMeaning d L R .lengths)) out
         result-out last q =
-            let xs : take (src - 0) r ≡ R .elements = ap (λ x. take x r) (sub-zero src ∙ a ∙ gr .count-is) in
+            let xs : take (src - 0) r ≡ R .elements = lent-part rs r gr src a in
             let t : tableOf d (take k l) (take k lens) ≡ tableOf d (L .elements) (read .lengths) = ap₂ (tableOf d) numbers-are lens-are in
             let n : length (take (c - 0) out) ≡ count (sizesOf d (L .elements) (read .lengths)) = out-long ∙ result-is ∙ ap count sizes-are in
             ap₂ (λ x y. x ++ drop y out)

@@ -1,6 +1,6 @@
 -- What a result holds through the windows of a table t, by the numbers of its first window.
 use Prim.Native.Nat.{ℕ, _+_, _*_, _-_, _/_, _%_, _≤_, _<_}
-use native.Mathlib.Nat.{mod-lt, div-lt-iff-lt-mul, le-div-iff-mul-le, mul-le-mul-right, div-add-mod'}
+use native.Mathlib.Nat.{mod-lt, le-div-iff-mul-le, mul-le-mul-right, div-add-mod'}
 use native.Mathlib.Omega.{arith}
 use mathlib.Core.Path.{_≡_, refl, sym, ap, ap₂, _∙_}
 use mathlib.Core.List.{List, [], _∷_, _++_}
@@ -8,13 +8,14 @@ use mathlib.Core.Bool.{and-false}
 use borrow.Author.Tests.{le-leb, lt-leb, lt-ltb, le-ltb}
 use lib.Arith.{digits-div, digits-mod}
 use lib.Dec.{leb}
-use lib.ListN.{length, getD, take, drop, replicate, length-replicate, getD-replicate, take-append-drop, length-drop}
+use lib.ListN.{length, getD, take, drop, take-append-drop, length-drop}
 use lib.Seq.{take-all}
 use lib.IntN.{ℤ, pos}
+use Rattle.shape.proofs.Places.{row-in, row-fits}
 use Rattle.meaning.specs.Array.{tab}
-use Rattle.meaning.proofs.Tab.{length-tab, getD-tab, tab-add}
+use Rattle.meaning.proofs.Tab.{length-tab, getD-tab, tab-add, tab-same}
 use Rattle.copying.specs.Runs.{copied}
-use Rattle.copying.proofs.Runs.{filled, length-filled, tab-is, put-list, put-copied, part-length}
+use Rattle.copying.proofs.Runs.{filled, length-filled, put-list, put-copied, part-length}
 use borrow.Rule.Slice.PartMut.{putMid}
 use Rattle.cuts.specs.Windows.{cutAt, Fitting, Cleared}
 
@@ -63,12 +64,6 @@ fits (a ∷ b ∷ c ∷ d ∷ e ∷ ws) at n m h = record {
   more = h .1 .1 .1 .1 .1;
 }
 
-pub div-below : (j a b : ℕ) → 0 < b → j < a * b → j / b < a
-div-below j a b p h = div-lt-iff-lt-mul {k = b} {x = j} {y = a} p .1 h
-
-div-above : (j a b : ℕ) → 0 < b → a * b ≤ j → a ≤ j / b
-div-above j a b p h = le-div-iff-mul-le {k = b} {x = a} {y = j} p .1 h
-
 -- Zeros before the window and after it.
 pub cut-before : (t : List ℕ) (r : List ℤ) (at j : ℕ) → 5 ≤ length t → 0 < block t → j < lead t * block t → cutAt t r at j ≡ pos 0
 unfolding cutAt
@@ -77,7 +72,7 @@ cut-before (_ ∷ []) r at j l p h = refl
 cut-before (_ ∷ _ ∷ []) r at j l p h = refl
 cut-before (_ ∷ _ ∷ _ ∷ []) r at j l p h = refl
 cut-before (_ ∷ _ ∷ _ ∷ _ ∷ []) r at j l p h = refl
-cut-before (a ∷ b ∷ c ∷ d ∷ e ∷ ws) r at j l p h = rw (lt-leb a (j / e) (div-below j a e p h))
+cut-before (a ∷ b ∷ c ∷ d ∷ e ∷ ws) r at j l p h = rw (lt-leb a (j / e) (row-in a e j h .1))
 
 pub cut-after : (t : List ℕ) (r : List ℤ) (at j : ℕ) → 5 ≤ length t → 0 < block t → (lead t + len t) * block t ≤ j → cutAt t r at j ≡ pos 0
 unfolding cutAt
@@ -87,7 +82,7 @@ cut-after (_ ∷ _ ∷ []) r at j l p h = refl
 cut-after (_ ∷ _ ∷ _ ∷ []) r at j l p h = refl
 cut-after (_ ∷ _ ∷ _ ∷ _ ∷ []) r at j l p h = refl
 cut-after (a ∷ b ∷ c ∷ d ∷ e ∷ ws) r at j l p h =
-    rw (le-ltb (j / e) (a + c) (div-above j (a + c) e p h), and-false (leb a (j / e)))
+    rw (le-ltb (j / e) (a + c) (le-div-iff-mul-le {k = e} {x = a + c} {y = j} p .1 h), and-false (leb a (j / e)))
 
 -- Position i of the window holds what the windows of the later axes leave of its part of r.
 pub cut-inside : (t : List ℕ) (r : List ℤ) (at i k : ℕ) → 5 ≤ length t → i < len t → k < block t
@@ -117,17 +112,10 @@ cut-run (_ ∷ _ ∷ _ ∷ []) r at k l p e h = absurd (omega arith)
 cut-run (_ ∷ _ ∷ _ ∷ _ ∷ []) r at k l p e h = absurd (omega arith)
 cut-run (a ∷ b ∷ c ∷ d ∷ e ∷ (w ∷ ws)) r at k l p q h = absurd (omega arith)
 cut-run (a ∷ b ∷ c ∷ d ∷ e ∷ []) r at k l p q h =
-    let i : k / e < c = div-below k c e p h in
     let split : a * e + k ≡ a * e + k / e * e + k % e = omega (arith, div-add-mod' k e) in
     ap (cutAt (a ∷ b ∷ c ∷ d ∷ e ∷ []) r at) split
-    ∙ cut-inside (a ∷ b ∷ c ∷ d ∷ e ∷ []) r at (k / e) (k % e) (omega arith) i (mod-below k e p)
+    ∙ cut-inside (a ∷ b ∷ c ∷ d ∷ e ∷ []) r at (k / e) (k % e) (omega arith) (row-in c e k h .1) (mod-lt k p)
     ∙ ap (λ x. getD r x (pos 0)) (let s = ap (λ y. k / e * y) q in omega (arith, div-add-mod' k e))
-  where
-    mod-below : (k e : ℕ) → 0 < e → k % e < e
-    mod-below k e p = mod-lt k p
-
-zeros : (n : ℕ) (g : ℕ → ℤ) → ((i : ℕ) → i < n → g i ≡ pos 0) → replicate n (pos 0) ≡ tab n g
-zeros n g h = tab-is (replicate n (pos 0)) (pos 0) n g (length-replicate n (pos 0)) (λ i l. h i l ∙ sym (getD-replicate n i (pos 0) (pos 0) l))
 
 -- How `out`, of m elements, is filled: the zeros first, then the window, as one run or part by part.
 module _ (t : List ℕ) (r : List ℤ) (at m : ℕ) (f : Fits t at (length r) m) where
@@ -139,7 +127,7 @@ module _ (t : List ℕ) (r : List ℤ) (at m : ℕ) (f : Fits t at (length r) m)
 
   pub cut-room : (i : ℕ) → i < len t → Turn t at (length r) m i
   cut-room i h = (
-    omega (arith, f .room, mul-le-mul-right {m = i + 1} {n = len t} (block t) (omega arith)),
+    omega (arith, f .room, row-fits i (len t) (block t) (omega arith)),
     omega (arith, f .inner, mul-le-mul-right {m = i} {n = len t} (step t) (omega arith)),
   )
 
@@ -161,14 +149,14 @@ module _ (t : List ℕ) (r : List ℤ) (at m : ℕ) (f : Fits t at (length r) m)
     zeros-first : out₀ ≡ filled (cutAt t r at) start out₀
     zeros-first =
         sym (take-append-drop start out₀)
-        ∙ ap (λ x. x ++ drop start out₀) (z .before ∙ zeros start (cutAt t r at) (λ i l. cut-before t r at i (f .five) (f .some) l))
+        ∙ ap (λ x. x ++ drop start out₀) (z .before ∙ tab-same start (pos 0) (cutAt t r at) (λ i l. cut-before t r at i (f .five) (f .some) l))
 
     zeros-last : filled (cutAt t r at) stop out₀ ≡ tab m (cutAt t r at)
     zeros-last =
         let room : stop ≤ m = omega (arith, f .room) in
         let all : stop + (m - stop) ≡ m = omega arith in
         ap (λ x. tab stop (cutAt t r at) ++ x)
-        (z .after ∙ zeros (m - stop) (λ i. cutAt t r at (stop + i)) (λ i l. cut-after t r at (stop + i) (f .five) (f .some) (omega arith)))
+        (z .after ∙ tab-same (m - stop) (pos 0) (λ i. cutAt t r at (stop + i)) (λ i l. cut-after t r at (stop + i) (f .five) (f .some) (omega arith)))
         ∙ sym (tab-add stop (m - stop) (cutAt t r at))
         ∙ ap (λ k. tab k (cutAt t r at)) all
 
@@ -202,7 +190,7 @@ module _ (t : List ℕ) (r : List ℤ) (at m : ℕ) (f : Fits t at (length r) m)
     cut-step l i a b to t′ out last h o ea eb et e q =
         let g : ℕ → ℤ = cutAt t r at in
         let o′ : out ≡ filled g a out₀ = o ∙ ap (λ x. filled g x out₀) (sym ea) in
-        let room : b ≤ length out₀ = omega (arith, f .room, z .long, mul-le-mul-right {m = i + 1} {n = len t} (block t) (omega arith)) in
+        let room : b ≤ length out₀ = omega (arith, f .room, z .long, row-fits i (len t) (block t) (omega arith)) in
         let part : length (take (b - a) (drop a out)) ≡ block t = part-length out (tab a g) out₀ a b o′ (length-tab a g) (omega arith) room ∙ omega arith in
         let inner : last ≡ tab (block t) (cutAt (drop 5 t) r (at + from t * step t + i * step t)) =
         q ∙ ap₂ (λ x y. tab x (cutAt t′ r y)) part e ∙ ap (λ x. tab (block t) (cutAt x r (at + from t * step t + i * step t))) et in

@@ -5,12 +5,12 @@ use native.Mathlib.Omega.{arith}
 use mathlib.Core.Path.{_≡_, refl, sym, ap, ap₂, _∙_}
 use mathlib.Core.List.{List, []}
 use mathlib.Core.Bool.{Bool}
-use lib.ListN.{length, getD, take, drop, replicate, length-replicate, getD-replicate, drop-of-length-le}
+use lib.ListN.{length, getD, take, drop, replicate, drop-of-length-le}
 use lib.Seq.{take-take, length-take-le}
 use lib.IntN.{ℤ, pos}
 use Rattle.shape.specs.Shape.{maxRank, count}
 use Rattle.meaning.specs.Array.{tab}
-use Rattle.meaning.proofs.Tab.{tab-ext}
+use Rattle.meaning.proofs.Tab.{tab-ext, tab-same}
 use Rattle.copying.specs.Runs.{copied}
 use Rattle.copying.proofs.Runs.{tab-is, copied-whole}
 use Rattle.cuts.specs.Windows.{sizesOf, tableOf, cutAt, Fitting, Cut, Parts}
@@ -23,8 +23,7 @@ fill-none out g e = tab-is out (pos 0) (length out) g refl (λ i l. absurd (omeg
 pub fill-zeros : (t : List ℕ) (r out last : List ℤ) → length r ≡ 0 → last ≡ replicate (length out) (pos 0) → last ≡ tab (length out) (cutAt t r 0)
 fill-zeros t r out last e q =
     let none : [] ≡ r = sym (drop-of-length-le r {i = 0} (omega arith)) in
-    tab-is last (pos 0) (length out) (cutAt t r 0) (ap length q ∙ length-replicate (length out) (pos 0))
-    (λ i l. sym (ap (λ x. cutAt t x 0 i) none) ∙ cut-empty t 0 i ∙ sym (ap (λ x. getD x i (pos 0)) q ∙ getD-replicate (length out) i (pos 0) (pos 0) l))
+    q ∙ tab-same (length out) (pos 0) (cutAt t r 0) (λ i l. sym (ap (λ x. cutAt t x 0 i) none) ∙ cut-empty t 0 i)
 
 module _ (d : Bool) (rank : ℕ) (lens sizes : List ℕ) (l r out : List ℤ) (p : Parts d rank lens sizes l (length r) (length out)) (long : length lens ≡ maxRank) where
   abbrev zs : List ℤ

@@ -3,17 +3,18 @@ use Prim.Native.Nat.{ℕ, _+_, _*_, _-_, _≤_, _<_}
 use native.Mathlib.Nat.{mul-le-mul-right}
 use native.Mathlib.Omega.{arith}
 use mathlib.Core.Path.{_≡_, refl, sym, ap, ap₂, _∙_}
-use mathlib.Core.List.{List, [], _++_, append-assoc}
+use mathlib.Core.List.{List, _++_, append-assoc}
 use mathlib.Core.Bool.{Bool, true, false}
 use lib.ListN.{length, getD, take, drop, replicate, length-drop, length-replicate, getD-replicate, take-append-drop}
 use lib.Seq.{getD-take, getD-drop, length-take-le, drop-drop}
 use lib.IntN.{ℤ, pos}
 use borrow.Rule.Slice.PartMut.{putMid}
+use Rattle.shape.proofs.Places.{row-fits}
 use Rattle.meaning.specs.Array.{tab}
 use Rattle.meaning.proofs.Tab.{tab-add}
 use Rattle.copying.specs.Runs.{copied}
 use Rattle.copying.proofs.Runs.{filled, filled-none, filled-whole, length-filled, tab-is, put-copied}
-use Rattle.cuts.specs.Windows.{cutAt, Fitting, Cleared, Blank}
+use Rattle.cuts.specs.Windows.{cutAt, Cleared, Blank}
 use Rattle.cuts.proofs.Cutting.{Fits, fits, lead, from, len, step, block, cut-before, cut-after, cut-inside, cut-run}
 
 -- Zeros around, and zeros everywhere.
@@ -104,7 +105,7 @@ module _ (t : List ℕ) (r : List ℤ) (at m : ℕ) (f : Fits t at (length r) m)
   row-reads i h = omega (arith, inner i h .inner, from-wide, run-reads)
 
   pub row-writes : (i : ℕ) → i < len t → lead t * block t + i * block t + block t ≤ m
-  row-writes i h = omega (arith, f .room, mul-le-mul-right {m = i + 1} {n = len t} (block t) (omega arith))
+  row-writes i h = omega (arith, f .room, row-fits i (len t) (block t) h)
 
   -- What it holds.
   row-run : (i k : ℕ) → i < len t → k < width → cutAt t r at (front + i * block t + k) ≡ getD r (first + i * step t + k) (pos 0)

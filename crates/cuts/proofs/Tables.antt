@@ -1,6 +1,6 @@
 -- The table of windows, with its flag open.
 use Prim.Native.Nat.{ℕ, zero, suc, _+_, _*_, _-_, _/_, _%_, _≤_, _<_, min}
-use native.Mathlib.Nat.{mod-lt, div-add-mod', mul-le-mul-right, mul-zero, zero-mul}
+use native.Mathlib.Nat.{mod-lt, div-add-mod', mul-le-mul-right}
 use native.Mathlib.Omega.{arith}
 use mathlib.Core.Path.{_≡_, refl, sym, ap, _∙_}
 use mathlib.Core.List.{List, [], _∷_}
@@ -10,8 +10,9 @@ use lib.Dec.{leb, ltb}
 use lib.ListN.{length, getD, take, drop, length-take}
 use lib.IntN.{ℤ, pos}
 use Rattle.shape.specs.Shape.{count}
+use Rattle.shape.proofs.Places.{row-in, row-fits}
+use Rattle.shape.proofs.Counts.{factor}
 use Rattle.cuts.specs.Windows.{sizeOf, endOf, sizesOf, tableOf, cutAt, Fitting}
-use Rattle.cuts.proofs.Cutting.{div-below}
 
 -- A window of n positions and m: it lies in both.
 pub window-room : (e : Bool) (m n : ℕ) → (cond e (m - n) 0 + min m n ≤ m) × (cond e (n - m) 0 + min m n ≤ n)
@@ -22,14 +23,6 @@ window-room false m n = (omega arith, omega arith)
 window-whole : (e : Bool) (m n : ℕ) → m ≡ n → (cond e (m - n) 0 ≡ 0) × ((cond e (n - m) 0 ≡ 0) × (min m n ≡ n))
 window-whole true m n h = (omega arith, (omega arith, omega arith))
 window-whole false m n h = (refl, (refl, omega arith))
-
-pub factor-pos : (m c : ℕ) → 0 < m * c → 0 < c
-factor-pos m zero h = absurd (omega (arith, mul-zero m))
-factor-pos m (suc c) h = omega arith
-
-factor-pos-first : (m c : ℕ) → 0 < m * c → 0 < m
-factor-pos-first zero c h = absurd (omega (arith, zero-mul c))
-factor-pos-first (suc m) c h = omega arith
 
 -- Five numbers more.
 five-more : (u : ℕ) → suc u * 5 ≡ suc (suc (suc (suc (suc (u * 5)))))
@@ -69,12 +62,11 @@ module _ (d : Bool) where
       let head : m ≡ n = cc in
       let tail : ns ≡ sizesOf d zs ns = cc in
       let w = window-whole (endOf d z) m n head in
-      let c : 0 < count ns = factor-pos n (count ns) (omega arith) in
-      let i : j / count ns < n = div-below j n (count ns) c h in
+      let r = row-in n (count ns) j h in
       let off : 0 + (j / count ns - 0) ≡ j / count ns = omega arith in
       let to : at + j / count ns * count ns + j % count ns ≡ at + j = omega (arith, div-add-mod' j (count ns)) in
-      rw (w .0, w .1 .0, w .1 .1, ← tail, le-leb 0 (j / count ns) (omega arith), lt-ltb (j / count ns) (0 + n) (omega arith), off)
-      (cut-whole zs ns xs (at + j / count ns * count ns) (j % count ns) (omega arith) tail (mod-lt j c) ∙ ap (λ x. getD xs x (pos 0)) to)
+      rw (w .0, w .1 .0, w .1 .1, ← tail, le-leb 0 (j / count ns) (omega arith), lt-ltb (j / count ns) (0 + n) (omega (arith, r .1)), off)
+      (cut-whole zs ns xs (at + j / count ns * count ns) (j % count ns) (omega arith) tail (mod-lt j (r .0)) ∙ ap (λ x. getD xs x (pos 0)) to)
 
   -- So the windows up to the last axis that is not taken whole are enough.
   pub cut-front : (u : ℕ) (zs : List ℤ) (ns : List ℕ) (xs : List ℤ) (at j : ℕ) → length zs ≡ length ns → drop u ns ≡ drop u (sizesOf d zs ns)
@@ -89,10 +81,9 @@ module _ (d : Bool) where
       let ms : List ℕ = sizesOf d zs ns in
       let lead : ℕ = cond (endOf d z) (m - n) 0 in
       let i : ℕ = j / count ms in
-      let c : 0 < count ms = factor-pos m (count ms) (omega arith) in
       rw (five-more u)
       (ap (λ x. cond (leb lead i && ltb i (lead + min m n)) x (pos 0))
-      (cut-front u zs ns xs (at + (cond (endOf d z) (n - m) 0 + (i - lead)) * count ns) (j % count ms) (omega arith) e (mod-lt j c)))
+      (cut-front u zs ns xs (at + (cond (endOf d z) (n - m) 0 + (i - lead)) * count ns) (j % count ms) (omega arith) e (mod-lt j (row-in m (count ms) j h .0))))
 
   pub table-fits : (u : ℕ) (zs : List ℤ) (ns : List ℕ) (at N : ℕ) → length zs ≡ length ns → suc u ≤ length ns → 0 < count (sizesOf d zs ns)
       → 0 < count ns → at + count ns ≤ N → drop (suc u) ns ≡ drop (suc u) (sizesOf d zs ns)
@@ -104,8 +95,9 @@ module _ (d : Bool) where
   table-fits zero (z ∷ zs) (n ∷ ns) at N l k p o h e =
       let m : ℕ = sizeOf d z n in
       let w = window-room (endOf d z) m n in
-      let taken-some : 0 < min m n = omega (arith, factor-pos-first m (count (sizesOf d zs ns)) p, factor-pos-first n (count ns) o) in (
-        factor-pos m (count (sizesOf d zs ns)) p,
+      let f = factor m (count (sizesOf d zs ns)) _ refl p in
+      let taken-some : 0 < min m n = omega (arith, f .0, factor n (count ns) _ refl o .0) in (
+        f .1,
         (
           mul-le-mul-right (count (sizesOf d zs ns)) (w .0),
           (omega (arith, mul-le-mul-right (count ns) (w .1)), ((λ q. ap count e), ((λ q. absurd (omega (arith, q))), taken-some))),
@@ -115,10 +107,11 @@ module _ (d : Bool) where
       let m : ℕ = sizeOf d z n in
       let w = window-room (endOf d z) m n in
       let from : ℕ = cond (endOf d z) (n - m) 0 in
-      let taken-some : 0 < min m n = omega (arith, factor-pos-first m (count (sizesOf d zs ns)) p, factor-pos-first n (count ns) o) in
-      let some : 0 < count (sizesOf d zs ns) = factor-pos m (count (sizesOf d zs ns)) p in
+      let f = factor m (count (sizesOf d zs ns)) _ refl p in
+      let g = factor n (count ns) _ refl o in
+      let taken-some : 0 < min m n = omega (arith, f .0, g .0) in
       rw (five-more (suc u)) (
-        some,
+        f .1,
         (
           mul-le-mul-right (count (sizesOf d zs ns)) (w .0),
           (
@@ -127,8 +120,8 @@ module _ (d : Bool) where
               (λ q. absurd (none zs ns (omega arith) (omega arith) q)),
               (
                 (λ q i s.
-                    table-fits u zs ns (at + (from + i) * count ns) N (omega arith) (omega arith) some (factor-pos n (count ns) o)
-                    (omega (arith, mul-le-mul-right {m = from + i + 1} {n = n} (count ns) (omega (arith, w .1))))
+                    table-fits u zs ns (at + (from + i) * count ns) N (omega arith) (omega arith) (f .1) (g .1)
+                    (omega (arith, row-fits (from + i) n (count ns) (omega (arith, w .1))))
                     e),
                 taken-some,
               ),

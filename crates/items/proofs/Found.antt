@@ -51,11 +51,11 @@ module _ (s : Shape) (b : List ℤ) (G i : ℤ) (long : length (s .lens) ≡ max
     module _ (at : ℕ) (e : at ≡ positionOf (i -ℤ G) (getD (s .lens) 0 0)) where
       pub tested-inside : at < getD (s .lens) 0 0 → 0 ≡ itemRefusal (lent s b) G i
       tested-inside l =
-          sym (item-none (lent s b) G i (f .forms) (f .origin) axes (rw first (position-lt (i -ℤ G) (getD (s .lens) 0 0) (rw e at l) .0)))
+          sym (item-none (lent s b) G i (f .forms) (f .origin) axes (position-lt (i -ℤ G) _ (getD (s .lens) 0 0) at first e l .0))
 
       pub tested-outside : getD (s .lens) 0 0 ≤ at → 8 ≡ itemRefusal (lent s b) G i
       tested-outside l =
-          sym (item-index (lent s b) G i (f .forms) (f .origin) axes (rw first (position-none (i -ℤ G) (getD (s .lens) 0 0) (rw e at l))))
+          sym (item-index (lent s b) G i (f .forms) (f .origin) axes (position-none (i -ℤ G) _ (getD (s .lens) 0 0) at first e l))
 
 -- The item's elements, by the position and the size that the program has.
 pub record Part (s : Shape) (b : List ℤ) (G i : ℤ) (at size : ℕ) : Type 0 where

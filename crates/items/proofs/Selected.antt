@@ -2,16 +2,14 @@
 use mathlib.Core.Path.{_≡_, refl, sym, ap, _∙_}
 use mathlib.Core.List.{[], _∷_}
 use mathlib.Core.Bool.{Bool, true, false}
-use Prim.Native.Nat.{ℕ, _+_, _*_, _≤_, _<_}
+use Prim.Native.Nat.{ℕ, _+_, _*_, _<_}
 use native.Mathlib.Omega.{arith}
-use borrow.Author.Tests.{leb-true, lt-ltb, eqb-false}
-use lib.Dec.{leb}
-use lib.ListN.{length, getD, take, drop}
+use borrow.Author.Tests.{lt-ltb, eqb-false}
+use lib.ListN.{getD, take, drop}
 use lib.Seq.{getD-take}
 use lib.IntN.{ℤ, pos, natAbs, _-ℤ_, +ℤ-invr}
-use Rattle.shape.specs.Shape.{counted, count, goodShape, shapeOf, without}
+use Rattle.shape.specs.Shape.{counted, count, shapeOf, without}
 use Rattle.shape.specs.Place.{place}
-use Rattle.shape.proofs.Bools.{both}
 use Rattle.meaning.specs.Array.{Operand, Array, arrayOf, goodForm, at, build}
 use Rattle.meaning.specs.Refusal.{number, precedence, meets, winner}
 use Rattle.meaning.specs.Terms.{rank, axis, isScalar, within, every, putIn}
@@ -20,6 +18,7 @@ use Rattle.meaning.specs.Reply.{isOrigin}
 use Rattle.meaning.specs.Item.{Item, itemRefusal, itemLengths, leadingItem}
 use Rattle.meaning.proofs.Tab.{tab-ext, tab-part}
 use Rattle.answer.specs.Answer.{own}
+use Rattle.meaning.proofs.Arrays.{form-room}
 use Rattle.items.proofs.Refusals.{Accepted, accepted, item-rank, item-index, item-none, item-given}
 use Rattle.items.proofs.First.{index-first}
 use Rattle.items.proofs.Found.{item-axes, item-room}
@@ -41,10 +40,6 @@ module _ (R : Operand) (G i : ℤ) where
       ≡ build (itemLengths R) (λ p. at (arrayOf R) (putIn 0 (natAbs (i -ℤ G)) p))
   unfolding select
   selected = ap (λ z. build (without (natAbs z) (arrayOf R .lengths)) (λ p. at (arrayOf R) (putIn (natAbs z) (natAbs (i -ℤ G)) p))) (+ℤ-invr G)
-
-  form-room : goodForm R ≡ true → count (counted (R .shape)) ≤ length (R .buffer)
-  unfolding goodForm
-  form-room h = leb-true (count (counted (R .shape))) (length (R .buffer)) (both (goodShape (R .shape)) (leb (count (counted (R .shape))) (length (R .buffer))) h .1)
 
   -- 31 refuses the same numbers, where FORM and ORIGIN are not met.
   refused-rank : isScalar (arrayOf R) ≡ true → own 31 (selecting R G i .refusals) ≡ 4
@@ -92,7 +87,7 @@ module _ (R : Operand) (G i : ℤ) where
         ≡ build (itemLengths R) (λ p. at (arrayOf R) (putIn 0 (natAbs (i -ℤ G)) p)) .elements
     unfolding build
     built =
-        tab-part (R .buffer) _ _ (pos 0) (omega (arith, item-room R G i a, form-room (a .forms)))
+        tab-part (R .buffer) _ _ (pos 0) (omega (arith, item-room R G i a, form-room R (a .forms)))
         ∙ tab-ext (count (itemLengths R)) _ _ element
 
     pub item-part : leadingItem R G i .part ≡ build (selecting R G i .lengths) (selecting R G i .element) .elements

@@ -1,8 +1,8 @@
 -- Lengths that agree but for an axis, compared part by part.
 use mathlib.Core.Path.{_≡_, refl, sym, ap, ap₂, _∙_}
 use mathlib.Core.List.{List, [], _∷_, _++_}
-use mathlib.Core.Bool.{Bool, true, false, _&&_}
-use Prim.Native.Nat.{ℕ, suc, _+_, _-_, _≤_, _<_}
+use mathlib.Core.Bool.{Bool, true, false, _&&_, and-assoc}
+use Prim.Native.Nat.{ℕ, suc, _+_, _≤_, _<_}
 use native.Mathlib.Nat.{zero-add}
 use native.Mathlib.Numerals.{add-one}
 use native.Mathlib.Omega.{arith}
@@ -20,13 +20,6 @@ use Rattle.meaning.proofs.Without.{without-parts}
 use Rattle.meaning.proofs.Sides.{same-lengths, side-scalar, side-lower, side-whole, Beside}
 use Rattle.meaning.proofs.Sides.Beside.{scalar, less, equal}
 use Rattle.answer.specs.Answer.{lent}
-
--- Two tests, the first of which is known.
-pub first-true : (p q : Bool) → p ≡ true → (p && q) ≡ q
-first-true p q h = rw h
-
-pub first-false : (p q : Bool) → p ≡ false → (p && q) ≡ false
-first-false p q h = rw h
 
 -- From the front.
 module _ (a b : List ℕ) (i j n t : ℕ) (ha : i + n ≤ length a) (hb : j + n ≤ length b) where
@@ -52,10 +45,6 @@ same-both [] bs [] ds e = refl
 same-both [] bs (c ∷ cs) ds e = absurd (omega arith)
 same-both (a ∷ ws) bs [] ds e = absurd (omega arith)
 same-both (a ∷ ws) bs (c ∷ cs) ds e = ap (λ t. eqb a c && t) (same-both ws bs cs ds (omega arith)) ∙ sym (and-assoc (eqb a c) (sameLengths ws cs) (sameLengths bs ds))
-  where
-    and-assoc : (x y z : Bool) → ((x && y) && z) ≡ (x && (y && z))
-    and-assoc true y z = refl
-    and-assoc false y z = refl
 
 -- The lengths before axis k, and those after it: the operand's start at `from`, the higher ones at k + 1.
 module _ (a b : List ℕ) (r n k from after : ℕ) (ha : r ≤ length a) (hb : n ≤ length b) (l : k < n) (ef : from + n ≡ k + 1 + r) (ea : after + (k + 1) ≡ n) where

@@ -1,24 +1,23 @@
 -- Blocks of the result, each a run of L and then a run of R.
 use mathlib.Core.Path.{_≡_, refl, sym, ap, ap₂, _∙_}
-use mathlib.Core.List.{List, [], _++_, append-nil}
+use mathlib.Core.List.{List}
 use mathlib.Core.Bool.{Bool, true, false}
 use Prim.Native.Nat.{ℕ, _+_, _-_, _*_, _≤_, _<_}
 use native.Mathlib.Nat.{add-assoc, mul-assoc, mul-le-mul-right}
 use native.Mathlib.Omega.{arith}
 use borrow.Author.Tests.{lt-ltb, le-ltb}
 use lib.Arith.{digits-div, digits-mod}
-use lib.ListN.{length, getD, set, take, drop, replicate, getD-replicate, length-replicate}
-use lib.Seq.{drop-length}
+use lib.ListN.{length, getD, set, take, drop, replicate}
 use lib.IntN.{ℤ, pos}
 use borrow.Rule.Slice.PartMut.{putMid}
 use Rattle.shape.specs.declared.Shape.{Shape}
 use Rattle.shape.specs.Shape.{counted, count, aroundOf}
 use Rattle.shape.proofs.Surround.{Parts, count-set}
 use Rattle.meaning.specs.Array.{tab}
-use Rattle.meaning.proofs.Tab.{tab-part}
+use Rattle.meaning.proofs.Tab.{tab-part, tab-same}
 use Rattle.meaning.proofs.Sides.{sideAt}
 use Rattle.copying.specs.Runs.{copied}
-use Rattle.copying.proofs.Runs.{filled, filled-none, tab-is, copied-whole}
+use Rattle.copying.proofs.Runs.{filled, filled-whole, copied-whole}
 use Rattle.copying.proofs.Parts.{part-filled, part-long}
 use Rattle.joins.specs.Joined.{joinedAt, sized}
 
@@ -69,21 +68,14 @@ pub sized-le : (b : Bool) (m n : ℕ) → m ≤ n → sized b m ≤ sized b n
 sized-le true m n h = omega arith
 sized-le false m n h = h
 
-pub filled-zero : (g : ℕ → ℤ) (n : ℕ) (out : List ℤ) → n ≡ 0 → out ≡ filled g n out
-filled-zero g n out z = filled-none g out ∙ ap (λ m. filled g m out) (sym z)
-
 -- A run of a side.
 module _ (src out last : List ℤ) (width from : ℕ) (long : length out ≡ width) where
-  nothing : drop width out ≡ []
-  nothing = ap (λ n. drop n out) (sym long) ∙ drop-length out
-
   all : (f : ℕ → ℤ) → last ≡ tab width f → last ≡ filled f width out
-  all f e = e ∙ sym (ap (λ x. tab width f ++ x) nothing ∙ append-nil (tab width f))
+  all f e = e ∙ sym (filled-whole f width out (omega arith))
 
   pub one-run : last ≡ replicate (length out) (getD src 0 (pos 0)) → last ≡ filled (λ i. sideAt true src (from + i)) width out
   one-run e =
-      let run : last ≡ replicate width (getD src 0 (pos 0)) = e ∙ ap (λ n. replicate n (getD src 0 (pos 0))) long in
-      all (λ i. sideAt true src (from + i)) (tab-is last (pos 0) width _ (ap length run ∙ length-replicate width _) (λ i h. sym (ap (λ ys. getD ys i (pos 0)) run ∙ getD-replicate width i _ (pos 0) h)))
+      all (λ i. sideAt true src (from + i)) (e ∙ ap (λ n. replicate n (getD src 0 (pos 0))) long ∙ tab-same width _ _ (λ i h. refl))
 
   pub many-run : from + width ≤ length src → last ≡ copied (take (from + width - from) (drop from src)) out → last ≡ filled (λ i. sideAt false src (from + i)) width out
   many-run h e =

@@ -7,13 +7,14 @@ use native.Mathlib.Decide.{ℕ-discrete}
 use native.Mathlib.Omega.{arith}
 use borrow.Author.Tests.{eq-eqb, ne-eqb}
 use lib.Dec.{eqb}
-use lib.ListN.{length, set, take, drop}
+use lib.ListN.{length, set, drop}
 use lib.IntN.{ℤ, natAbs, _-ℤ_}
 use Rattle.shape.specs.declared.Shape.{Shape}
 use Rattle.shape.specs.Shape.{maxCount, counted, count}
 use Rattle.meaning.specs.Array.{Array, arrayOf, tab, build}
 use Rattle.meaning.specs.Terms.{rank}
 use Rattle.meaning.specs.Primitives.{side, higher, catenate}
+use Rattle.meaning.proofs.Positions.{within-below}
 use Rattle.meaning.proofs.Scalars.{scalar-count}
 use Rattle.meaning.proofs.Sides.{Beside, ranks-beside, same-is, side-count, sideAt}
 use Rattle.copying.proofs.Runs.{filled}
@@ -55,7 +56,7 @@ module _ (G K : ℤ) (ls rs : Shape) (l r : List ℤ) (gl : Lent ls l) (gr : Len
   below = axis-below G K L R j
 
   pub axis-in : i < hs .rank
-  axis-in = omega (arith, below, height .rank-is)
+  axis-in = within-below (K -ℤ G) (length ns) (hs .rank) i (height .rank-is) ek (j .on-axis)
 
   fitting : Beside (rank L) (length ns) × Beside (rank R) (length ns)
   fitting = ranks-beside L R (j .fit)

@@ -12,7 +12,7 @@ use lib.Seq.{getD-take}
 use lib.IntN.{ℤ}
 use Rattle.shape.specs.declared.Shape.{Shape}
 use Rattle.shape.specs.Shape.{maxRank, maxCount, counted, goodShape, shapeOf}
-use Rattle.shape.proofs.Rule.{small-at, rule-small}
+use Rattle.shape.proofs.Rule.{rule-length}
 use Rattle.meaning.specs.Array.{Array, arrayOf}
 use Rattle.meaning.specs.Terms.{rank, axis}
 use Rattle.meaning.specs.Primitives.{side, higher, ranksFit}
@@ -89,5 +89,5 @@ module _ (s : Shape) (x : List ℤ) (ns : List ℕ) (n k : ℕ) (e : rank (array
   extent-small g = by (ℕ-discrete (s .rank) n)
     where
       by : Dec (s .rank ≡ n) → extentOf (s .rank) (s .lens) n k ≤ maxCount
-      by (yes q) = rw (eq-eqb (s .rank) n q) (rw (getD-take (s .rank) (s .lens) k 0 (omega arith)) at (small-at (counted s) k (rule-small (s .rank) (counted s) g) (omega arith)))
+      by (yes q) = rw (eq-eqb (s .rank) n q) (rule-length (s .rank) (s .lens) k g e (omega arith))
       by (no q) = rw (ne-eqb (s .rank) n q) (omega arith)

@@ -14,10 +14,9 @@ use lib.Seq.{set-set, set-getD, getD-set-same, drop-set-lt}
 use lib.IntN.{ℤ, pos, natAbs, _-ℤ_}
 use Rattle.shape.specs.Shape.{count, without}
 use Rattle.shape.specs.Place.{index, place}
-use Rattle.shape.proofs.Bools.{both}
-use Rattle.shape.proofs.Places.{In, place-in}
-use Rattle.shape.proofs.Axis.{in-at, in-set, axis-position, axis-index}
-use Rattle.shape.proofs.Surround.{factor, count-set}
+use Rattle.shape.proofs.Places.{In, place-in, row-in}
+use Rattle.shape.proofs.Axis.{in-set, axis-position, axis-position-lt, axis-index}
+use Rattle.shape.proofs.Surround.{count-set}
 use Rattle.meaning.specs.Array.{Operand, Array, arrayOf, tab, build}
 use Rattle.meaning.specs.Refusal.{number, precedence, meets, winner}
 use Rattle.meaning.specs.Terms.{axis, isScalar, eqZ, within, sameLengths}
@@ -123,12 +122,10 @@ module _ (ns : List ℕ) (k v w : ℕ) (l : k < length ns) (f g : ℕ → ℤ) (
     position = axis-position ns k m j l h
 
     below : getD p k 0 < m
-    below = rw (getD-set-same ns k m 0 l) at (in-at (set ns k m) p k inside (rw length-set l))
+    below = axis-position-lt ns k m j l h
 
     some : 0 < c
-    some =
-        let e : count (set ns k m) ≡ count (take k ns) * m * c = count-set ns k m l in
-        factor (count (take k ns) * m) c (count (set ns k m)) e (omega arith) .1
+    some = row-in (count (take k ns) * m) c j (rw (count-set ns k m l) at h) .0
 
     -- j in blocks.
     block : (j / (v * c + w * c) ≡ j / c / m) × (j % (v * c + w * c) ≡ getD p k 0 * c + j % c)

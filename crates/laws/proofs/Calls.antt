@@ -1,43 +1,27 @@
 -- Calls that succeed, and calls that follow them, with the primitive open.
 use mathlib.Core.Path.{_≡_, sym, ap, ap₂, subst₂, _∙_}
 use mathlib.Core.List.{List, _++_}
-use mathlib.Core.Bool.{true, _||_}
-use Prim.Native.Nat.{ℕ, _+_, _-_, _≤_}
+use mathlib.Core.Bool.{true}
+use Prim.Native.Nat.{ℕ, _-_}
 use native.Mathlib.Omega.{arith}
-use borrow.Author.Tests.{le-leb, leb-true}
+use borrow.Author.Tests.{le-leb}
 use lib.ListN.{length, take, drop, replicate, length-append, length-replicate}
 use lib.Seq.{take-at, length-take-le}
-use lib.Dec.{leb}
 use lib.IntN.{ℤ}
-use Rattle.shape.specs.Shape.{maxRank, counted, count, shapeRule, goodShape, shapeOf}
-use Rattle.shape.proofs.Bools.{both}
+use Rattle.shape.specs.Shape.{maxRank, count, shapeRule, shapeOf}
 use Rattle.shape.proofs.Rule.{rule-rank}
 use Rattle.shape.proofs.Made.{made-counted}
 use Rattle.meaning.specs.Array.{Operand, Array, arrayOf, goodForm, build}
 use Rattle.meaning.specs.Terms.{rank}
 use Rattle.meaning.specs.Primitives.{Meaning}
-use Rattle.meaning.specs.Reply.{Reply, Primitive, primitives, named, isOrigin, meaningOf, settle, reply}
-use Rattle.meaning.proofs.Arrays.{Whole, build-whole}
-use Rattle.meaning.proofs.Replies.{NoneMet, Fits, success}
+use Rattle.meaning.specs.Reply.{Reply, primitives, named, meaningOf, settle, reply}
+use Rattle.meaning.proofs.Arrays.{build-whole, form-shape}
+use Rattle.meaning.proofs.Replies.{Passes, success}
 use Rattle.laws.specs.Words.{IsArray, IsLong, given, Succeeds, Same, Lists, occurs, AsOften}
 
 -- The result of a meaning.
 abbrev pub result : Meaning → Array
 result m = build (m .lengths) (m .element)
-
--- The lengths of a shape that is made for a result.
--- What is known of an operand of good form.
-pub form-shape : (r : Operand) → goodForm r ≡ true → goodShape (r .shape) ≡ true
-unfolding goodForm
-form-shape r h = both (goodShape (r .shape)) (leb (count (counted (r .shape))) (length (r .buffer))) h .0
-
-pub form-room : (r : Operand) → goodForm r ≡ true → count (counted (r .shape)) ≤ length (r .buffer)
-unfolding goodForm
-form-room r h =
-    leb-true (count (counted (r .shape))) (length (r .buffer)) (both (goodShape (r .shape)) (leb (count (counted (r .shape))) (length (r .buffer))) h .1)
-
-pub form-whole : (r : Operand) → goodForm r ≡ true → Whole (arrayOf r)
-form-whole r h = length-take-le _ (r .buffer) (form-room r h)
 
 -- An array has as many lengths as its rank says.
 pub array-rank : (r : Operand) → IsArray r → rank (arrayOf r) ≡ r .shape .rank
@@ -78,20 +62,12 @@ module _ (y : Reply) (ns : List ℕ) (xs out : List ℤ) (e : y ≡ record { num
   settled = record { number = ap (λ a. a .number) e; rank = ap (λ a. a .shape .rank) e; array = given-array; good = given-good }
 
 -- A call gives the primitive's result where nothing is met.
-gives-own : (n G K : ℤ) (L R : Operand) (out : List ℤ) → Fits (named n primitives) G L R (meaningOf n G K L R) (length out)
+gives-own : (n G K : ℤ) (L R : Operand) (out : List ℤ) → IsLong n G K L R out → Passes (named n primitives) G L R (meaningOf n G K L R)
     → Gives (reply n G K L R out) (result (meaningOf n G K L R))
 unfolding settle build
-gives-own n G K L R out f =
+gives-own n G K L R out room f =
     let m : Meaning = meaningOf n G K L R in
-    settled (reply n G K L R out) (m .lengths) (result m .elements) out (success n G K L R out f) (build-whole (m .lengths) (m .element)) (f .limit)
-
--- What a call asks beside room in its output buffer.
-pub record Passes (p : Primitive) (G : ℤ) (L R : Operand) (m : Meaning) : Type 0 where
-  pub left : (leb (p .operands) 1 || goodForm L) ≡ true
-  pub right : goodForm R ≡ true
-  pub origin : isOrigin G ≡ true
-  pub limit : shapeRule (length (m .lengths)) (m .lengths) ≡ true
-  pub own : NoneMet (m .refusals)
+    settled (reply n G K L R out) (m .lengths) (result m .elements) out (success n G K L R out f room) (build-whole (m .lengths) (m .element)) (f .limit)
 
 -- A call whose operands hold the arrays A and B gives the primitive's result for them.
 pub gives : (n G K : ℤ) (L R : Operand) (A B : Array) (out : List ℤ) → arrayOf L ≡ A → arrayOf R ≡ B → IsLong n G K L R out
@@ -104,9 +80,7 @@ gives n G K L R A B out a b room =
     → Gives (reply n G K L R out) (result (named n primitives .meaning G K X Y)))
     a
     b
-    (λ f.
-    gives-own n G K L R out
-    (record { left = f .left; right = f .right; origin = f .origin; limit = f .limit; space = le-leb _ _ room; own = f .own }))
+    (gives-own n G K L R out room)
 
 -- Two replies that give one array are the same.
 pub same-arrays : {y z : Reply} {a b : Array} → Gives y a → Gives z b → a ≡ b → Same (given y) (given z)

@@ -1,7 +1,6 @@
 -- The first n along an axis and what dropping n leaves, at any rank and axis.
 use mathlib.Core.Path.{_≡_, refl, ap, ap₂, _∙_}
 use mathlib.Core.List.{List, [], _∷_, map}
-use mathlib.Core.Bool.{not}
 use Prim.Native.Nat.{ℕ, zero, suc, _+_, _-_, _≤_, _<_}
 use native.Mathlib.Nat.{add-zero, sub-zero}
 use native.Mathlib.Omega.{arith}

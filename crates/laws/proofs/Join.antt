@@ -18,7 +18,7 @@ use Rattle.meaning.specs.Array.{Array, arrayOf, at, build}
 use Rattle.meaning.specs.Terms.{rank, axis, eqZ, within, sameLengths}
 use Rattle.meaning.specs.Primitives.{Side, side, higher, ranksFit, catenate, takes, droppedLengths, drops}
 use Rattle.meaning.specs.Reply.{primitives, named, reply}
-use Rattle.meaning.proofs.Arrays.{Whole, build-lengths, at-build, build-ext, build-at}
+use Rattle.meaning.proofs.Arrays.{Whole, build-lengths, at-build, build-ext, build-at, form-whole}
 use Rattle.meaning.proofs.Positions.{within-lt}
 use Rattle.meaning.proofs.Scalars.{array-as}
 use Rattle.meaning.proofs.Without.{without-set}
@@ -26,7 +26,7 @@ use Rattle.meaning.proofs.Sides.{same-lengths, whole, side-whole, higher-left}
 use Rattle.meaning.proofs.Replies.{NoneMet}
 use Rattle.laws.specs.Words.{given}
 use Rattle.laws.specs.Laws.{FirstAndRest}
-use Rattle.laws.proofs.Calls.{result, array-rule, form-whole, Gives, gives, same-array, listed, lists-array}
+use Rattle.laws.proofs.Calls.{result, array-rule, Gives, gives, same-array, listed, lists-array}
 use Rattle.laws.proofs.Cut.{firsts, lesser, length-firsts, length-lesser, sizes-firsts, lengths-lesser, front, front-lengths, takes-front, back, back-lengths, drops-back}
 
 -- Two arrays of equal rank joined along axis k.

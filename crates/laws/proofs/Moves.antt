@@ -10,7 +10,7 @@ use Rattle.shape.proofs.Places.{In}
 use Rattle.shape.proofs.Axis.{in-length, in-at, in-set}
 use Rattle.meaning.specs.Array.{Array, at, build}
 use Rattle.meaning.specs.Terms.{rank, axis, along}
-use Rattle.meaning.proofs.Arrays.{Whole, build-lengths, build-whole, at-build, build-ext, build-at}
+use Rattle.meaning.proofs.Arrays.{Whole, build-lengths, at-build, build-ext, build-at}
 
 -- Position i on axis k takes f i.
 unfoldable pub moved : Array → ℕ → (ℕ → ℕ) → Array
@@ -19,10 +19,6 @@ moved a k f = build (a .lengths) (along a k f)
 pub moved-lengths : (a : Array) (k : ℕ) (f : ℕ → ℕ) → moved a k f .lengths ≡ a .lengths
 unfolding moved
 moved-lengths a k f = build-lengths (a .lengths) (along a k f)
-
-pub moved-whole : (a : Array) (k : ℕ) (f : ℕ → ℕ) → Whole (moved a k f)
-unfolding moved
-moved-whole a k f = build-whole (a .lengths) (along a k f)
 
 -- A place that stays in its shape when its position on axis k becomes x.
 pub stays : (a : Array) (k x : ℕ) (p : List ℕ) → x < axis a k → In (a .lengths) p → In (a .lengths) (set p k x)

@@ -15,10 +15,10 @@ use Rattle.meaning.specs.Terms.{eqZ, negative, every}
 use Rattle.meaning.specs.Primitives.{ravel, reshape}
 use Rattle.meaning.specs.Reply.{primitives, named, reply}
 use Rattle.meaning.proofs.Tab.{tab-ext, tab-getD}
-use Rattle.meaning.proofs.Arrays.{Whole, build-ext, build-at}
+use Rattle.meaning.proofs.Arrays.{Whole, build-ext, build-at, form-whole}
 use Rattle.laws.specs.Words.{given}
 use Rattle.laws.specs.Laws.{RavelledReshaped}
-use Rattle.laws.proofs.Calls.{result, array-rule, form-whole, Gives, gives, same-array, listed, lists-array}
+use Rattle.laws.proofs.Calls.{result, array-rule, Gives, gives, same-array, listed, lists-array}
 
 -- Sizes of numbers that are not negative.
 pub sizes-pos : (p : List ℕ) → map natAbs (map pos p) ≡ p

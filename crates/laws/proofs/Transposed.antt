@@ -14,7 +14,7 @@ use lib.IntN.{ℤ}
 use Rattle.shape.proofs.Axis.{in-length, in-at, in-from}
 use Rattle.meaning.specs.Array.{Array, at, tab, build}
 use Rattle.meaning.specs.Primitives.{sentTo, smallest, axesTo, sentLengths, broughtBack, backwards}
-use Rattle.meaning.proofs.Sent.{length-back, getD-back, sent-has, sent-from, axes-lt, axes-le, length-shape, getD-shape, broughtBack-in}
+use Rattle.meaning.proofs.Sent.{length-backwards, getD-backwards, length-back, getD-back, sent-has, sent-from, axes-lt, axes-le, length-shape, getD-shape, broughtBack-in}
 use Rattle.meaning.proofs.Tab.{length-tab, getD-tab}
 use Rattle.meaning.proofs.Arrays.{Whole, build-lengths, at-build, build-ext}
 use Rattle.laws.specs.Words.{Permutes, occurs}
@@ -199,15 +199,10 @@ transposed-transposed ts us a P Q e f =
     (broughtBack-in us (sentLengths ts s) q (shape-length ts us P Q e s f) (rw (shapes ts us P Q e s f) i))
     ∙ ap (at a) (back-back ts us q (λ k h. rw e (P .below k h))))
 
-pub permutes-backwards : (r : ℕ) → Permutes (length (backwards r)) (backwards r)
-unfolding backwards
+pub permutes-backwards : (r : ℕ) → Permutes r (backwards r)
 permutes-backwards r = record {
-  size = refl;
-  below = λ i h. let h′ : i < r = rw length-tab at h in rw (getD-tab r (λ i. r - 1 - i) i 0 h′, length-tab) (omega arith);
-  each = λ j h. let h′ : j < r = rw length-tab at h in
-      (r - 1 - j, rw length-tab (omega arith), getD-tab r (λ i. r - 1 - i) (r - 1 - j) 0 (omega arith) ∙ omega arith);
-  once = λ i l h k q.
-      let h′ : i < r = rw length-tab at h in
-      let k′ : l < r = rw length-tab at k in
-      omega (arith, getD-tab r (λ i. r - 1 - i) i 0 h′, getD-tab r (λ i. r - 1 - i) l 0 k′);
+  size = length-backwards r;
+  below = λ i h. rw (getD-backwards r i h) (omega arith);
+  each = λ j h. (r - 1 - j, omega arith, getD-backwards r (r - 1 - j) (omega arith) ∙ omega arith);
+  once = λ i l h k q. omega (arith, getD-backwards r i h, getD-backwards r l k);
 }

@@ -2,7 +2,7 @@
 use mathlib.Core.Path.{_≡_, refl, sym, ap, ap₂, subst, subst₂, _∙_}
 use mathlib.Core.List.{List, [], _∷_, map}
 use mathlib.Core.Bool.{true, not, _&&_}
-use Prim.Native.Nat.{ℕ, suc, _-_, _≤_, _<_}
+use Prim.Native.Nat.{ℕ, suc, _≤_, _<_}
 use native.Mathlib.Omega.{arith}
 use borrow.Author.Tests.{lt-ltb, eq-eqb}
 use lib.ListN.{length, getD, length-map}
@@ -13,12 +13,11 @@ use Rattle.meaning.specs.Array.{Operand, Array, arrayOf}
 use Rattle.meaning.specs.Terms.{rank, eqZ, within, every}
 use Rattle.meaning.specs.Primitives.{sentTo, sentLengths, broughtBack, backwards, transpose, allOccur, transposeBy}
 use Rattle.meaning.specs.Reply.{primitives, named, reply}
-use Rattle.meaning.proofs.Tab.{length-tab}
-use Rattle.meaning.proofs.Arrays.{build-lengths}
+use Rattle.meaning.proofs.Arrays.{build-lengths, form-whole}
 use Rattle.meaning.proofs.Sent.{length-back, length-shape, sent-has, all-occur}
 use Rattle.laws.specs.Words.{IsArray, IsOrigin, IsLong, given, Permutes, Sends, Transposition, by15, by26, callOf, leftOf, axesOf, sentOn}
 use Rattle.laws.specs.Laws.{TwoTranspositions, TranspositionKeeps}
-use Rattle.laws.proofs.Calls.{array-rule, form-whole, Gives, gives, same-arrays, as-often, listed, lists-array}
+use Rattle.laws.proofs.Calls.{array-rule, Gives, gives, same-arrays, as-often, listed, lists-array}
 use Rattle.laws.proofs.Permuted.{permuted-count}
 use Rattle.laws.proofs.Transposed.{transposed, axes-is, shape-at, broughtBack-one, transpose-occurs, permutes-broughtBack, transposed-transposed, permutes-backwards}
 
@@ -68,13 +67,9 @@ module _ (ts : List ℕ) (P : Permutes (length ts) ts) where
 own : {r : ℕ} {ts : List ℕ} → Permutes r ts → Permutes (length ts) ts
 own {r} {ts} p = subst (λ n. Permutes n ts) (sym (p .size)) p
 
-backwards-permute : (r : ℕ) → Permutes r (backwards r)
-unfolding backwards
-backwards-permute r = subst (λ n. Permutes n (backwards r)) (length-tab r (λ i. r - 1 - i)) (permutes-backwards r)
-
 -- The axes of a transposition permute.
 axes-permute : {G : ℤ} {r : ℕ} (t : Transposition G r) → Permutes r (axesOf t)
-axes-permute {G} {r} (by15 l) = backwards-permute r
+axes-permute {G} {r} (by15 l) = permutes-backwards r
 axes-permute (by26 l ts s p) = p
 
 -- What 15 and 26 give.
@@ -82,7 +77,7 @@ module _ (G K : ℤ) (l r : Operand) (out : List ℤ) (o : IsOrigin G) (h : IsAr
   reversed-axes : IsLong (pos 15) G K l r out → Gives (reply (pos 15) G K l r out) (transposed (backwards (rank (arrayOf r))) (arrayOf r))
   unfolding named primitives eqZ transpose transposed
   reversed-axes room =
-      let p = backwards-permute (rank (arrayOf r)) in
+      let p = permutes-backwards (rank (arrayOf r)) in
       gives (pos 15) G K l r (arrayOf l) (arrayOf r) out refl refl room
       (record {
         left = refl;

@@ -10,11 +10,11 @@ use Rattle.meaning.specs.Array.{Operand, Array, arrayOf}
 use Rattle.meaning.specs.Terms.{axis, eqZ, within, modulo}
 use Rattle.meaning.specs.Primitives.{reverse, rotate}
 use Rattle.meaning.specs.Reply.{primitives, named, reply}
-use Rattle.meaning.proofs.Arrays.{Whole}
+use Rattle.meaning.proofs.Arrays.{Whole, form-whole}
 use Rattle.meaning.proofs.Scalars.{vector-rank}
 use Rattle.laws.specs.Words.{IsArray, IsOrigin, IsTurnAxis, IsLong, given, IsSingle}
 use Rattle.laws.specs.Laws.{TwoRotations, TwoReversals, RotationKeeps, ReversalKeeps}
-use Rattle.laws.proofs.Calls.{array-rule, form-whole, Gives, gives, same-arrays, same-array, as-often, listed, lists-array}
+use Rattle.laws.proofs.Calls.{array-rule, Gives, gives, same-arrays, same-array, as-often, listed, lists-array}
 use Rattle.laws.proofs.Moves.{moved, moved-lengths, moved-ext, moved-id, moved-moved}
 use Rattle.meaning.proofs.Modulo.{modulo-lt, modulo-sum, modulo-back, modulo-forth}
 use Rattle.laws.proofs.Permuted.{moved-occurs}

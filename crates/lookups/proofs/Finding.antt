@@ -7,8 +7,9 @@ use native.Mathlib.Nat.{zero-add}
 use native.Mathlib.Numerals.{add-one}
 use native.Mathlib.Omega.{arith}
 use lib.ListN.{length, getD, take, drop, drop-of-length-le, length-drop, take-append-drop}
-use lib.Seq.{drop-cons, drop-drop, length-take-le, take-all}
+use lib.Seq.{drop-cons, drop-drop, take-all}
 use lib.IntN.{ℤ, pos}
+use borrow.Rule.Slice.PartMut.{mid-len}
 use Rattle.meaning.specs.Terms.{eqZ, firstAt}
 
 module _ (x : ℤ) (l : List ℤ) (i : ℕ) where
@@ -81,7 +82,7 @@ module _ (x : ℤ) (l : List ℤ) (i e : ℕ) (order : i ≤ e) (room : e ≤ le
   part = take (e - i) (drop i l)
 
   part-long : length part ≡ e - i
-  part-long = length-take-le (e - i) (drop i l) (rw length-drop (omega arith))
+  part-long = mid-len i e l room
 
   rest : drop (e - i) (drop i l) ≡ drop e l
   rest = let end : i + (e - i) ≡ e = omega arith in drop-drop (e - i) i l ∙ ap (λ m. drop m l) end

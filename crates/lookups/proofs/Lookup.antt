@@ -1,23 +1,21 @@
 -- What 29 and 30 give, as their code finds it.
 use mathlib.Core.Path.{_≡_, refl, sym, ap, _∙_}
 use mathlib.Core.List.{List, _++_}
-use mathlib.Core.Bool.{Bool, true, cond}
+use mathlib.Core.Bool.{Bool, true}
 use Prim.Native.Nat.{ℕ, _+_, _-_, _≤_}
 use native.Mathlib.Omega.{arith}
-use borrow.Author.Tests.{le-leb, eq-eqb, ne-eqb}
-use lib.ListN.{length, take, drop, getD, length-drop}
-use lib.Seq.{length-take-le, getD-take, getD-drop}
-use borrow.Rule.Slice.PartMut.{putMid}
+use borrow.Author.Tests.{eq-eqb, ne-eqb}
+use lib.ListN.{length, take, drop, getD}
+use borrow.Rule.Slice.PartMut.{putMid, mid-len}
 use lib.IntN.{ℤ, pos, natAbs, _+ℤ_}
-use Rattle.shape.specs.declared.Shape.{Shape}
-use Rattle.shape.specs.Shape.{maxRank, counted, count, shapeOf, shapeRule, madeOf, scalar}
+use Rattle.shape.specs.Shape.{count, shapeRule}
 use Rattle.shape.proofs.Places.{index-place}
 use Rattle.meaning.specs.Array.{Operand, Array, arrayOf, at, tab, build}
 use Rattle.meaning.specs.Refusal.{number, precedence, meets, winner}
 use Rattle.meaning.specs.Terms.{eqZ, rank, firstAt}
 use Rattle.meaning.specs.Primitives.{indexOf, member}
 use Rattle.meaning.specs.Reply.{Primitive, primitives, named, isOrigin}
-use Rattle.meaning.proofs.Tab.{tab-ext, length-tab, getD-tab}
+use Rattle.meaning.proofs.Tab.{tab-ext, length-tab, getD-tab, getD-part}
 use Rattle.meaning.proofs.Arrays.{Whole}
 use Rattle.signed.proofs.Equal.{origin-is}
 use Rattle.copying.proofs.Runs.{filled, filled-whole, part-length, put-list}
@@ -33,10 +31,6 @@ each-element a f = tab-ext (count (a .lengths)) _ _ (λ j h. ap (λ i. f (getD (
 pub each-filled : (a : Array) (f : ℤ → ℤ) (out : List ℤ) → Whole a
     → filled (λ j. f (getD (a .elements) j (pos 0))) (length (a .elements)) out ≡ build (a .lengths) (λ p. f (at a p)) .elements ++ drop (count (a .lengths)) out
 each-filled a f out w = ap (λ n. filled (λ j. f (getD (a .elements) j (pos 0))) n out) w ∙ ap (λ x. x ++ drop (count (a .lengths)) out) (sym (each-element a f))
-
--- The operand's own shape, its lengths past the rank made 0.
-pub same-shape : (s : Shape) → s .rank ≤ maxRank → madeOf (s .rank) (s .lens) ≡ shapeOf (counted s)
-same-shape s h = ap (λ b. cond b (shapeOf (counted s)) scalar) (le-leb (s .rank) maxRank h)
 
 abbrev pub indexing : Primitive
 indexing = record { number = 29; operands = 2; meaning = λ G K L R. indexOf G L R }
@@ -121,11 +115,11 @@ module _ (bits : Bool) (first : ℕ) (l r out₀ : List ℤ) where
       let g = entries bits first l r in
       let rest = entries bits first l (take (m - n) (drop n r)) in
       let end : n + (m - n) ≡ m = omega arith in
-      let long = length-take-le (m - n) (drop n r) (rw length-drop (omega arith)) in
+      let long = mid-len n m r (omega arith) in
       let part = part-length out (tab n g) out₀ n m o (length-tab n g) le (omega arith) in
       let whole : last ≡ tab (m - n) rest =
       q ∙ ap (λ k. filled rest k (take (m - n) (drop n out))) long ∙ filled-whole rest (m - n) (take (m - n) (drop n out)) (omega arith) in
       put-list g (pos 0) n (m - n) m out out₀ last o (sym end) (ap length whole ∙ length-tab (m - n) rest)
       (λ i b. sym (ap (λ ys. getD ys i (pos 0)) whole ∙ getD-tab (m - n) rest i (pos 0) b
-      ∙ ap (λ z. entry bits first (length l) (firstAt z l)) (getD-take (m - n) (drop n r) i (pos 0) b ∙ getD-drop n r i (pos 0))))
+      ∙ ap (λ z. entry bits first (length l) (firstAt z l)) (getD-part r n (m - n) i (pos 0) b)))
       ∙ ap (λ k. filled g k out₀) end

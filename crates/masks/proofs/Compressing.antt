@@ -16,7 +16,7 @@ use Rattle.shape.proofs.Axis.{in-at}
 use Rattle.shape.proofs.Surround.{count-set}
 use Rattle.meaning.specs.Array.{Array, arrayOf, at, build}
 use Rattle.meaning.specs.Terms.{along, eqZ, ones}
-use Rattle.meaning.proofs.Arrays.{build-ext, build-at}
+use Rattle.meaning.proofs.Arrays.{build-ext, build-at, build-none}
 use Rattle.copying.specs.Runs.{copied}
 use Rattle.copying.proofs.Runs.{copied-fits}
 use Rattle.answer.specs.Answer.{lent}
@@ -24,7 +24,6 @@ use Rattle.answer.proofs.Lent.{Lent, lent-good}
 use Rattle.masks.specs.Uses.{resultWidth, Compressed}
 use Rattle.masks.specs.Rows.{maskOf, keptAt}
 use Rattle.masks.proofs.Ones.{mask-single, ones-same, kept-all, kept-no}
-use Rattle.masks.proofs.Lined.{build-none}
 
 module _ (l : List ℤ) (s : Shape) (k m total : ℕ) (r : List ℤ) (room : ℕ) (a : Compressed l s k m total r room) (long : length (s .lens) ≡ maxRank)
     (h : length l ≡ 1) where

@@ -1,6 +1,6 @@
 -- The lines along an axis, from the whole operand.
-use mathlib.Core.Path.{_≡_, sym, ap, ap₂, _∙_}
-use mathlib.Core.List.{List, [], _++_}
+use mathlib.Core.Path.{_≡_, sym, ap, _∙_}
+use mathlib.Core.List.{List, _++_}
 use mathlib.Core.Bool.{Bool, true, cond}
 use Prim.Native.Nat.{ℕ, _*_, _<_}
 use native.Mathlib.Omega.{arith}
@@ -8,22 +8,17 @@ use lib.ListN.{length, getD, drop, set}
 use lib.IntN.{ℤ, pos}
 use Rattle.shape.specs.declared.Shape.{Shape}
 use Rattle.shape.specs.declared.Around.{Around}
-use Rattle.shape.specs.Shape.{maxRank, counted, count, aroundOf}
+use Rattle.shape.specs.Shape.{maxRank, counted, aroundOf}
 use Rattle.shape.proofs.Surround.{Parts, parts}
-use Rattle.shape.specs.Place.{place}
-use Rattle.meaning.specs.Array.{arrayOf, tab, build}
+use Rattle.meaning.specs.Array.{arrayOf, build}
 use Rattle.meaning.specs.Terms.{along}
-use Rattle.meaning.proofs.Tab.{tab-none}
+use Rattle.meaning.proofs.Arrays.{none-made}
 use Rattle.copying.proofs.Runs.{filled}
 use Rattle.answer.specs.Answer.{lent}
 use Rattle.answer.proofs.Lent.{Lent, lent-good}
+use Rattle.answer.proofs.Moved.{along-where}
 use Rattle.masks.specs.Rows.{fits, takes, taken, placed, Blocks, Along}
 use Rattle.masks.proofs.Uses.{taken-lt}
-use Rattle.masks.proofs.Placing.{held, along-placed}
-
-pub build-none : (ns : List ℕ) (f : List ℕ → ℤ) → count ns ≡ 0 → build ns f .elements ≡ []
-unfolding build
-build-none ns f z = ap (λ x. tab x (λ j. f (place ns j))) z ∙ tab-none _
 
 module _ (e : Bool) (l : List ℤ) (s : Shape) (k m total : ℕ) (r : List ℤ) (room : ℕ) (a : Along e l s k m total r room) where
   -- The elements that the result has.
@@ -32,7 +27,7 @@ module _ (e : Bool) (l : List ℤ) (s : Shape) (k m total : ℕ) (r : List ℤ) 
       build (set (counted s) k m) (λ p. cond (takes e l (getD p k 0)) (along (arrayOf (lent s r)) k (taken e l (getD (counted s) k 0)) p) (pos 0)) .elements
 
   pub lined-none : total ≡ 0 → (out : List ℤ) → out ≡ lined ++ drop total out
-  lined-none z out = sym (ap₂ (λ x y. x ++ drop y out) (build-none (set (counted s) k m) _ (a .operand .whole ∙ z)) z)
+  lined-none z out = none-made (set (counted s) k m) _ total out (a .operand .whole ∙ z) z
 
   module _ (long : length (s .lens) ≡ maxRank) (some : 0 < total) where
     good : Lent s r
@@ -51,7 +46,7 @@ module _ (e : Bool) (l : List ℤ) (s : Shape) (k m total : ℕ) (r : List ℤ) 
         wide = a .wide;
         some = around .outer-some;
         row = around .inner-some;
-        source = omega (arith, good .room, held s k m total (omega (arith, good .rank-is, a .operand .has)) around);
+        source = omega (arith, good .room, around .source);
         room = omega (arith, a .operand .space, around .whole);
       })
 
@@ -61,4 +56,4 @@ module _ (e : Bool) (l : List ℤ) (s : Shape) (k m total : ℕ) (r : List ℤ) 
           ap (λ (x : Around). filled (placed (takes e l) (taken e l (x .length)) (x .length) m (x .inner) r) (x .outer * (m * x .inner)) out) w
           ∙ ap (λ x. filled (placed (takes e l) (taken e l x) (aroundOf s k .length) m (aroundOf s k .inner) r) (aroundOf s k .outer * (m * aroundOf s k .inner)) out) (around .length-is)
           ∙ ap (λ x. filled (placed (takes e l) (taken e l (getD (counted s) k 0)) (aroundOf s k .length) m (aroundOf s k .inner) r) x out) size
-          ∙ ap (λ x. x ++ drop total out) (sym (along-placed s r k m total (takes e l) (taken e l (getD (counted s) k 0)) good (a .operand .has) around low))
+          ∙ ap (λ x. x ++ drop total out) (sym (along-where s r k m total (takes e l) (taken e l (getD (counted s) k 0)) good (a .operand .has) around low))

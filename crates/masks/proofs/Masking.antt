@@ -12,6 +12,7 @@ use lib.Dec.{eqb}
 use lib.IntN.{ℤ, pos, natAbs, _-ℤ_}
 use Rattle.shape.specs.declared.Shape.{Shape}
 use Rattle.shape.specs.Shape.{maxCount, counted, countOf, shapeOf}
+use Rattle.shape.proofs.Made.{made-count}
 use Rattle.meaning.specs.Array.{Operand, Array, arrayOf, build}
 use Rattle.meaning.specs.Refusal.{_unless_, number, precedence, meets, winner}
 use Rattle.meaning.specs.Refusal.Refusal.{RANK, AXIS, LENGTH, DOMAIN}
@@ -25,7 +26,7 @@ use Rattle.masks.specs.Rows.{maskOf, width, fits, takes, taken, keptAt, 
 use Rattle.masks.specs.Uses.{numbered, masking, maskFits, maskMeets, maskTest, resultWidth, maskElement, Masked, Compressed, Expanded}
 use Rattle.masks.specs.Vector.{vectorShape}
 use Rattle.masks.proofs.Ones.{mask-list}
-use Rattle.masks.proofs.Results.{scalar-counted, result-count, vector-array, Call, call-good, call-has, call-axis}
+use Rattle.masks.proofs.Results.{scalar-counted, vector-array, Call, call-good, call-has, call-axis}
 
 -- By whether R is a scalar, and W, which is R where R is read as a vector.
 abbrev pub maskingOf : Bool → ℤ → ℤ → Array → Bool → Array → Meaning
@@ -176,7 +177,7 @@ module _ {G K : ℤ} {ls rs : Shape} {l r : List ℤ} {s : Shape} {p : ℕ} (d :
         operand = record {
           form = call-good d .form;
           has = masking-has;
-          whole = result-count (set (counted s) p m) total t small;
+          whole = sym (made-count (set (counted s) p m) total t small);
           small = small;
           space = h;
         };

@@ -1,14 +1,19 @@
 -- Arrays that are built place by place.
-use mathlib.Core.Path.{_≡_, refl, sym, ap, _∙_}
-use mathlib.Core.List.{List}
-use Prim.Native.Nat.{ℕ}
-use lib.ListN.{length, getD}
+use mathlib.Core.Path.{_≡_, refl, ap, _∙_}
+use mathlib.Core.List.{List, [], _++_}
+use mathlib.Core.Bool.{true}
+use Prim.Native.Nat.{ℕ, _≤_}
+use borrow.Author.Tests.{leb-true}
+use lib.Dec.{leb}
+use lib.ListN.{length, getD, drop}
+use lib.Seq.{length-take-le}
 use lib.IntN.{ℤ, pos}
-use Rattle.shape.specs.Shape.{count}
+use Rattle.shape.specs.Shape.{counted, count, goodShape}
 use Rattle.shape.specs.Place.{index, place}
+use Rattle.shape.proofs.Bools.{both}
 use Rattle.shape.proofs.Places.{In, index-lt, place-in, index-place, place-index}
-use Rattle.meaning.specs.Array.{Array, at, build}
-use Rattle.meaning.proofs.Tab.{length-tab, getD-tab, tab-ext, tab-getD}
+use Rattle.meaning.specs.Array.{Operand, Array, arrayOf, goodForm, at, tab, build}
+use Rattle.meaning.proofs.Tab.{tab-none, length-tab, getD-tab, tab-ext, tab-getD}
 
 -- As many elements as the lengths say.
 abbrev pub Whole : Array → Type 0
@@ -41,6 +46,26 @@ build-at a w =
     (tab-ext (count (a .lengths)) _ (λ j. getD (a .elements) j (pos 0)) (λ j l. ap (λ i. getD (a .elements) i (pos 0)) (index-place (a .lengths) j l))
     ∙ (rw (← w) (tab-getD (a .elements) (pos 0))))
 
--- Two arrays are equal if their shapes are, and their elements at each place.
-pub array-ext : (a b : Array) → Whole a → Whole b → a .lengths ≡ b .lengths → ((p : List ℕ) → In (a .lengths) p → at a p ≡ at b p) → a ≡ b
-array-ext a b v w e h = sym (build-at a v) ∙ build-ext (a .lengths) (at a) (at b) h ∙ ap (λ t. build t (at b)) e ∙ build-at b w
+-- No place, no elements.
+pub build-none : (s : List ℕ) (f : List ℕ → ℤ) → count s ≡ 0 → build s f .elements ≡ []
+unfolding build
+build-none s f z = ap (λ n. tab n (λ j. f (place s j))) z ∙ tab-none _
+
+-- So a buffer that nothing is written to holds such a result.
+pub none-made : (s : List ℕ) (f : List ℕ → ℤ) (n : ℕ) (out : List ℤ) → count s ≡ 0 → n ≡ 0 → out ≡ build s f .elements ++ drop n out
+none-made s f n out z e = rw (build-none s f z, e)
+
+-- An operand of good form: its shape is good, and its buffer holds as many elements as it counts.
+module _ (r : Operand) (h : goodForm r ≡ true) where
+  form-both : (goodShape (r .shape) ≡ true) × (leb (count (counted (r .shape))) (length (r .buffer)) ≡ true)
+  unfolding goodForm
+  form-both = both _ _ h
+
+  pub form-shape : goodShape (r .shape) ≡ true
+  form-shape = form-both .0
+
+  pub form-room : count (counted (r .shape)) ≤ length (r .buffer)
+  form-room = leb-true _ _ (form-both .1)
+
+  pub form-whole : Whole (arrayOf r)
+  form-whole = length-take-le _ (r .buffer) form-room

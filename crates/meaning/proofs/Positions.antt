@@ -9,19 +9,10 @@ use borrow.Author.Tests.{ltb-true, lt-ltb, le-ltb}
 use Rattle.shape.proofs.Bools.{no-way}
 use Rattle.meaning.specs.Terms.{negative, within}
 
-pub within-pos : (i n : ℕ) → within (pos i) n ≡ ltb i n
-unfolding within
-within-pos i n = refl
-
 pub within-lt : (z : ℤ) (n : ℕ) → within z n ≡ true → natAbs z < n
 unfolding within
 within-lt (pos i) n h = ltb-true i n h
 within-lt (negsuc m) n h = no-way h
-
-pub within-is : (z : ℤ) (n : ℕ) → within z n ≡ true → z ≡ pos (natAbs z)
-unfolding within
-within-is (pos i) n h = refl
-within-is (negsuc m) n h = no-way h
 
 -- A number from 0 up is within n if its size is below n; one below 0 never is.
 pub within-size : (z : ℤ) (n : ℕ) → negative z ≡ false → within z n ≡ ltb (natAbs z) n
@@ -47,17 +38,26 @@ position-past z n h k = rw (within-size z n h, le-ltb (natAbs z) n k)
 pub position-below : (z : ℤ) (n : ℕ) → negative z ≡ true → positionOf z n ≡ n
 position-below z n h = rw (within-negative z n h)
 
--- What the answer tells: below n it is the number itself, else the number is not within n.
-pub position-lt : (z : ℤ) (n : ℕ) → positionOf z n < n → (within z n ≡ true) × (positionOf z n ≡ natAbs z)
-position-lt z n = by-test (within z n)
-  where
-    by-test : (t : Bool) → cond t (natAbs z) n < n → (t ≡ true) × (cond t (natAbs z) n ≡ natAbs z)
-    by-test true h = (refl, refl)
-    by-test false h = absurd (omega arith)
+-- What the answer p tells, where the definitions have m for the n of the code: below n it is the number itself, else the number is not within.
+module _ (z : ℤ) (m n p : ℕ) (r : m ≡ n) (e : p ≡ positionOf z n) where
+  pub position-lt : p < n → (within z m ≡ true) × (p ≡ natAbs z)
+  position-lt h = rw r (by-test (within z n) e)
+    where
+      by-test : (t : Bool) → p ≡ cond t (natAbs z) n → (t ≡ true) × (p ≡ natAbs z)
+      by-test true q = (refl, q)
+      by-test false q = absurd (omega arith)
 
-pub position-none : (z : ℤ) (n : ℕ) → n ≤ positionOf z n → within z n ≡ false
-position-none z n = by-test (within z n) refl
-  where
-    by-test : (t : Bool) → within z n ≡ t → n ≤ cond t (natAbs z) n → t ≡ false
-    by-test true e h = absurd (omega (arith, within-lt z n e))
-    by-test false e h = refl
+  pub position-none : n ≤ p → within z m ≡ false
+  position-none h = rw r (by-test (within z n) refl e)
+    where
+      by-test : (t : Bool) → within z n ≡ t → p ≡ cond t (natAbs z) n → t ≡ false
+      by-test true w q = absurd (omega (arith, within-lt z n w))
+      by-test false w q = refl
+
+  -- And back.
+  pub position-within : within z m ≡ true → p < n
+  position-within h = let w : within z n ≡ true = rw r at h in rw (e, w) (within-lt z n w)
+
+-- The same where the code has the number itself.
+pub within-below : (z : ℤ) (m n i : ℕ) → m ≡ n → i ≡ natAbs z → within z m ≡ true → i < n
+within-below z m n i r e h = omega (arith, within-lt z m h)

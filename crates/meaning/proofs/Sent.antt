@@ -2,7 +2,7 @@
 use mathlib.Core.Path.{_≡_, refl, ap, _∙_}
 use mathlib.Core.List.{List, [], _∷_}
 use mathlib.Core.Bool.{Bool, true, false, not, cond}
-use Prim.Native.Nat.{ℕ, zero, suc, _≤_, _<_}
+use Prim.Native.Nat.{ℕ, zero, suc, _-_, _≤_, _<_}
 use native.Mathlib.Nat.{not-suc-le-zero, le-of-suc-le-suc}
 use native.Mathlib.Omega.{arith}
 use borrow.Author.Tests.{eq-eqb, ne-eqb, eqb-true}
@@ -13,9 +13,18 @@ use Rattle.shape.proofs.Places.{In}
 use Rattle.shape.proofs.Axis.{in-at, in-from}
 use Rattle.meaning.specs.Array.{tab}
 use Rattle.meaning.specs.Terms.{every}
-use Rattle.meaning.specs.Primitives.{sentTo, smallest, axesTo, sentLengths, broughtBack, allOccur}
+use Rattle.meaning.specs.Primitives.{sentTo, smallest, axesTo, sentLengths, broughtBack, backwards, allOccur}
 use Rattle.meaning.proofs.Tab.{length-tab, getD-tab}
 use Rattle.meaning.proofs.Every.{every-at}
+
+-- The axes backwards.
+pub length-backwards : (r : ℕ) → length (backwards r) ≡ r
+unfolding backwards
+length-backwards r = length-tab r (λ i. r - 1 - i)
+
+pub getD-backwards : (r i : ℕ) → i < r → getD (backwards r) i 0 ≡ r - 1 - i
+unfolding backwards
+getD-backwards r i h = getD-tab r (λ i. r - 1 - i) i 0 h
 
 pub length-back : (ts q : List ℕ) → length (broughtBack ts q) ≡ length ts
 unfolding broughtBack

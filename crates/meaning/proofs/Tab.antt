@@ -4,7 +4,7 @@ use mathlib.Core.List.{List, [], _∷_, _++_}
 use Prim.Native.Nat.{ℕ, zero, suc, _+_, _≤_, _<_}
 use native.Mathlib.Nat.{zero-add, suc-add, le-of-suc-le-suc, not-suc-le-zero, zero-lt-suc}
 use native.Mathlib.Omega.{arith}
-use lib.ListN.{length, getD, take, drop, length-take, length-drop}
+use lib.ListN.{length, getD, take, drop, replicate, length-take, length-drop}
 use Rattle.meaning.specs.Array.{tabFrom, tab}
 use lib.Seq.{ext-getD, getD-take, getD-drop}
 
@@ -43,11 +43,20 @@ module _ {ℓ} {A : Type ℓ} where
   tab-getD [] d = tab-none _
   tab-getD (x ∷ xs) d = tab-suc (length xs) (λ i. getD (x ∷ xs) i d) ∙ ap {B = List A} (λ r. x ∷ r) (tab-getD xs d)
 
+  -- A table of one value.
+  pub tab-same : (n : ℕ) (x : A) (f : ℕ → A) → ((i : ℕ) → i < n → f i ≡ x) → replicate n x ≡ tab n f
+  tab-same zero x f h = sym (tab-none f)
+  tab-same (suc n) x f h = cc (tab-suc n f, h zero (zero-lt-suc n), tab-same n x (λ i. f (suc i)) (λ i l. h (suc i) (omega arith)))
+
   pub tab-add : (a b : ℕ) (f : ℕ → A) → tab (a + b) f ≡ tab a f ++ tab b (λ i. f (a + i))
   tab-add zero b f = rw (zero-add, tab-none f) (tab-ext b f (λ i. f (zero + i)) (λ i l. rw zero-add))
   tab-add (suc a) b f =
       rw (suc-add, tab-suc (a + b) f, tab-suc a f)
       (ap {B = List A} (λ r. f zero ∷ r) (tab-add a b (λ i. f (suc i)) ∙ ap (λ r. tab a (λ i. f (suc i)) ++ r) (tab-ext b _ _ (λ i l. rw suc-add))))
+
+  -- Element i of a part of a list.
+  pub getD-part : (xs : List A) (at n i : ℕ) (d : A) → i < n → getD (take n (drop at xs)) i d ≡ getD xs (at + i) d
+  getD-part xs at n i d h = getD-take n (drop at xs) i d h ∙ getD-drop at xs i d
 
   -- A part of a list, as a table.
   pub tab-part : (xs : List A) (at n : ℕ) (d : A) → at + n ≤ length xs → take n (drop at xs) ≡ tab n (λ i. getD xs (at + i) d)
@@ -59,4 +68,4 @@ module _ {ℓ} {A : Type ℓ} where
       (simp (length-take, length-drop, length-tab) (omega arith))
       (λ i l.
       let l′ : i < n = omega (arith, simp (length-take, length-drop) at l) in
-      getD-take n (drop at xs) i d l′ ∙ getD-drop at xs i d ∙ sym (getD-tab n (λ j. getD xs (at + j) d) i d l′))
+      getD-part xs at n i d l′ ∙ sym (getD-tab n (λ j. getD xs (at + j) d) i d l′))

@@ -2,12 +2,12 @@
 use mathlib.Core.Path.{_≡_, refl, sym, ap, ap₂, _∙_}
 use mathlib.Core.List.{List, [], _∷_, _++_}
 use Prim.Native.Nat.{ℕ, zero, suc, _+_, _*_, _/_, _%_, _<_}
-use native.Mathlib.Nat.{zero-mul, zero-add, one-mul, mod-lt, mod-eq-of-lt, div-eq-of-lt, not-suc-le-zero, le-of-suc-le-suc, mul-zero}
+use native.Mathlib.Nat.{zero-mul, zero-add, one-mul, mod-lt, mod-eq-of-lt, div-eq-of-lt, not-suc-le-zero, le-of-suc-le-suc}
 use native.Mathlib.Omega.{arith}
 use lib.ListN.{length, getD, set, take, drop}
 use Rattle.shape.specs.Shape.{count, without}
 use Rattle.shape.specs.Place.{place, index}
-use Rattle.shape.proofs.Places.{In}
+use Rattle.shape.proofs.Places.{In, row-in}
 use Rattle.meaning.specs.Array.{Array, at, tab, build}
 use Rattle.meaning.specs.Terms.{rank, putIn, along}
 use Rattle.meaning.proofs.Tab.{tab-ext}
@@ -33,10 +33,6 @@ count-without [] k l = absurd (not-suc-le-zero l)
 count-without (n ∷ ns) zero l = sym (one-mul (count ns))
 count-without (n ∷ ns) (suc k) l = ap (λ c. n * c) (count-without ns k (le-of-suc-le-suc l))
 
-rest-some : (n c j : ℕ) → j < n * c → 0 < c
-rest-some n zero j h = absurd (not-suc-le-zero (rw mul-zero at h))
-rest-some n (suc c) j h = omega arith
-
 -- And so are the places: position φ 0 put in as axis k, and along an axis of length 1 the position φ of the only one.
 pub put-place : (φ : ℕ → ℕ) (ns : List ℕ) (k j : ℕ) → k < length ns → j < count (without k ns)
     → putIn k (φ 0) (place (without k ns) j) ≡ set (place (set ns k 1) j) k (φ (getD (place (set ns k 1) j) k 0))
@@ -45,7 +41,7 @@ put-place φ [] k j l h = absurd (not-suc-le-zero l)
 put-place φ (n ∷ ns) zero j l h = rw (div-eq-of-lt h, mod-eq-of-lt h)
 put-place φ (n ∷ ns) (suc k) j l h =
     let e : count (without k ns) ≡ count (set ns k 1) = count-without ns k (le-of-suc-le-suc l) in
-    let some : 0 < count (without k ns) = rest-some n (count (without k ns)) j h in
+    let some : 0 < count (without k ns) = row-in n (count (without k ns)) j h .0 in
     rw (← e) (ap (λ q. j / count (without k ns) ∷ q) (put-place φ ns k (j % count (without k ns)) (le-of-suc-le-suc l) (mod-lt j some)))
 
 -- An axis that is removed at one position, on the flat list: the axis becomes one of length 1.

@@ -2,7 +2,7 @@
 use mathlib.Core.Path.{_≡_, refl, sym, ap, ap₂, _∙_}
 use mathlib.Core.List.{List, _++_}
 use mathlib.Core.Bool.{Bool, true, false, not, cond, _||_}
-use Prim.Native.Nat.{ℕ, _+_, _*_, _≤_, _<_}
+use Prim.Native.Nat.{ℕ, _*_, _≤_, _<_}
 use native.Mathlib.Nat.{mul-le-mul-right}
 use native.Mathlib.Omega.{arith}
 use borrow.Author.Tests.{eq-eqb, ne-eqb, le-leb, lt-leb, eqb-true, eqb-false, leb-true}
@@ -10,17 +10,14 @@ use lib.ListN.{length, getD, set, drop}
 use lib.IntN.{ℤ, pos, natAbs, _-ℤ_}
 use Rattle.shape.specs.declared.Shape.{Shape}
 use Rattle.shape.specs.Shape.{maxCount, counted, count, aroundOf, shapeOf, without}
-use Rattle.shape.specs.Place.{place}
-use Rattle.shape.proofs.Axis.{count-axis}
 use Rattle.shape.proofs.Surround.{Parts}
 use Rattle.meaning.specs.Array.{Operand, Array, arrayOf, at, tab, build}
 use Rattle.meaning.specs.Refusal.{number, precedence, meets, winner}
 use Rattle.meaning.specs.Terms.{rank, axis, isScalar, isList, eqZ, within, every, putIn, along}
 use Rattle.meaning.specs.Primitives.{select}
 use Rattle.meaning.specs.Reply.{Primitive, primitives, named}
-use Rattle.meaning.proofs.Tab.{tab-none}
 use Rattle.meaning.proofs.Scalars.{scalar-count}
-use Rattle.meaning.proofs.Positions.{within-lt}
+use Rattle.meaning.proofs.Positions.{within-lt, within-below}
 use Rattle.meaning.proofs.Every.{every-at}
 use Rattle.meaning.proofs.Without.{removed, count-without}
 use Rattle.answer.specs.Answer.{lent, own}
@@ -117,11 +114,6 @@ module _ (G K : ℤ) (L R : Array) where
         by true q = count-without (R .lengths) k l ∙ ap (λ n. count (set (R .lengths) k n)) (sym (one (eqb-true (rank L) 0 q)))
         by false q = refl
 
--- An empty result.
-pub none-made : (ns : List ℕ) (f : List ℕ → ℤ) (total : ℕ) (out : List ℤ) → total ≡ count ns → total ≡ 0 → out ≡ build ns f .elements ++ drop total out
-unfolding build
-none-made ns f total out e z = let f′ : ℕ → ℤ = λ j. f (place ns j) in ap₂ (λ x y. x ++ drop y out) (sym (tab-none f′) ∙ ap (λ n. tab n f′) (sym z ∙ e)) (sym z)
-
 -- What the blocks are, beside R's elements and beside the result's.
 pub record Blocks (s : Shape) (b : List ℤ) (k m total : ℕ) : Type 0 where
   pub taken-small : aroundOf s k .length * aroundOf s k .inner ≤ maxCount
@@ -134,13 +126,12 @@ blocks s b k m total g l small p =
     let o : ℕ = aroundOf s k .outer in
     let n : ℕ = aroundOf s k .length in
     let c : ℕ = aroundOf s k .inner in
-    let held : count (counted s) ≡ o * n * c = count-axis (counted s) k (omega (arith, g .rank-is)) ∙ ap₂ (λ x y. x * getD (counted s) k 0 * y) (sym (p .outer-is)) (sym (p .inner-is)) ∙ ap (λ x. o * x * c) (sym (p .length-is)) in
     let q = mul-le-mul-right {m = 1} {n = o} (n * c) (omega (arith, p .outer-some)) in
     let r = mul-le-mul-right {m = 1} {n = o} (m * c) (omega (arith, p .outer-some)) in
     record {
-      taken-small = omega (arith, g .count-small);
+      taken-small = omega (arith, g .count-small, p .source);
       made-small = omega (arith, p .whole);
-      taken = omega (arith, g .room);
+      taken = omega (arith, g .room, p .source);
       made = omega (arith, p .whole);
     }
 
@@ -157,7 +148,7 @@ module _ (G K : ℤ) (ls rs : Shape) (l r : List ℤ) (gl : Lent ls l) (gr : Len
   axis-below = within-lt (K -ℤ G) (rank R) (fits .on-axis)
 
   pub axis-in : a < rs .rank
-  axis-in = omega (arith, axis-below, gr .rank-is)
+  axis-in = within-below (K -ℤ G) (rank R) (rs .rank) a (gr .rank-is) ea (fits .on-axis)
 
   elements-is : length (L .elements) ≡ m
   elements-is = gl .whole ∙ sym em

@@ -58,13 +58,6 @@ index-axis (n ∷ s) (i ∷ p) (suc k) h l =
     let l′ : k < length s = le-of-suc-le-suc l in
     rw (index-axis s p k (h .1) l′, count-axis s k l′) (omega arith)
 
-in-take : (s p : List ℕ) (k : ℕ) → In s p → In (take k s) (take k p)
-in-take s p zero h = tt
-in-take [] [] (suc k) h = tt
-in-take [] (i ∷ p) (suc k) h = absurd h
-in-take (n ∷ s) [] (suc k) h = absurd h
-in-take (n ∷ s) (i ∷ p) (suc k) h = (h .0, in-take s p k (h .1))
-
 in-drop : (s p : List ℕ) (k : ℕ) → In s p → In (drop k s) (drop k p)
 in-drop s p zero h = h
 in-drop [] [] (suc k) h = tt
@@ -111,6 +104,9 @@ module _ (s p : List ℕ) (k m : ℕ) (l : k < length s) (h : In (set s k m) p) 
 module _ (s : List ℕ) (k m j : ℕ) (l : k < length s) (h : j < count (set s k m)) where
   pub axis-position : getD (place (set s k m) j) k 0 ≡ j / count (drop (suc k) s) % m
   axis-position = sym (digits s (place (set s k m) j) k m l (place-in (set s k m) j h) j (index-place (set s k m) j h) .1)
+
+  pub axis-position-lt : getD (place (set s k m) j) k 0 < m
+  axis-position-lt = below s (place (set s k m) j) k m l (place-in (set s k m) j h)
 
   -- The bridge: place j with position x on axis k, in the shape itself.
   pub axis-index : (x : ℕ) → x < getD s k 0

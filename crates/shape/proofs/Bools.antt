@@ -1,6 +1,6 @@
 -- Tests and the facts that they decide.
 use mathlib.Core.Path.{_≡_, refl}
-use mathlib.Core.Bool.{Bool, true, false, _&&_, _||_}
+use mathlib.Core.Bool.{Bool, true, false, cond, _&&_, _||_}
 use Prim.Native.Nat.{ℕ}
 use native.Mathlib.Omega.{arith}
 
@@ -19,9 +19,10 @@ and-true a b p q = rw (p, q)
 pub or-left : (a b : Bool) → a ≡ true → (a || b) ≡ true
 or-left a b p = rw p
 
-pub or-right : (a b : Bool) → b ≡ true → (a || b) ≡ true
-or-right true b q = refl
-or-right false b q = q
+-- What a test lets through need only be the same where it passes.
+pub cond-same : {A : Type 0} {x y : A} (z : A) (b : Bool) → (b ≡ true → x ≡ y) → cond b x z ≡ cond b y z
+cond-same z true e = e refl
+cond-same z false e = refl
 
 -- A test that cannot pass fails.
 pub refuted : (b : Bool) → (b ≡ true → ⊥) → b ≡ false

@@ -5,13 +5,14 @@ use mathlib.Core.Bool.{Bool, true, false, cond, and-false}
 use Prim.Native.Nat.{ℕ, zero, suc, _+_, _*_, _≤_, _<_, min}
 use native.Mathlib.Decide.{decLe}
 use native.Mathlib.Numerals.{add-one}
-use native.Mathlib.Nat.{mul-assoc, mul-comm, mul-zero, min-eq-left, min-eq-right, le-mul-of-pos-right}
+use native.Mathlib.Nat.{mul-assoc, mul-comm, zero-mul, mul-zero, min-eq-left, min-eq-right, le-mul-of-pos-right}
 use native.Mathlib.Omega.{arith}
-use borrow.Author.Tests.{le-leb, lt-leb, leb-true}
+use borrow.Author.Tests.{le-leb, lt-leb}
 use lib.Dec.{leb}
-use lib.ListN.{length, getD, take, drop}
+use lib.ListN.{length, getD, take, drop, replicate}
 use lib.Seq.{slice, take-suc, drop-append-le, length-take-le}
 use Rattle.shape.proofs.Bools.{both, and-true}
+use Rattle.shape.proofs.Rule.{rule-rank, rule-high, rule-count}
 use Rattle.shape.specs.declared.Shape.{Shape}
 use Rattle.shape.specs.Shape.{maxRank, maxCount, counted, count, small, shapeRule, goodShape, countOf, held}
 
@@ -26,6 +27,31 @@ small-snoc [] n e h = rw (le-leb n maxCount h)
 small-snoc (m ∷ ns) n e h =
     let t = both (leb m maxCount) (small ns) e in
     and-true _ _ (t .0) (small-snoc ns n (t .1) h)
+
+-- A factor of a product that is not 0 is not 0, and is at most the product.
+pub factor : (a b c : ℕ) → c ≡ a * b → 0 < c → (0 < a) × (0 < b) × (a ≤ c) × (b ≤ c)
+factor zero b c e h = absurd (omega (arith, zero-mul b))
+factor (suc a) zero c e h = absurd (omega (arith, mul-zero (suc a)))
+factor (suc a) (suc b) c e h =
+    let p : 0 < suc a = omega arith in
+    let q : 0 < suc b = omega arith in
+    (p, q, omega (arith, le-mul-of-pos-right (suc a) q), omega (arith, le-mul-of-pos-right (suc b) p, mul-comm (suc a) (suc b)))
+
+-- So is the count of the axes from one on.
+pub count-drop : (k : ℕ) (ns : List ℕ) → 0 < count ns → (0 < count (drop k ns)) × (count (drop k ns) ≤ count ns)
+unfolding count
+count-drop zero ns h = (h, omega arith)
+count-drop (suc k) [] h = (h, omega arith)
+count-drop (suc k) (n ∷ ns) h =
+    let f = factor n (count ns) (n * count ns) refl h in
+    let r = count-drop k ns (f .1) in
+    (r .0, omega (arith, f .3, r .1))
+
+-- Lengths of 1.
+pub count-ones : (n : ℕ) → count (replicate n 1) ≡ 1
+unfolding count
+count-ones zero = refl
+count-ones (suc n) = ap (λ x. 1 * x) (count-ones n)
 
 -- One length above the limit is enough.
 pub small-not : (ns : List ℕ) (k : ℕ) → k < length ns → maxCount < getD ns k 0 → small ns ≡ false
@@ -46,9 +72,12 @@ min-mul a (suc n) c = by (decLe a c)
         (omega (arith, le-mul-of-pos-right {m = suc n} a (omega arith), le-mul-of-pos-right {m = suc n} c (omega arith)))
 
 module _ (s : Shape) where
+  pub count-bad : goodShape s ≡ false → countOf s ≡ suc maxCount
+  unfolding countOf
+  count-bad e = rw e
+
   pub count-high-rank : maxRank < s .rank → countOf s ≡ suc maxCount
-  unfolding countOf shapeRule
-  count-high-rank h = rw (lt-leb (s .rank) maxRank h)
+  count-high-rank h = count-bad (rule-high (s .rank) (counted s) h)
 
   pub count-long-axis : small (counted s) ≡ false → countOf s ≡ suc maxCount
   unfolding countOf shapeRule
@@ -64,24 +93,16 @@ module _ (s : Shape) where
       by (no l) = rw (lt-leb (count (counted s)) maxCount (omega arith)) (omega arith)
 
   pub good-rank : goodShape s ≡ true → s .rank ≤ maxRank
-  unfolding shapeRule
-  good-rank e = leb-true _ _ (both (leb (s .rank) maxRank) _ e .0)
+  good-rank e = rule-rank (s .rank) (counted s) e
 
   -- A shape is good if its count is within the limit.
   pub count-good : goodShape s ≡ true → countOf s ≤ maxCount
-  unfolding countOf shapeRule
-  count-good e =
-      let t = both (leb (s .rank) maxRank) _ e in
-      let u = both (small (counted s)) _ (t .1) in
-      rw e (leb-true _ _ (u .1))
+  unfolding countOf
+  count-good e = rw e (rule-count (s .rank) (counted s) e)
 
   pub count-of : goodShape s ≡ true → countOf s ≡ count (counted s)
   unfolding countOf
   count-of e = rw e
-
-  pub count-bad : goodShape s ≡ false → countOf s ≡ suc maxCount
-  unfolding countOf
-  count-bad e = rw e
 
   pub good-count : countOf s ≤ maxCount → goodShape s ≡ true
   good-count h = by (goodShape s) refl

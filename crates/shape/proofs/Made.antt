@@ -3,6 +3,7 @@ use mathlib.Core.Path.{_≡_, refl, sym, ap, _∙_}
 use mathlib.Core.List.{List}
 use Prim.Native.Nat.{ℕ, _≤_, _<_}
 use mathlib.Core.Bool.{true, false}
+use native.Mathlib.Omega.{arith}
 use borrow.Author.Tests.{le-leb, lt-leb, lt-ltb, le-ltb}
 use lib.ListN.{length, take, set}
 use lib.Seq.{take-at}
@@ -21,14 +22,16 @@ module _ (ns : List ℕ) where
   made-good : goodShape (shapeOf ns) ≡ shapeRule (length ns) ns
   made-good = ap (shapeRule (length ns)) made-counted
 
-  pub made-rule : countOf (shapeOf ns) ≤ maxCount → shapeRule (length ns) ns ≡ true
-  made-rule h = sym made-good ∙ good-count (shapeOf ns) h
+  -- n is what `count` answers of the shape.
+  module _ (n : ℕ) (e : n ≡ countOf (shapeOf ns)) where
+    pub made-rule : n ≤ maxCount → shapeRule (length ns) ns ≡ true
+    made-rule h = sym made-good ∙ good-count (shapeOf ns) (omega arith)
 
-  pub made-no-rule : maxCount < countOf (shapeOf ns) → shapeRule (length ns) ns ≡ false
-  made-no-rule h = sym made-good ∙ bad-count (shapeOf ns) h
+    pub made-no-rule : maxCount < n → shapeRule (length ns) ns ≡ false
+    made-no-rule h = sym made-good ∙ bad-count (shapeOf ns) (omega arith)
 
-  pub made-count : countOf (shapeOf ns) ≤ maxCount → countOf (shapeOf ns) ≡ count ns
-  made-count h = count-of (shapeOf ns) (good-count (shapeOf ns) h) ∙ ap count made-counted
+    pub made-count : n ≤ maxCount → n ≡ count ns
+    made-count h = e ∙ count-of (shapeOf ns) (good-count (shapeOf ns) (omega arith)) ∙ ap count made-counted
 
 -- Another length of axis k, where there is such an axis and where there is none.
 module _ (s : Shape) (k n : ℕ) where

@@ -2,8 +2,8 @@
 use mathlib.Core.Path.{_≡_, refl, ap}
 use mathlib.Core.List.{List, [], _∷_}
 use mathlib.Core.Bool.{true}
-use Prim.Native.Nat.{ℕ, zero, suc, _*_, _%_, _<_}
-use native.Mathlib.Nat.{mod-lt, div-add-mod', div-lt-iff-lt-mul, mul-zero, not-suc-le-zero}
+use Prim.Native.Nat.{ℕ, zero, suc, _+_, _*_, _/_, _%_, _≤_, _<_}
+use native.Mathlib.Nat.{mod-lt, div-add-mod', div-lt-iff-lt-mul, mul-le-mul-right, mul-zero, not-suc-le-zero}
 use native.Mathlib.Omega.{arith}
 use borrow.Author.Tests.{lt-ltb, ltb-true}
 use lib.Arith.{digits-lt, digits-div, digits-mod}
@@ -43,17 +43,21 @@ index-lt [] (i ∷ p) h = absurd h
 index-lt (n ∷ s) [] h = absurd h
 index-lt (n ∷ s) (i ∷ p) h = digits-lt (h .0) (index-lt s p (h .1))
 
--- A shape with a place below it has no empty part.
-count-pos : (n : ℕ) (c j : ℕ) → j < n * c → zero < c
-count-pos n zero j h = absurd (not-suc-le-zero (rw mul-zero at h))
-count-pos n (suc c) j h = omega arith
+-- Element j of n rows of c elements: a row has elements, and j's is one of the n.
+pub row-in : (n c j : ℕ) → j < n * c → (0 < c) × (j / c < n)
+row-in n zero j h = absurd (not-suc-le-zero (rw mul-zero at h))
+row-in n (suc c) j h = let some : 0 < suc c = omega arith in (some, div-lt-iff-lt-mul some .1 h)
+
+-- Row i of the n ends where they do, or before.
+pub row-fits : (i n c : ℕ) → i < n → i * c + c ≤ n * c
+row-fits i n c h = omega (arith, mul-le-mul-right {m = i + 1} {n = n} c (omega arith))
 
 pub place-in : (s : List ℕ) (j : ℕ) → j < count s → In s (place s j)
 unfolding place count
 place-in [] j h = tt
 place-in (n ∷ s) j h =
-    let c : zero < count s = count-pos n (count s) j h in
-    (div-lt-iff-lt-mul c .1 h, place-in s (j % count s) (mod-lt j c))
+    let r = row-in n (count s) j h in
+    (r .1, place-in s (j % count s) (mod-lt j (r .0)))
 
 pub place-length : (s : List ℕ) (j : ℕ) → length (place s j) ≡ length s
 unfolding place
@@ -72,6 +76,4 @@ place-index (n ∷ s) (i ∷ p) h =
 pub index-place : (s : List ℕ) (j : ℕ) → j < count s → index s (place s j) ≡ j
 unfolding place index count
 index-place [] j h = omega arith
-index-place (n ∷ s) j h =
-    let c : zero < count s = count-pos n (count s) j h in
-    rw (index-place s (j % count s) (mod-lt j c)) (div-add-mod' j (count s))
+index-place (n ∷ s) j h = rw (index-place s (j % count s) (mod-lt j (row-in n (count s) j h .0))) (div-add-mod' j (count s))

@@ -1,13 +1,14 @@
 -- The shape rule, taken apart and put together.
 use mathlib.Core.Path.{_≡_, refl}
 use mathlib.Core.List.{List, [], _∷_}
-use mathlib.Core.Bool.{true, _&&_}
+use mathlib.Core.Bool.{true, false, _&&_}
 use Prim.Native.Nat.{ℕ, zero, suc, _≤_, _<_}
 use native.Mathlib.Omega.{arith}
 use native.Mathlib.Nat.{le-of-suc-le-suc, not-suc-le-zero, mul-le-mul-left, mul-le-mul-right}
-use borrow.Author.Tests.{le-leb, leb-true}
+use borrow.Author.Tests.{le-leb, lt-leb, leb-true}
 use lib.Dec.{leb}
-use lib.ListN.{length, getD, set}
+use lib.ListN.{length, getD, set, take}
+use lib.Seq.{getD-take}
 use Rattle.shape.specs.Shape.{maxRank, maxCount, count, small, shapeRule}
 use Rattle.shape.proofs.Bools.{both}
 
@@ -31,6 +32,11 @@ module _ (r : ℕ) (ns : List ℕ) where
   unfolding shapeRule
   rule-rank h = leb-true r maxRank (both (leb r maxRank) (small ns && leb (count ns) maxCount) h .0)
 
+  -- More lengths than a shape has.
+  pub rule-high : maxRank < r → shapeRule r ns ≡ false
+  unfolding shapeRule
+  rule-high h = rw (lt-leb r maxRank h)
+
   pub rule-small : shapeRule r ns ≡ true → small ns ≡ true
   unfolding shapeRule
   rule-small h = both (small ns) (leb (count ns) maxCount) (both (leb r maxRank) (small ns && leb (count ns) maxCount) h .1) .0
@@ -39,6 +45,10 @@ module _ (r : ℕ) (ns : List ℕ) where
   unfolding shapeRule
   rule-count h =
       leb-true (count ns) maxCount (both (small ns) (leb (count ns) maxCount) (both (leb r maxRank) (small ns && leb (count ns) maxCount) h .1) .1)
+
+-- A length that counts.
+pub rule-length : (r : ℕ) (lens : List ℕ) (k : ℕ) → shapeRule r (take r lens) ≡ true → length (take r lens) ≡ r → k < r → getD lens k 0 ≤ maxCount
+rule-length r lens k g e h = rw (getD-take r lens k 0 h) at (small-at (take r lens) k (rule-small r (take r lens) g) (omega arith))
 
 -- The rule of a vector.
 pub vector-rule : (n : ℕ) → n ≤ maxCount → shapeRule 1 (n ∷ []) ≡ true

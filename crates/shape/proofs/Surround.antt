@@ -1,8 +1,7 @@
 -- What stands around an axis, with rank and axis open.
 use mathlib.Core.Path.{_≡_, refl, sym, ap, ap₂, _∙_}
 use mathlib.Core.List.{List}
-use Prim.Native.Nat.{ℕ, zero, suc, _+_, _*_, _≤_, _<_}
-use native.Mathlib.Nat.{le-mul-of-pos-right, zero-mul, mul-zero, mul-comm}
+use Prim.Native.Nat.{ℕ, suc, _+_, _*_, _≤_, _<_}
 use native.Mathlib.Numerals.{add-one}
 use native.Mathlib.Omega.{arith}
 use borrow.Author.Tests.{le-leb, lt-leb, lt-ltb, le-ltb}
@@ -12,6 +11,7 @@ use Rattle.shape.specs.declared.Shape.{Shape}
 use Rattle.shape.specs.declared.Around.{Around}
 use Rattle.shape.specs.Shape.{maxRank, maxCount, counted, count, held, aroundOf}
 use Rattle.shape.proofs.Axis.{count-axis}
+use Rattle.shape.proofs.Counts.{factor}
 
 abbrev none : Around
 none = record { outer = 0; length = 0; inner = 0 }
@@ -38,15 +38,6 @@ module _ (s : Shape) (k : ℕ) where
         let after : i ≡ held (count (drop (suc k) (counted s))) = ei ∙ ap (λ x. held (count (drop x (counted s)))) (add-one k) in
         rw (before, at, after) (sym around-in)
 
--- A factor of a product that is not 0 is not 0, and is at most the product.
-pub factor : (a b c : ℕ) → c ≡ a * b → 0 < c → (0 < a) × (0 < b) × (a ≤ c) × (b ≤ c)
-factor zero b c e h = absurd (omega (arith, zero-mul b))
-factor (suc a) zero c e h = absurd (omega (arith, mul-zero (suc a)))
-factor (suc a) (suc b) c e h =
-    let p : 0 < suc a = omega arith in
-    let q : 0 < suc b = omega arith in
-    (p, q, omega (arith, le-mul-of-pos-right (suc a) q), omega (arith, le-mul-of-pos-right (suc b) p, mul-comm (suc a) (suc b)))
-
 -- The count of the lengths with m at axis k.
 pub count-set : (ns : List ℕ) (k m : ℕ) → k < length ns → count (set ns k m) ≡ count (take k ns) * m * count (drop (suc k) ns)
 count-set ns k m l =
@@ -58,7 +49,9 @@ pub record Parts (s : Shape) (k m total : ℕ) : Type 0 where
   pub outer-is : aroundOf s k .outer ≡ count (take k (counted s))
   pub length-is : aroundOf s k .length ≡ getD (counted s) k 0
   pub inner-is : aroundOf s k .inner ≡ count (drop (suc k) (counted s))
+  pub made : count (set (counted s) k m) ≡ total
   pub whole : aroundOf s k .outer * m * aroundOf s k .inner ≡ total
+  pub source : aroundOf s k .outer * aroundOf s k .length * aroundOf s k .inner ≡ count (counted s)
   pub outer-some : 0 < aroundOf s k .outer
   pub inner-some : 0 < aroundOf s k .inner
   pub some : 0 < m
@@ -79,11 +72,14 @@ parts s k m total h long l e p q =
     let g = factor o m (o * m) refl (f .0) in
     let eo : aroundOf s k .outer ≡ o = ap (λ (a : Around). a .outer) (around-in s k h l) ∙ omega (arith, f .2, g .2) in
     let ec : aroundOf s k .inner ≡ c = ap (λ (a : Around). a .inner) (around-in s k h l) ∙ omega (arith, f .3) in
+    let en : aroundOf s k .length ≡ getD ns k 0 = ap (λ (a : Around). a .length) (around-in s k h l) in
     record {
       outer-is = eo;
-      length-is = ap (λ (a : Around). a .length) (around-in s k h l);
+      length-is = en;
       inner-is = ec;
+      made = e;
       whole = ap₂ (λ x y. x * m * y) eo ec ∙ sym w;
+      source = rw (eo, en, ec) (sym (count-axis ns k kl));
       outer-some = rw eo (g .0);
       inner-some = rw ec (f .1);
       some = g .1;

@@ -8,7 +8,7 @@ use borrow.Author.Tests.{le-leb, lt-leb}
 use lib.IntN.{ℤ}
 use Rattle.shape.specs.declared.Shape.{Shape}
 use Rattle.shape.specs.Shape.{maxCount, count, counted, countOf}
-use Rattle.shape.proofs.Counts.{good-count, bad-count}
+use Rattle.shape.proofs.Counts.{good-count, bad-count, count-of}
 use Rattle.meaning.specs.Array.{Operand, goodForm}
 use Rattle.sheet_line.specs.Text.{newline, blank, digits, decimal, following, spaced}
 use Rattle.sheet_line.specs.Call.{front}
@@ -79,8 +79,7 @@ module _ (line : ℕ) (s : Shape) (out : List ℤ) where
   bad-shape h = rw (bad-count s h)
 
   count-is : countOf s ≤ maxCount → countOf s ≡ count (counted s)
-  unfolding countOf
-  count-is h = rw (good-count s h)
+  count-is h = count-of s (good-count s h)
 
   pub short-buffer : countOf s ≤ maxCount → length out < countOf s → replyLine line 0 (record { shape = s; buffer = out }) ≡ []
   unfolding replyLine goodForm

@@ -1,19 +1,20 @@
 -- An operand, by what was taken of it.
 use Prim.Native.Nat.{ℕ, zero, suc, _≤_, _<_, min}
 use native.Mathlib.Omega.{arith}
-use mathlib.Core.Path.{_≡_, refl, sym, _∙_}
+use mathlib.Core.Path.{_≡_, refl, sym, ap, _∙_}
 use mathlib.Core.List.{List, []}
 use mathlib.Core.Option.{Option, none}
 use mathlib.Core.Bool.{Bool, true, false, cond}
 use lib.Dec.{leb}
 use lib.ListN.{length, take, drop, replicate, take-append-drop}
-use lib.Seq.{length-take-le, take-append-seam}
+use lib.Seq.{length-take-le}
 use lib.IntN.{ℤ}
 use borrow.Author.Tests.{le-leb, lt-leb}
 use Rattle.shape.specs.declared.Shape.{Shape}
 use Rattle.shape.specs.Shape.{maxRank, maxCount, small, count, counted, countOf, shapeOf, scalar, madeOf}
 use Rattle.shape.proofs.Bools.{no-way}
 use Rattle.shape.proofs.Counts.{count-held}
+use Rattle.shape.proofs.Made.{made-is, made-counted}
 use Rattle.meaning.specs.Array.{Array}
 use Rattle.sheet_line.specs.declared.operand.Operand.{Operand}
 use Rattle.sheet_line.specs.Numbers.{andThen}
@@ -41,8 +42,8 @@ pub made : (rank : ℕ) (lens : List ℕ) (s : Shape) (n : ℕ) → rank ≤ max
     → s ≡ madeOf rank lens → n ≡ countOf s → Made (take rank lens) s n
 made rank lens s n h l f e k =
     let ns = take rank lens in
-    let shape : s ≡ shapeOf ns = e ∙ rw (le-leb rank maxRank h) in
-    let counts : counted s ≡ ns = rw shape (take-append-seam ns _) in
+    let shape : s ≡ shapeOf ns = e ∙ made-is ns rank lens h refl in
+    let counts : counted s ≡ ns = ap (λ x. counted x) shape ∙ made-counted ns in
     let bound : s .rank ≤ maxRank = rw shape (omega (arith, length-take-le rank lens (omega arith))) in
     record { shape = shape; counts = counts; held = k ∙ count-held s bound (rw counts f) ∙ rw counts }
 

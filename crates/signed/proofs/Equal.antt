@@ -28,22 +28,8 @@ eqZ-true (negsuc a) (pos b) e = no-way e
 pub eqZ-same : (x y : ℤ) → x ≡ y → eqZ x y ≡ true
 eqZ-same x y e = rw e (eqZ-refl y)
 
-pub eqZ-other : (x y : ℤ) → (x ≡ y → ⊥) → eqZ x y ≡ false
-unfolding eqZ
-eqZ-other (pos a) (pos b) h = ne-eqb a b (λ e. h (ap pos e))
-eqZ-other (negsuc a) (negsuc b) h = ne-eqb a b (λ e. h (ap negsuc e))
-eqZ-other (pos a) (negsuc b) h = refl
-eqZ-other (negsuc a) (pos b) h = refl
-
 pub eqZ-false : (x y : ℤ) → eqZ x y ≡ false → x ≡ y → ⊥
 eqZ-false x y h e = no-way (sym h ∙ eqZ-same x y e)
-
-pub eqZ-sym : (x y : ℤ) → eqZ x y ≡ eqZ y x
-eqZ-sym x y = by-test (eqZ y x) refl
-  where
-    by-test : (t : Bool) → eqZ y x ≡ t → eqZ x y ≡ t
-    by-test true e = eqZ-same x y (sym (eqZ-true y x e))
-    by-test false e = eqZ-other x y (λ q. eqZ-false y x e (sym q))
 
 -- The code's test of two numbers is one of their bits.
 pub eqZ-bits : (x y : ℤ) → SFits w32 x → SFits w32 y → eqb (ofZ w32 x) (ofZ w32 y) ≡ eqZ x y

@@ -4,14 +4,19 @@ use native.Mathlib.Omega.{arith}
 use mathlib.Core.Path.{_≡_, sym, ap, _∙_}
 use mathlib.Core.Bool.{cond}
 use lib.Dec.{leb}
-use lib.IntN.{ℤ, pos}
+use lib.IntN.{ℤ, pos, _-ℤ_}
 use mir.Syntax.{w32, w64}
 use mir.Val.{SFits, toZ, ofZ}
 use mir.Facts.{toZ-ofZ, toZ-pos, sfits-widen}
 use borrow.Author.Tests.{le-leb}
+use Rattle.meaning.proofs.Positions.{positionOf}
 
 pub read32 : (x : ℤ) → SFits w32 x → toZ w32 (ofZ w32 x) ≡ x
 read32 x f = toZ-ofZ f
+
+-- What `position` answers for a number and the origin.
+pub read-position : (n : ℕ) (k g : ℤ) → SFits w32 k → SFits w32 g → positionOf (toZ w32 (ofZ w32 k) -ℤ toZ w32 (ofZ w32 g)) n ≡ positionOf (k -ℤ g) n
+read-position n k g f h = rw (read32 k f, read32 g h)
 
 -- `x as i64`.
 pub read-wide : (x : ℤ) → SFits w32 x → toZ w64 (ofZ w64 (toZ w32 (ofZ w32 x))) ≡ x

@@ -17,12 +17,6 @@ unfolding negative
 below-zero (pos n) = leb·suc-zero n
 below-zero (negsuc n) = refl
 
--- A number from 0 up is its size.
-pub not-negative : (x : ℤ) → negative x ≡ false → x ≡ pos (natAbs x)
-unfolding negative
-not-negative (pos n) h = refl
-not-negative (negsuc n) h = no-way (sym h)
-
 -- A number below 0 has a size above 0.
 pub size-pos : (x : ℤ) → negative x ≡ true → 0 < natAbs x
 unfolding negative

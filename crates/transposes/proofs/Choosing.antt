@@ -13,16 +13,8 @@ use Rattle.shape.proofs.Padded.{padded-more}
 use Rattle.meaning.specs.Primitives.{axesTo, backwards}
 use Rattle.meaning.specs.Terms.{within}
 use Rattle.meaning.proofs.Positions.{within-lt}
-use Rattle.meaning.proofs.Tab.{length-tab, getD-tab}
+use Rattle.meaning.proofs.Sent.{length-backwards, getD-backwards}
 use Rattle.transposes.specs.Sent.{padded, axisOf, Chosen}
-
-pub length-backwards : (r : ℕ) → length (backwards r) ≡ r
-unfolding backwards
-length-backwards r = length-tab r (λ i. r - 1 - i)
-
-pub getD-backwards : (r i : ℕ) → i < r → getD (backwards r) i 0 ≡ r - 1 - i
-unfolding backwards
-getD-backwards r i h = getD-tab r (λ i. r - 1 - i) i 0 h
 
 pub backwards-more : (r i : ℕ) → i < r → r ≤ maxRank
     → set (take i (backwards r) ++ replicate (maxRank - i) 0) i (r - 1 - i) ≡ take (i + 1) (backwards r) ++ replicate (maxRank - (i + 1)) 0

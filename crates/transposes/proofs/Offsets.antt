@@ -14,11 +14,12 @@ use Rattle.shape.specs.Shape.{maxRank, counted, count, shapeOf}
 use Rattle.shape.specs.Place.{index, place}
 use Rattle.shape.proofs.Places.{In, inside-in, index-lt, place-in}
 use Rattle.shape.proofs.Axis.{in-length}
-use Rattle.meaning.specs.Array.{arrayOf, at, tab, build}
+use Rattle.meaning.specs.Array.{arrayOf, at, build}
 use Rattle.meaning.specs.Primitives.{axesTo, sentLengths, broughtBack}
 use Rattle.meaning.specs.Reply.{settle}
-use Rattle.meaning.proofs.Tab.{tab-ext, tab-none}
+use Rattle.meaning.proofs.Tab.{tab-ext}
 use Rattle.meaning.proofs.Sent.{length-back, length-shape, broughtBack-in}
+use Rattle.meaning.proofs.Arrays.{none-made}
 use Rattle.answer.specs.declared.Answer.{Answer}
 use Rattle.answer.specs.Answer.{lent, refusal, Replied}
 use Rattle.answer.proofs.Lent.{Lent, lent-good}
@@ -156,10 +157,7 @@ module _ (ts : List ℕ) (s : Shape) (n : ℕ) (rs : Shape) (r out : List ℤ) (
 
   -- Nothing is written where there are no elements.
   pub moved-none : n ≡ 0 → out ≡ elements ++ drop n out
-  unfolding build
-  moved-none z =
-      let F : ℕ → ℤ = λ j. at (arrayOf (lent rs r)) (broughtBack ts (place (sentLengths ts ns) j)) in
-      sym (ap₂ (λ k j. tab k F ++ drop j out) (sym (m .count-is) ∙ z) z ∙ ap (λ l. l ++ out) (tab-none F))
+  moved-none z = none-made (sentLengths ts ns) _ n out (sym (m .count-is) ∙ z) z
 
   pub moved-all : (ws : List ℕ) (last : List ℤ) → ws ≡ sentStrides maxRank ts (strides ns)
       → last ≡ walked (take (s .rank - 0) (s .lens)) (take (s .rank - 0) ws) r 0 → putMid 0 (n - 0) out last ≡ elements ++ drop n out

@@ -7,10 +7,10 @@ use native.Mathlib.Nat.{mul-pos, mul-comm, mul-assoc}
 use native.Mathlib.Omega.{arith}
 use Rattle.shape.specs.Shape.{count}
 use Rattle.shape.specs.Place.{inside, place}
+use Rattle.shape.proofs.Counts.{factor}
 use Rattle.shape.proofs.Places.{in-inside, place-in}
 use Rattle.transposes.specs.Strides.{dot}
 use Rattle.transposes.specs.Placed.{Reach}
-use Rattle.transposes.proofs.Walking.{both-pos}
 use Rattle.transposes.proofs.Placing.{inside-none, inside-first, inside-cons, from-on}
 
 -- Every place lies below a limit, from `at` on.
@@ -41,7 +41,7 @@ below-swap a b ns v w ws at m f (j ∷ (i ∷ p)) q =
 module _ (n : ℕ) (ns : List ℕ) (w : ℕ) (ws : List ℕ) (o : ℕ) (os : List ℕ) (at m to room : ℕ) (k : Reach (n ∷ ns) (w ∷ ws) (o ∷ os) at m to room) where
   pub reach-some : (0 < n) × (0 < count ns)
   unfolding count
-  reach-some = both-pos n (count ns) (n * count ns) (k .some) refl
+  reach-some = let f = factor n (count ns) (n * count ns) refl (k .some) in (f .0, f .1)
 
   -- At one position of the first axis.
   pub reach-inner : (i : ℕ) → i < n → Reach ns ws os (at + i * w) m (to + i * o) room

@@ -2,11 +2,12 @@
 use mathlib.Core.Path.{_≡_, refl, sym, ap, ap₂, _∙_}
 use mathlib.Core.List.{List, [], _∷_}
 use Prim.Native.Nat.{ℕ, zero, suc, _+_, _*_, _≤_, _<_, min}
-use native.Mathlib.Nat.{mul-comm}
+use native.Mathlib.Nat.{mul-comm, mul-pos}
 use native.Mathlib.Omega.{arith}
-use lib.ListN.{length, getD, set, take, drop, replicate, length-set, length-replicate, length-drop, drop-of-length-le}
-use lib.Seq.{drop-cons, getD-take, getD-drop, length-take-le, set-getD}
+use lib.ListN.{length, getD, set, take, drop, replicate, length-set, length-replicate, length-drop}
+use lib.Seq.{slice-empty, slice-cons, getD-take, length-take-le, set-getD}
 use Rattle.shape.specs.Shape.{maxCount, count}
+use Rattle.shape.proofs.Counts.{factor, count-drop}
 use Rattle.meaning.proofs.Sent.{axes-lt}
 use Rattle.transposes.specs.Strides.{strides, sentStrides, shortest}
 use Rattle.transposes.specs.Sent.{Sends, Positive}
@@ -36,30 +37,23 @@ zeros-at zero j = refl
 zeros-at (suc r) zero = refl
 zeros-at (suc r) (suc j) = zeros-at r j
 
--- A factor that is not 0.
-pub at-least : (n c : ℕ) → 0 < n → c ≤ n * c
-at-least (suc n) c h = omega arith
-
-abbrev Each : List ℕ → Type 0
-Each ns = (i : ℕ) → i < length ns → 0 < getD ns i 0
-
-count-drop : (ns : List ℕ) (i : ℕ) → Each ns → count (drop i ns) ≤ count ns
+-- Lengths that are not 0 count something.
+count-some : (ns : List ℕ) → ((i : ℕ) → i < length ns → 0 < getD ns i 0) → 0 < count ns
 unfolding count
-count-drop ns zero h = omega arith
-count-drop [] (suc i) h = omega arith
-count-drop (n ∷ ns) (suc i) h = omega (arith, count-drop ns i (λ k l. h (suc k) (omega arith)), at-least n (count ns) (h 0 (omega arith)))
+count-some [] h = omega arith
+count-some (n ∷ ns) h = mul-pos (h 0 (omega arith)) (count-some ns (λ i l. h (suc i) (omega arith)))
 
 -- No sum of strides is above as many counts as there are axes.
-sent-small : (r : ℕ) (ts ns : List ℕ) (j c : ℕ) → Each ns → count ns ≤ c → getD (sentStrides r ts (strides ns)) j 0 ≤ length ts * c
+sent-small : (r : ℕ) (ts ns : List ℕ) (j c : ℕ) → 0 < count ns → count ns ≤ c → getD (sentStrides r ts (strides ns)) j 0 ≤ length ts * c
 unfolding sentStrides strides count
 sent-small r [] ns j c h b = rw (zeros-at r j) (omega arith)
 sent-small r (t ∷ ts) [] j c h b = rw (zeros-at r j) (omega arith)
 sent-small r (t ∷ ts) (n ∷ ns) j c h b =
-    let h′ : Each ns = λ i l. h (suc i) (omega arith) in
-    let b′ : count ns ≤ c = omega (arith, at-least n (count ns) (h 0 (omega arith))) in
+    let f = factor n (count ns) _ refl h in
+    let b′ : count ns ≤ c = omega (arith, f .3) in
     let more : length ts * c + c ≡ suc (length ts) * c = omega arith in
     set-le (sentStrides r ts (strides ns)) t _ j (suc (length ts) * c)
-    (omega (arith, sent-small r ts ns t c h′ b′)) (omega (arith, sent-small r ts ns j c h′ b′))
+    (omega (arith, sent-small r ts ns t c (f .1) b′)) (omega (arith, sent-small r ts ns j c (f .1) b′))
 
 -- One axis of either pass: axis j, after the axes from i on.
 module _ (r rank : ℕ) (to lens : List ℕ) (ht : rank ≤ length to) (hn : rank ≤ length lens) where
@@ -71,10 +65,10 @@ module _ (r rank : ℕ) (to lens : List ℕ) (ht : rank ≤ length to) (hn : ran
 
   module _ (i j : ℕ) (e : i ≡ suc j) (h : i ≤ rank) where
     to-cons : ts j ≡ getD to j 0 ∷ ts i
-    to-cons = rw (e, drop-cons (take rank to) j 0 (rw (length-take-le rank to ht) (omega arith)), getD-take rank to j 0 (omega arith))
+    to-cons = rw e (slice-cons j rank to 0 (omega arith) ht)
 
     lens-cons : ns j ≡ getD lens j 0 ∷ ns i
-    lens-cons = rw (e, drop-cons (take rank lens) j 0 (rw (length-take-le rank lens hn) (omega arith)), getD-take rank lens j 0 (omega arith))
+    lens-cons = rw e (slice-cons j rank lens 0 (omega arith) hn)
 
     shortest-step : (out : List ℕ) → out ≡ shortest r (ts i) (ns i)
         → shortest r (ts j) (ns j) ≡ set out (getD to j 0) (min (getD lens j 0) (getD out (getD to j 0) 0))
@@ -106,26 +100,28 @@ module _ (r rank : ℕ) (to lens : List ℕ) (ht : rank ≤ length to) (hn : ran
 
   pub shortest-none : replicate r (suc maxCount) ≡ shortest r (ts rank) (ns rank)
   unfolding shortest
-  shortest-none = sym (ap (λ l. shortest r l (ns rank)) (drop-of-length-le (take rank to) {i = rank} (rw (length-take-le rank to ht) (omega arith))))
+  shortest-none = sym (ap (λ l. shortest r l (ns rank)) (slice-empty rank to))
 
   pub strides-none : replicate r 0 ≡ sentStrides r (ts rank) (strides (ns rank))
   unfolding sentStrides
-  strides-none = sym (ap (λ l. sentStrides r l (strides (ns rank))) (drop-of-length-le (take rank to) {i = rank} (rw (length-take-le rank to ht) (omega arith))))
+  strides-none = sym (ap (λ l. sentStrides r l (strides (ns rank))) (slice-empty rank to))
 
   pub count-none : 1 ≡ count (ns rank)
   unfolding count
-  count-none = sym (ap count (drop-of-length-le (take rank lens) {i = rank} (rw (length-take-le rank lens hn) (omega arith))))
+  count-none = sym (ap count (slice-empty rank lens))
 
   -- What the second pass adds up stays small.
   module _ (p : Positive (take rank lens)) (i : ℕ) where
+    part : (0 < count (ns i)) × (count (ns i) ≤ count (take rank lens))
+    part = count-drop i (take rank lens) (count-some (take rank lens) (p .each))
+
     pub step-small : count (ns i) ≤ maxCount
-    step-small = omega (arith, count-drop (take rank lens) i (p .each), p .small)
+    step-small = omega (arith, part .1, p .small)
 
     pub sums-small : (out : List ℕ) (t : ℕ) → out ≡ sentStrides r (ts i) (strides (ns i)) → getD out t 0 ≤ rank * maxCount
     sums-small out t q =
-        let each : Each (ns i) = λ k l. rw (getD-drop i (take rank lens) k 0) (p .each (i + k) (omega (arith, length-drop i (take rank lens)))) in
         let few : length (ts i) ≤ rank = rw length-drop (omega (arith, length-take-le rank to ht)) in
-        rw q (omega (arith, sent-small r (ts i) (ns i) t maxCount each step-small))
+        rw q (omega (arith, sent-small r (ts i) (ns i) t maxCount (part .0) step-small))
 
 -- Each axis goes to one that the code has room for.
 pub sends-lt : (to : List ℕ) (rank j : ℕ) → Sends (take rank to) rank → rank ≤ length to → j < rank → getD to j 0 < rank

@@ -3,7 +3,7 @@ use mathlib.Core.Path.{_≡_, refl, sym, ap, _∙_}
 use mathlib.Core.List.{List, [], _∷_}
 use mathlib.Core.Bool.{Bool, true, false, cond}
 use Prim.Native.Nat.{ℕ, zero, suc, _*_, _≤_, _<_, min}
-use native.Mathlib.Nat.{mul-comm, mul-assoc, mul-zero, zero-mul, mul-le-mul-left, mul-le-mul-right}
+use native.Mathlib.Nat.{mul-assoc, mul-zero, zero-mul, mul-le-mul-left, mul-le-mul-right, mul-left-comm}
 use native.Mathlib.Decide.{ℕ-discrete, decLe}
 use native.Mathlib.Omega.{arith}
 use borrow.Author.Tests.{eq-eqb, ne-eqb, leb-true}
@@ -13,13 +13,13 @@ use lib.Seq.{ext-getD, getD-take, length-take-le, getD-set-same, getD-set-other}
 use Rattle.shape.specs.Shape.{maxCount, count, small, shapeRule}
 use Rattle.shape.proofs.Bools.{both}
 use Rattle.shape.proofs.Rule.{small-at, small-from, rule, rule-rank, rule-small, rule-count}
-use Rattle.shape.proofs.Counts.{small-not}
+use Rattle.shape.proofs.Counts.{small-not, count-ones}
 use Rattle.meaning.specs.Array.{tab}
 use Rattle.meaning.specs.Primitives.{sentTo, smallest, axesTo, sentLengths}
-use Rattle.meaning.proofs.Tab.{tab-ext, tab-none, tab-suc}
+use Rattle.meaning.proofs.Tab.{tab-ext, tab-none, tab-suc, tab-same}
 use Rattle.meaning.proofs.Sent.{smallest-le, sent-has, axes-lt, length-shape, getD-shape, Occur}
 use Rattle.transposes.specs.Strides.{shortest}
-use Rattle.transposes.proofs.Sending.{length-shortest, at-least}
+use Rattle.transposes.proofs.Sending.{length-shortest}
 
 -- The smallest, or one above the limit where there is none.
 unfoldable least : List ℕ → ℕ
@@ -145,10 +145,7 @@ orOne (n ∷ ns) = smallest (n ∷ ns)
 orOne-more : (n : ℕ) (ns : List ℕ) → 0 < n → orOne (n ∷ ns) ≤ n * orOne ns
 unfolding smallest orOne
 orOne-more n [] h = omega arith
-orOne-more n (m ∷ ns) h = omega (arith, at-least n (smallest (m ∷ ns)) h)
-
-left-comm : (a b c : ℕ) → a * (b * c) ≡ b * (a * c)
-left-comm a b c = sym (mul-assoc a b c) ∙ ap (λ x. x * c) (mul-comm a b) ∙ mul-assoc b a c
+orOne-more n (m ∷ ns) h = omega (arith, mul-le-mul-right {m = 1} {n = n} (smallest (m ∷ ns)) h)
 
 -- One factor becomes at most n times as large.
 one-factor : (r t n : ℕ) (f g : ℕ → ℕ) → 0 < n → ((j : ℕ) → (j ≡ t → ⊥) → f j ≡ g j) → f t ≤ n * g t → count (tab r f) ≤ n * count (tab r g)
@@ -161,18 +158,13 @@ one-factor (suc r) (suc t) n f g h same more =
     let rest : count (tab r (λ i. f (suc i))) ≤ n * count (tab r (λ i. g (suc i))) =
     one-factor r t n (λ i. f (suc i)) (λ i. g (suc i)) h (λ j z. same (suc j) (λ q. z (omega arith))) more in
     rw (tab-suc r f, tab-suc r g, same 0 (λ z. omega arith))
-    (omega (arith, mul-le-mul-left (g 0) rest, left-comm (g 0) n (count (tab r (λ i. g (suc i))))))
-
-count-ones : (r : ℕ) → count (tab r (λ j. 1)) ≡ 1
-unfolding count
-count-ones zero = ap count (tab-none (λ j. 1))
-count-ones (suc r) = ap count (tab-suc r (λ j. 1)) ∙ omega (arith, count-ones r)
+    (omega (arith, mul-le-mul-left (g 0) rest, mul-left-comm (g 0) n (count (tab r (λ i. g (suc i))))))
 
 -- All the lengths sent, taken together.
 sent-count : (r : ℕ) (ts ns : List ℕ) → length ts ≡ length ns → ((i : ℕ) → i < length ns → 0 < getD ns i 0)
     → count (tab r (λ j. orOne (sentTo j ts ns))) ≤ count ns
 unfolding sentTo count orOne
-sent-count r [] [] e h = omega (arith, count-ones r)
+sent-count r [] [] e h = omega (arith, ap count (tab-same r 1 (λ j. 1) (λ j l. refl)), count-ones r)
 sent-count r [] (n ∷ ns) e h = absurd (omega arith)
 sent-count r (t ∷ ts) [] e h = absurd (omega arith)
 sent-count r (t ∷ ts) (n ∷ ns) e h =

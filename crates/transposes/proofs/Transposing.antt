@@ -15,21 +15,20 @@ use Rattle.shape.specs.Shape.{maxRank, maxCount, counted, count, countOf, goodS
 use Rattle.shape.proofs.Bools.{both, refuted, no-way, and-true}
 use Rattle.shape.proofs.Rule.{rule-small}
 use Rattle.shape.proofs.Counts.{good-count, count-good, count-of}
-use Rattle.shape.proofs.Made.{made-counted}
+use Rattle.shape.proofs.Made.{made-counted, made-is}
 use Rattle.meaning.specs.Array.{Operand, Array, arrayOf, at, build, goodForm}
 use Rattle.meaning.specs.Refusal.{number, precedence, meets, winner}
 use Rattle.meaning.specs.Terms.{rank, eqZ, within, every}
 use Rattle.meaning.specs.Primitives.{Meaning, sentTo, axesTo, sentLengths, broughtBack, backwards, transpose, allOccur, transposeBy}
 use Rattle.meaning.specs.Reply.{Reply, Primitive, primitives, named, reply, settle}
 use Rattle.meaning.proofs.Positions.{within-lt, position-lt}
-use Rattle.meaning.proofs.Sent.{axes-lt, axes-le, sent-has, Occur, all-occur, occur-all}
+use Rattle.meaning.proofs.Sent.{length-backwards, getD-backwards, axes-lt, axes-le, sent-has, Occur, all-occur, occur-all}
 use Rattle.answer.specs.declared.Answer.{Answer}
 use Rattle.answer.specs.Answer.{lent, own, Replied}
 use Rattle.answer.proofs.Lent.{Lent}
 use Rattle.answer.proofs.Order.{Names, earlyOf, space-reply, given-reply}
 use Rattle.transposes.specs.Strides.{shortest}
 use Rattle.transposes.specs.Sent.{padded, axisOf, Chosen, Sends, Moves, sentReply}
-use Rattle.transposes.proofs.Choosing.{length-backwards, getD-backwards}
 use Rattle.transposes.proofs.Shortest.{lengths-found, lengths-missing, lengths-rule}
 
 -- Past FORM, ORIGIN and its own refusals a transposition meets SPACE or gives its result.
@@ -52,12 +51,12 @@ pub replied-same : {a : Answer} {out : List ℤ} {y z : Reply} → z ≡ y → R
 replied-same {a} {out} e h = subst (λ y. Replied a out y) (sym e) h
 
 -- A shape of the lengths that are found.
-module _ (ts : List ℕ) (rs : Shape) (r : List ℤ) (form : goodForm (lent rs r) ≡ true) (g : Lent rs r) (e : length ts ≡ rs .rank) (few : axesTo ts ≤ rs .rank) (lens : List ℕ) (q : lens ≡ shortest maxRank ts (counted rs)) (s : Shape) (t : s ≡ madeOf (axesTo ts) lens) where
+module _ (ts : List ℕ) (rs : Shape) (r : List ℤ) (g : Lent rs r) (e : length ts ≡ rs .rank) (few : axesTo ts ≤ rs .rank) (lens : List ℕ) (q : lens ≡ shortest maxRank ts (counted rs)) (s : Shape) (t : s ≡ madeOf (axesTo ts) lens) where
   same-rank : length ts ≡ length (counted rs)
   same-rank = e ∙ sym (g .rank-is)
 
   made : s ≡ shapeOf (take (axesTo ts) (shortest maxRank ts (counted rs)))
-  made = t ∙ rw (le-leb (axesTo ts) maxRank (omega (arith, g .high)), q)
+  made = t ∙ made-is _ (axesTo ts) lens (omega (arith, g .high)) (ap (take (axesTo ts)) q)
 
   sent-counted : counted s ≡ take (axesTo ts) (shortest maxRank ts (counted rs))
   sent-counted = ap counted made ∙ made-counted (take (axesTo ts) (shortest maxRank ts (counted rs)))
@@ -77,7 +76,7 @@ module _ (ts : List ℕ) (rs : Shape) (r : List ℤ) (form : goodForm (lent rs r
 
     pub sent-moves : (n : ℕ) → n ≡ countOf s → Moves ts s n (lent rs r)
     sent-moves n c = record {
-      form = form;
+      form = g .form;
       sends = record { high = g .high; below = few };
       shape-is = made ∙ ap shapeOf found;
       count-is = c ∙ count-of s sent-good ∙ ap count (sent-counted ∙ found);
@@ -134,11 +133,11 @@ backwards-occur r j h =
 pub taken : (ts to : List ℕ) (r : ℕ) → length ts ≡ r → to ≡ padded ts → take r to ≡ ts
 taken ts to r e q = ap₂ take (sym e) q ∙ take-at ts _ (length ts) refl
 
-pub transpose-reply : (G K : ℤ) (L : Operand) (rs : Shape) (r out : List ℤ) → goodForm (lent rs r) ≡ true → Lent rs r
+pub transpose-reply : (G K : ℤ) (L : Operand) (rs : Shape) (r out : List ℤ) → Lent rs r
     → earlyOf transposed G L (lent rs r) ≡ 0
     → reply (pos 15) G K L (lent rs r) out ≡ sentReply (backwards (rs .rank)) (arrayOf (lent rs r)) out
 unfolding transpose
-transpose-reply G K L rs r out form g fine =
+transpose-reply G K L rs r out g fine =
     let ts : List ℕ = backwards (rs .rank) in
     let e : backwards (rank (arrayOf (lent rs r))) ≡ ts = ap backwards (g .rank-is) in
     sent-reply (transpose-names G K L (lent rs r)) out fine (transpose-none (arrayOf (lent rs r))) ts
@@ -152,11 +151,11 @@ module _ (rs : Shape) (to : List ℕ) (q : to ≡ padded (backwards (rs .rank)))
   pub backwards-sends : Sends (take (rs .rank) to) (rs .rank)
   backwards-sends = rw backwards-is (record { high = high; below = backwards-few (rs .rank) })
 
-  pub backwards-moves : (r : List ℤ) (lens : List ℕ) (s : Shape) (n : ℕ) → goodForm (lent rs r) ≡ true → Lent rs r
+  pub backwards-moves : (r : List ℤ) (lens : List ℕ) (s : Shape) (n : ℕ) → Lent rs r
       → lens ≡ shortest maxRank (take (rs .rank) to) (counted rs) → s ≡ madeOf (rs .rank) lens → n ≡ countOf s → Moves (take (rs .rank) to) s n (lent rs r)
-  backwards-moves r lens s n form g l m c =
+  backwards-moves r lens s n g l m c =
       rw backwards-is
-      (sent-moves (backwards (rs .rank)) rs r form g (length-backwards (rs .rank)) (backwards-few (rs .rank)) lens (rw backwards-is at l) s
+      (sent-moves (backwards (rs .rank)) rs r g (length-backwards (rs .rank)) (backwards-few (rs .rank)) lens (rw backwards-is at l) s
       (m ∙ ap (λ k. madeOf k lens) (sym (backwards-axes (rs .rank)))) (backwards-occur (rs .rank)) n c)
 
 -- 26.
@@ -204,7 +203,7 @@ module _ (G : ℤ) (n : ℕ) where
   unfolding every axesTo
   axes-within [] h = (refl, refl)
   axes-within (x ∷ xs) h =
-      let w = position-lt (x -ℤ G) n (omega arith) in
+      let w = position-lt (x -ℤ G) n n _ refl refl (omega arith) in
       let r = axes-within xs (omega arith) in
       (and-true _ _ (w .0) (r .0), ap₂ _∷_ (w .1) (r .1))
 
@@ -297,7 +296,7 @@ module _ (G : ℤ) (ls : Shape) (l : List ℤ) (rs : Shape) (r : List ℤ) (gl :
           domain-by : domain G left right ≡ allOccur ts
           domain-by = domain-is ∙ ap₂ _&&_ (axes-within G (rs .rank) xs few-ts .0) (ap allOccur (sym named-is))
 
-          module _ (form : goodForm (lent rs r) ≡ true) (lens : List ℕ) (q : lens ≡ shortest maxRank (take (rs .rank) to) (counted rs)) (s : Shape) (t : s ≡ madeOf axes lens)
+          module _ (lens : List ℕ) (q : lens ≡ shortest maxRank (take (rs .rank) to) (counted rs)) (s : Shape) (t : s ≡ madeOf axes lens)
               (k : ℕ) (u : k ≡ countOf s) where
             q′ : lens ≡ shortest maxRank ts (counted rs)
             q′ = q ∙ ap (λ x. shortest maxRank x (counted rs)) to-is
@@ -307,14 +306,14 @@ module _ (G : ℤ) (ls : Shape) (l : List ℤ) (rs : Shape) (r : List ℤ) (gl :
 
             -- An axis that does not occur.
             pub sent-missing : maxCount < k → ownNumber ≡ 7
-            sent-missing h = by-domain G left right one-list as-many (domain-by ∙ bad-occur ts rs r form gr ts-length few-ts lens q′ s t′ (omega arith))
+            sent-missing h = by-domain G left right one-list as-many (domain-by ∙ bad-occur ts rs r gr ts-length few-ts lens q′ s t′ (omega arith))
 
             module _ (fits : k ≤ maxCount) where
               occurs : Occur ts
-              occurs = good-occur ts rs r form gr ts-length few-ts lens q′ s t′ (omega arith)
+              occurs = good-occur ts rs r gr ts-length few-ts lens q′ s t′ (omega arith)
 
               pub sent-by-moves : Moves (take (rs .rank) to) s k (lent rs r)
-              sent-by-moves = rw to-is (sent-moves ts rs r form gr ts-length few-ts lens q′ s t′ occurs k u)
+              sent-by-moves = rw to-is (sent-moves ts rs r gr ts-length few-ts lens q′ s t′ occurs k u)
 
               pub sent-by-reply : (K : ℤ) (out : List ℤ) → earlyOf sent-by G (lent ls l) (lent rs r) ≡ 0
                   → reply (pos 26) G K (lent ls l) (lent rs r) out ≡ sentReply (take (rs .rank) to) right out

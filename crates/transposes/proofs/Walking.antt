@@ -1,32 +1,30 @@
 -- A walk by strides: along one axis, and axis by axis.
 use mathlib.Core.Path.{_≡_, refl, sym, ap, ap₂, _∙_}
-use mathlib.Core.List.{List, [], _∷_, append-nil}
+use mathlib.Core.List.{List, [], _∷_}
 use mathlib.Core.Bool.{true}
-use Prim.Native.Nat.{ℕ, zero, suc, _+_, _*_, _-_, _/_, _%_, _≤_, _<_}
-use native.Mathlib.Nat.{add-zero, add-assoc, mul-one, div-one, mul-div-cancel-left, le-mul-of-pos-right, zero-mul, mul-zero}
+use Prim.Native.Nat.{ℕ, suc, _+_, _*_, _-_, _/_, _%_, _≤_, _<_}
+use native.Mathlib.Nat.{add-zero, add-assoc, mul-one, div-one, mul-div-cancel-left}
 use native.Mathlib.Omega.{arith}
-use borrow.Rule.Slice.PartMut.{putMid}
+use borrow.Rule.Slice.PartMut.{putMid, mid-len}
 use lib.Arith.{digits-div, digits-mod}
-use lib.ListN.{length, getD, take, drop, length-drop, drop-of-length-le}
-use lib.Seq.{take-all, length-take-le}
+use lib.ListN.{length, getD, take, drop}
+use lib.Seq.{take-all}
 use lib.IntN.{ℤ, pos}
 use Rattle.shape.specs.Shape.{count}
 use Rattle.shape.specs.Place.{inside, place}
+use Rattle.shape.proofs.Counts.{factor}
 use Rattle.shape.proofs.Places.{in-inside, inside-in, place-in}
 use Rattle.meaning.specs.Array.{tab}
 use Rattle.meaning.proofs.Tab.{length-tab, getD-tab, tab-ext, tab-part}
 use Rattle.copying.specs.Runs.{copied}
-use Rattle.copying.proofs.Runs.{filled, filled-none, put-list, copied-whole}
+use Rattle.copying.proofs.Runs.{filled, filled-whole, put-list, copied-whole}
+pub use Rattle.copying.proofs.Parts.{part-room, filled-start as filled-zero}
 use Rattle.transposes.specs.Strides.{dot, spaced, walked, Walk}
-
--- A buffer that is filled to its end.
-filled-all : {A : Type 0} (g : ℕ → A) (n : ℕ) (out : List A) → length out ≡ n → filled g n out ≡ tab n g
-filled-all g n out h = rw (drop-of-length-le out {i = n} (omega arith)) (append-nil (tab n g))
 
 pub spaced-filled : (n w : ℕ) (r : List ℤ) (at : ℕ) (out out₀ : List ℤ) → n ≡ length out₀
     → out ≡ filled (λ i. getD r (at + i * w) (pos 0)) n out₀ → out ≡ spaced (length out₀) w r at
 unfolding spaced
-spaced-filled n w r at out out₀ e q = q ∙ filled-all _ n out₀ (sym e) ∙ ap (λ k. tab k (λ i. getD r (at + i * w) (pos 0))) e
+spaced-filled n w r at out out₀ e q = q ∙ filled-whole _ n out₀ (omega arith) ∙ ap (λ k. tab k (λ i. getD r (at + i * w) (pos 0))) e
 
 -- Neighbours are a run.
 pub run-spaced : (r out last : List ℤ) (at w e : ℕ) → w ≡ 1 → e ≡ at + length out → e ≤ length r → last ≡ copied (take (e - at) (drop at r)) out
@@ -34,8 +32,7 @@ pub run-spaced : (r out last : List ℤ) (at w e : ℕ) → w ≡ 1 → e ≡ at
 unfolding spaced
 run-spaced r out last at w e one end room q =
     let n : e - at ≡ length out = omega arith in
-    let long : length (take (e - at) (drop at r)) ≡ length out = rw n (length-take-le (length out) (drop at r) (rw length-drop (omega arith))) in
-    q ∙ copied-whole (take (e - at) (drop at r)) out long
+    q ∙ copied-whole (take (e - at) (drop at r)) out (mid-len at e r room ∙ n)
     ∙ ap (λ k. take k (drop at r)) n
     ∙ tab-part r at (length out) (pos 0) (omega arith)
     ∙ tab-ext (length out) _ _ (λ i l. ap (λ k. getD r (at + k) (pos 0)) (sym (mul-one i) ∙ ap (λ k. i * k) (sym one)))
@@ -50,12 +47,6 @@ others-is k n ns h = take-all (k - 1) ns (omega arith)
 pub others-fewer : (ns : List ℕ) → 0 < length ns → length (others (length ns) ns) < length ns
 others-fewer [] h = absurd (omega arith)
 others-fewer (n ∷ ns) h = rw (others-is (suc (length ns)) n ns refl) (omega arith)
-
--- A part of c elements.
-pub part-room : {A : Type 0} (out : List A) (s c room : ℕ) → length out ≡ room → s + c ≤ room → length (take (s + c - s) (drop s out)) ≡ c
-part-room out s c room e h =
-    let z : s + c - s ≡ c = omega arith in
-    rw z (length-take-le c (drop s out) (rw length-drop (omega arith)))
 
 -- Where element j of the walk stands.
 abbrev pub reached : List ℕ → List ℕ → List ℤ → ℕ → ℕ → ℤ
@@ -80,11 +71,6 @@ walked-line (n ∷ (o ∷ ns)) ws r at m room k e = absurd (omega arith)
 walked-line (n ∷ []) [] r at m room k e = absurd (omega (arith, k .axes))
 walked-line (n ∷ []) (w ∷ (v ∷ ws)) r at m room k e = absurd (omega (arith, k .axes))
 
-pub both-pos : (n c x : ℕ) → 0 < x → x ≡ n * c → (0 < n) × (0 < c)
-both-pos zero c x h e = absurd (omega (arith, zero-mul c))
-both-pos (suc n) zero x h e = absurd (omega (arith, mul-zero (suc n)))
-both-pos (suc n) (suc c) x h e = (omega arith, omega arith)
-
 -- What a walk over an axis and others knows.
 pub record Rows (ns ws : List ℕ) (at m room : ℕ) : Type 0 where
   pub first : 0 < getD ns 0 0
@@ -102,12 +88,12 @@ rows (n ∷ ns) [] at m room k h = absurd (omega (arith, k .axes))
 rows (n ∷ ns) (w ∷ ws) at m room k h =
     let e : others (suc (length ns)) (n ∷ ns) ≡ ns = others-is (suc (length ns)) n ns refl in
     let f : others (suc (length ns)) (w ∷ ws) ≡ ws = others-is (suc (length ns)) w ws (omega (arith, k .axes)) in
-    let b = both-pos n (count ns) room (k .some) (k .whole) in
+    let b = factor n (count ns) room (k .whole) (k .some) in
     let inward : (i : ℕ) → i < n → (p : List ℕ) → inside ns p ≡ true → at + (i * w + dot p ws) < m =
     λ i l p q. k .reach (i ∷ p) (in-inside (n ∷ ns) (i ∷ p) (l, inside-in ns p q)) in
     record {
       first = b .0;
-      few = omega (arith, k .whole, le-mul-of-pos-right {m = count ns} n (b .1));
+      few = b .2;
       whole = rw e (k .whole);
       size = ap (λ x. x / n) (k .whole) ∙ mul-div-cancel-left (count ns) (b .0) ∙ ap count (sym e);
       from = λ i l. omega (arith, inward i l (place ns 0) (in-inside ns (place ns 0) (place-in ns 0 (b .1))));
@@ -159,7 +145,4 @@ walked-more (n ∷ ns) (w ∷ ws) r out out₀ last at i c e h a s o end q =
 pub walked-all : (ns ws : List ℕ) (r out out₀ : List ℤ) (at i c : ℕ) → i * c ≡ count ns → length out₀ ≡ count ns
     → out ≡ filled (reached ns ws r at) (i * c) out₀ → out ≡ walked ns ws r at
 unfolding walked
-walked-all ns ws r out out₀ at i c e h o = o ∙ ap (λ k. filled (reached ns ws r at) k out₀) e ∙ filled-all (reached ns ws r at) (count ns) out₀ h
-
-pub filled-zero : {A : Type 0} (g : ℕ → A) (c : ℕ) (out : List A) → out ≡ filled g (0 * c) out
-filled-zero g c out = filled-none g out ∙ ap (λ n. filled g n out) (sym (zero-mul c))
+walked-all ns ws r out out₀ at i c e h o = o ∙ ap (λ k. filled (reached ns ws r at) k out₀) e ∙ filled-whole (reached ns ws r at) (count ns) out₀ (omega arith)

@@ -10,13 +10,11 @@ use lib.IntN.{ℤ, pos}
 use Rattle.shape.specs.declared.Shape.{Shape}
 use Rattle.shape.specs.declared.Around.{Around}
 use Rattle.shape.specs.Shape.{counted, count, countOf, aroundOf}
-use Rattle.shape.specs.Place.{place}
 use Rattle.shape.proofs.Axis.{in-length}
 use Rattle.shape.proofs.Surround.{Parts, parts}
-use Rattle.meaning.specs.Array.{Array, arrayOf, at, tab, build}
+use Rattle.meaning.specs.Array.{Array, arrayOf, at, build}
 use Rattle.meaning.specs.Terms.{rank, axis, along}
-use Rattle.meaning.proofs.Tab.{tab-none}
-use Rattle.meaning.proofs.Arrays.{build-ext, build-at}
+use Rattle.meaning.proofs.Arrays.{build-ext, build-at, none-made}
 use Rattle.copying.specs.Runs.{copied}
 use Rattle.copying.proofs.Runs.{copied-fits, filled}
 use Rattle.copying.proofs.Blocks.{source}
@@ -47,10 +45,7 @@ module _ (s : Shape) (r out : List ℤ) (g : Lent s r) (k : ℕ) where
 
   -- Nothing to turn.
   pub into-none : (φ : ℕ → ℕ) → countOf s ≡ 0 → out ≡ turnedInto φ
-  unfolding build
-  into-none φ e =
-      let z : count (counted s) ≡ 0 = sym (g .count-is) ∙ e in
-      sym (ap₂ (λ x i. x ++ drop i out) (ap (λ i. tab i (λ j. along a k φ (place (counted s) j))) z ∙ tab-none _) z)
+  into-none φ e = let z : count (counted s) ≡ 0 = sym (g .count-is) ∙ e in none-made (counted s) _ _ out z z
 
   -- What is known around an axis of an array with elements.
   pub turn-parts : k < s .rank → 0 < countOf s → Parts s k (aroundOf s k .length) (count (counted s))
@@ -61,9 +56,6 @@ module _ (s : Shape) (r out : List ℤ) (g : Lent s r) (k : ℕ) where
 
   -- The same with what the program found around the axis, and a move that looks at the axis's length.
   module _ (w : Around) (e : w ≡ aroundOf s k) (l : k < s .rank) (h : 0 < countOf s) where
-    axis-length : w .length ≡ axis a k
-    axis-length = ap (λ v. v .length) e ∙ turn-parts l h .length-is
-
     pub turn-room : (0 < w .outer) × (w .outer * w .length * w .inner ≡ count (counted s))
     turn-room =
         let p = turn-parts l h in

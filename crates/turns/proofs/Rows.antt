@@ -3,22 +3,21 @@ use mathlib.Core.Path.{_≡_, refl, sym, ap, ap₂, _∙_}
 use mathlib.Core.List.{List}
 use mathlib.Core.Bool.{Bool, true, false, cond}
 use Prim.Native.Nat.{ℕ, zero, suc, _+_, _*_, _-_, _/_, _%_, _≤_, _<_}
-use native.Mathlib.Nat.{mul-le-mul-right, mul-one, mul-zero, div-one, mod-one, mod-lt, mod-eq-of-lt, add-mod-right, div-add-mod', div-lt-iff-lt-mul, not-suc-le-zero, zero-add}
+use native.Mathlib.Nat.{mul-le-mul-right, mul-one, div-one, mod-one, mod-lt, mod-eq-of-lt, add-mod-right, div-add-mod', zero-add}
 use native.Mathlib.Omega.{arith}
-use lib.Arith.{digits-div, digits-mod, digits-lt, mod-mul}
+use lib.Arith.{digits-div, digits-mod, mod-mul}
 use borrow.Rule.Slice.PartMut.{putMid}
-use lib.ListN.{length, getD, take, drop, length-reverse, length-drop}
-use lib.Seq.{length-take-le, getD-take, getD-drop}
+use lib.ListN.{length, getD, take, drop, length-reverse}
 use lib.Dec.{eqb}
 use lib.IntN.{ℤ, pos, _+ℤ_}
 use mathlib.Core.List.{reverse}
 use Rattle.meaning.specs.Array.{tab}
 use Rattle.copying.specs.Runs.{copied, reversed}
-use Rattle.copying.proofs.Runs.{reversed-whole, tab-is, filled, filled-none, filled-whole, put-list, put-copied}
-use Rattle.copying.proofs.Blocks.{source, source-in}
+use Rattle.copying.proofs.Runs.{reversed-whole, tab-is, filled, filled-none, filled-whole, put-copied}
 use Rattle.meaning.specs.Terms.{modulo}
 use Rattle.meaning.proofs.Modulo.{modulo-lt, modulo-turn, amount-is}
-use Rattle.meaning.proofs.Tab.{length-tab, getD-tab, tab-ext}
+use Rattle.shape.proofs.Places.{row-in}
+use Rattle.meaning.proofs.Tab.{tab-ext}
 use Rattle.turns.specs.Rows.{turnPosition, turnRow}
 use Rattle.copying.proofs.Steps.{getD-reverse}
 
@@ -47,27 +46,6 @@ line-reversed r out n c one a b =
     ap (λ k. (n - 1 - i / k) * k + i % k) one ∙ (rw (div-one i, mod-one i, mul-one) (omega arith)) in
     ap (λ k. getD r k (pos 0)) q ∙ sym (getD-reverse r i (pos 0) (omega arith)))
 
--- Blocks after each other: where a block goes, and that it fits.
-pub block-room : (o outer size total : ℕ) → o < outer → outer * size ≤ total → o * size + size ≤ total
-block-room o outer size total h l = omega (arith, mul-le-mul-right {m = o + 1} {n = outer} size (omega arith))
-
--- A part of a list that is a block, and its elements.
-module _ (xs : List ℤ) (at size : ℕ) (h : at + size ≤ length xs) where
-  pub part-size : length (take (at + size - at) (drop at xs)) ≡ size
-  part-size = let e : at + size - at ≡ size = omega arith in rw e (length-take-le size (drop at xs) (rw length-drop (omega arith)))
-
-  pub part-at : (i : ℕ) → i < size → getD (take (at + size - at) (drop at xs)) i (pos 0) ≡ getD xs (at + i) (pos 0)
-  part-at i l = getD-take (at + size - at) (drop at xs) i (pos 0) (omega arith) ∙ getD-drop at xs i (pos 0)
-
--- A block whose element i comes from element ψ i of the source's block fills the result further.
-pub block-step : (g : ℕ → ℤ) (ψ : ℕ → ℕ) (at size : ℕ) (r out out₀ last : List ℤ) → out ≡ filled g at out₀ → at + size ≤ length r
-    → ((i : ℕ) → i < size → ψ i < size) → ((i : ℕ) → i < size → g (at + i) ≡ getD r (at + ψ i) (pos 0))
-    → last ≡ tab size (λ j. getD (take (at + size - at) (drop at r)) (ψ j) (pos 0))
-    → putMid at (at + size - at) out last ≡ filled g (at + size) out₀
-block-step g ψ at size r out out₀ last o h in-block same q =
-    put-list g (pos 0) at size (at + size) out out₀ last o refl (ap length q ∙ length-tab size _)
-    (λ i l. same i l ∙ sym (ap (λ ys. getD ys i (pos 0)) q ∙ getD-tab size _ i (pos 0) l ∙ part-at r at size h (ψ i) (in-block i l)))
-
 -- Two runs: what stands in r from the cut on, and what stands before it.
 module _ (r out last₁ last₂ : List ℤ) (n cut : ℕ) (long : n ≡ length r) (room : n ≡ length out) (h : cut ≤ n) where
   abbrev turned : ℕ → ℤ
@@ -88,33 +66,11 @@ module _ (r out last₁ last₂ : List ℤ) (n cut : ℕ) (long : n ≡ length r
       let all : seam + cut ≡ n = omega arith in
       second ∙ ap (λ k. filled turned k out) all ∙ filled-whole turned n out (omega arith)
 
--- Where there is an element of a block there is a row, and rows have elements.
-rows-some : (n c i : ℕ) → i < n * c → (0 < c) × (i / c < n)
-rows-some n c i h =
-    let p : 0 < c = positive i n c h in
-    (p, div-lt-iff-lt-mul p .1 h)
-  where
-    positive : (i n c : ℕ) → i < n * c → 0 < c
-    positive i n zero h = absurd (not-suc-le-zero (rw mul-zero at h))
-    positive i n (suc c) h = omega arith
-
 -- A turn of rows stays among them.
-turn-row-lt : (back : Bool) (a n q : ℕ) → q < n → turnRow back a n q < n
+pub turn-row-lt : (back : Bool) (a n q : ℕ) → q < n → turnRow back a n q < n
 unfolding turnRow
 turn-row-lt true a n q h = omega arith
 turn-row-lt false a n q h = mod-lt (q + a) (omega arith)
-
--- Row x of block o, element y.
-regroup : (o n x c y : ℕ) → (o * n + x) * c + y ≡ o * (n * c) + (x * c + y)
-regroup o n x c y = omega arith
-
--- Element i of a turned block, within the block and among all.
-module _ (back : Bool) (a n c i : ℕ) (h : i < n * c) where
-  pub turned-in : turnRow back a n (i / c) * c + i % c < n * c
-  turned-in = digits-lt (turn-row-lt back a n (i / c) (rows-some n c i h .1)) (mod-lt i (rows-some n c i h .0))
-
-  pub turned-source : (o : ℕ) → source n n c (turnRow back a n) (o * (n * c) + i) ≡ o * (n * c) + (turnRow back a n (i / c) * c + i % c)
-  turned-source o = source-in n n c (turnRow back a n) o i h ∙ regroup o n (turnRow back a n (i / c)) c (i % c)
 
 -- A block reversed, and a block cut at a rows.
 pub block-back : (r : List ℤ) (n c a : ℕ) (back : Bool) → back ≡ true
@@ -127,7 +83,7 @@ pub block-cut : (r : List ℤ) (n c a : ℕ) (back : Bool) → back ≡ false �
 unfolding turnRow
 block-cut r n c a back e l =
     ap (λ k. tab k (λ j. getD r ((j + a * c) % k) (pos 0))) l
-    ∙ tab-ext (n * c) _ _ (λ j h. ap (λ k. getD r k (pos 0)) (cut-row j (rows-some n c j h) ∙ (rw e)))
+    ∙ tab-ext (n * c) _ _ (λ j h. ap (λ k. getD r k (pos 0)) (cut-row j (row-in n c j h) ∙ (rw e)))
   where
     cut-row : (j : ℕ) → (0 < c) × (j / c < n) → (j + a * c) % (n * c) ≡ (j / c + a) % n * c + j % c
     cut-row j p =

@@ -2,18 +2,16 @@
 use mathlib.Core.Path.{_≡_, refl, sym, ap, ap₂, _∙_}
 use mathlib.Core.List.{List, [], _∷_, _++_}
 use mathlib.Core.Bool.{true, cond}
-use Prim.Native.Nat.{ℕ, _≤_, _<_}
+use Prim.Native.Nat.{ℕ, _≤_}
 use native.Mathlib.Omega.{arith}
 use lib.Dec.{leb}
 use lib.ListN.{length, drop, getD}
-use lib.Seq.{getD-take, length-take-le}
 use lib.IntN.{ℤ, pos}
 use mir.Syntax.{w32}
 use mir.Val.{toZ, ofZ}
 use Rattle.shape.specs.declared.Shape.{Shape}
-use Rattle.shape.specs.Shape.{maxRank, maxCount, counted, count, goodShape, shapeOf, shapeRule}
-use Rattle.shape.proofs.Counts.{good-rank}
-use Rattle.shape.proofs.Rule.{rule-small, small-at, vector-rule}
+use Rattle.shape.specs.Shape.{count, shapeOf, shapeRule}
+use Rattle.shape.proofs.Rule.{vector-rule}
 use Rattle.meaning.specs.Array.{Operand, Array, arrayOf, tab, build}
 use Rattle.meaning.specs.Refusal.{precedence, meets, winner}
 use Rattle.meaning.specs.Terms.{eqZ, rank, axis}
@@ -28,11 +26,6 @@ use Rattle.answer.proofs.Order.{Names}
 use Rattle.vectors.proofs.Vector.{vector-elements, vector-count}
 
 -- A length that counts is stored as it is.
-pub length-small : (s : Shape) → length (s .lens) ≡ maxRank → goodShape s ≡ true → (i : ℕ) → i < s .rank → getD (s .lens) i 0 ≤ maxCount
-length-small s long g i h =
-    let n : length (counted s) ≡ s .rank = length-take-le (s .rank) (s .lens) (omega (arith, good-rank s g)) in
-    rw (getD-take (s .rank) (s .lens) i 0 h) at (small-at (counted s) i (rule-small (s .rank) (counted s) g) (omega arith))
-
 pub whole-stored : (z : ℤ) (n : ℕ) → n ≤ 2147483647 → z ≡ cond (leb n 2147483647) (pos n) (pos 0) → toZ w32 (ofZ w32 z) ≡ pos n
 whole-stored z n h e = ap (λ y. toZ w32 (ofZ w32 y)) (e ∙ whole-is n h) ∙ read-pos n h
 
@@ -50,10 +43,6 @@ shape-names G K L R = record {
 pub shape-none : (a : Array) → own 11 (lengthsOf a .refusals) ≡ 0
 unfolding lengthsOf precedence winner meets
 shape-none a = refl
-
-pub shape-lengths : (a : Array) → lengthsOf a .lengths ≡ rank a ∷ []
-unfolding lengthsOf
-shape-lengths a = refl
 
 pub shape-elements : (a : Array) → build (lengthsOf a .lengths) (lengthsOf a .element) .elements ≡ tab (rank a) (λ i. pos (axis a i))
 unfolding lengthsOf

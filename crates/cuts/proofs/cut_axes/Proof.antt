@@ -2,9 +2,10 @@ use Prim.Native.Nat.{_-_, _≤_}
 use native.Mathlib.Omega.{arith}
 use mathlib.Core.Path.{_≡_, sym, _∙_}
 use lib.ListN.{length, take, drop}
+use lib.Seq.{slice-empty}
 use borrow.Author.Needs.{needs}
 use Rattle.shape.specs.Shape.{maxRank}
-use Rattle.cuts.proofs.Building.{front-none, same-more}
+use Rattle.cuts.proofs.Building.{same-more}
 use Rattle.cuts.proofs.cut_axes.Statement.{statement}
 use Rattle.cuts.proofs.cut_axes.Tie as tie
 
@@ -15,10 +16,7 @@ abbrev μ-loop : tie.MeasureT-loop
 μ-loop rank lens sizes i₀ i = i
 
 loop-holds : tie.Need-loop-holds Inv-loop μ-loop
-loop-holds c =
-    let a : length (c .args .t2) ≡ maxRank = search needs in
-    let b : length (c .args .t3) ≡ maxRank = search needs in
-    (omega arith, front-none (c .args .t2) (c .args .rank) (omega arith) ∙ sym (front-none (c .args .t3) (c .args .rank) (omega arith)))
+loop-holds c = (omega arith, slice-empty (c .args .rank) (c .args .t2) ∙ sym (slice-empty (c .args .rank) (c .args .t3)))
 
 loop-again : tie.Need-loop-again Inv-loop μ-loop
 loop-again c =

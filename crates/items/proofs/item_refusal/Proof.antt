@@ -1,9 +1,9 @@
-use mathlib.Core.Path.{_≡_, sym, ap, ap₂, _∙_}
+use mathlib.Core.Path.{_≡_, sym, ap, _∙_}
 use borrow.Author.Needs.{needs}
 use lib.ListN.{length, getD}
 use lib.IntN.{_-ℤ_}
 use Rattle.shape.specs.Shape.{maxRank}
-use Rattle.signed.proofs.Reading.{read32}
+use Rattle.signed.proofs.Reading.{read32, read-position}
 use Rattle.meaning.specs.Array.{goodForm}
 use Rattle.meaning.proofs.Positions.{positionOf}
 use Rattle.answer.specs.Answer.{lent, early}
@@ -27,7 +27,7 @@ long c = search needs
 at-is : (c : tie.After-position) → c .position .result ≡ positionOf (c .before .before .before .before .before .args .i -ℤ c .before .before .before .before .before .args .g) (getD (c .before .before .before .before .before .args .t3 .lens) 0 0)
 at-is c =
     let st = c .before .before .before .before .before in
-    c .position .ensures ∙ ap₂ (λ x y. positionOf (x -ℤ y) (getD (st .args .t3 .lens) 0 0)) (read32 _ (st .fits .i)) (read32 _ (st .fits .g))
+    c .position .ensures ∙ read-position (getD (st .args .t3 .lens) 0 0) _ _ (st .fits .i) (st .fits .g)
 
 returns : tie.Need-returns
 returns c =

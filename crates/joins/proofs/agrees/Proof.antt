@@ -14,7 +14,7 @@ use Rattle.meaning.specs.Terms.{rank, sameLengths}
 use Rattle.meaning.specs.Primitives.{side}
 use Rattle.answer.specs.Answer.{lent}
 use Rattle.meaning.proofs.Sides.{beside-near}
-use Rattle.joins.proofs.Agreeing.{first-true, first-false, agrees-scalar, agrees-parts}
+use Rattle.joins.proofs.Agreeing.{agrees-scalar, agrees-parts}
 use Rattle.joins.proofs.agrees.Statement.{statement}
 use Rattle.joins.proofs.agrees.Tie as tie
 use Rattle.joins.proofs.agrees.Reads as reads
@@ -72,12 +72,12 @@ same-part-requires-2 c κs = let n = near (c .before .before .before .before .be
 returns-2 : tie.Need-returns-2
 returns-2 c x =
     let p = c .before .before in
-    c .same-part2 .ensures ∙ sym (parted (p .before .before .before .before .before) x ∙ first-true _ _ (sym (p .same-part .ensures) ∙ c .before .if2 .taken))
+    c .same-part2 .ensures ∙ sym (parted (p .before .before .before .before .before) x ∙ rw (sym (p .same-part .ensures) ∙ c .before .if2 .taken))
 
 returns-3 : tie.Need-returns-3
 returns-3 c x =
     let p = c .before in
-    sym (parted (p .before .before .before .before .before) x ∙ first-false _ _ (sym (p .same-part .ensures) ∙ c .if2 .left))
+    sym (parted (p .before .before .before .before .before) x ∙ rw (sym (p .same-part .ensures) ∙ c .if2 .left))
 
 pub agrees-spec : {M : Type 1} → statement M
 agrees-spec =

@@ -1,20 +1,17 @@
 use borrow.Author.Needs.{needs}
 use native.Mathlib.Omega.{arith}
-use native.Mathlib.Nat.{sub-zero}
 use Prim.Native.Nat.{_-_, _≤_, _<_}
 use mathlib.Core.Path.{_≡_, sym, ap, ap₂, _∙_}
-use mathlib.Core.Bool.{true, _&&_}
+use mathlib.Core.Bool.{_&&_}
 use lib.ListN.{length, take}
 use lib.IntN.{pos, natAbs, _-ℤ_}
-use Rattle.signed.proofs.Reading.{read32}
+use Rattle.signed.proofs.Reading.{read32, read-position}
 use Rattle.shape.specs.Shape.{maxRank, maxCount, count, countOf, shapeOf}
-use Rattle.shape.proofs.Bools.{both}
 use Rattle.meaning.specs.Array.{Operand, arrayOf, goodForm}
 use Rattle.meaning.specs.Primitives.{Meaning, catenate}
-use Rattle.meaning.proofs.Positions.{positionOf}
 use Rattle.answer.specs.Answer.{lent, early, own}
 use Rattle.answer.proofs.Order.{Names, early-reply, own-reply, limit-reply, space-reply, given-reply, replied-refused, replied-given}
-use Rattle.answer.proofs.Lent.{Lent, lent-good, early-fine}
+use Rattle.answer.proofs.Lent.{FineTwo, fine-two, lent-part}
 use Rattle.joins.proofs.Heights.{high-is}
 use Rattle.joins.proofs.Joining.{catenating, catenate-names, Joins, catenate-fits}
 use Rattle.joins.proofs.Catenating.{height, axis-in, extents-small, lengths-are, left-room, right-room, catenate-out}
@@ -50,23 +47,12 @@ names st = catenate-names (st .args .g) (st .args .k) (left st) (right st)
 early-is : (c : tie.After-early-two) → c .early-two .result ≡ early (goodForm (left (c .before)) && goodForm (right (c .before))) (c .before .args .g)
 early-is c = c .early-two .ensures ∙ ap (early _) (read32 _ (c .before .fits .g))
 
-fine : (c : tie.Else1) → let st = c .before .before in early (goodForm (left st) && goodForm (right st)) (st .args .g) ≡ 0
-fine c = sym (early-is (c .before)) ∙ c .if1 .left
-
-forms : (c : tie.Else1) → let st = c .before .before in (goodForm (left st) ≡ true) × (goodForm (right st) ≡ true)
-forms c = let st = c .before .before in both (goodForm (left st)) (goodForm (right st)) (early-fine (st .args .g) _ (fine c) .forms)
-
-good-left : (c : tie.Else1) → let st = c .before .before in Lent (st .args .ls) (st .args .l .now)
-good-left c =
+fine : (c : tie.Else1) → let st = c .before .before in FineTwo (st .args .g) (st .args .ls) (st .args .l .now) (st .args .rs) (st .args .r .now)
+fine c =
     let st = c .before .before in
-    let long : length (st .args .ls .lens) ≡ maxRank = search needs in
-    lent-good (st .args .ls) (st .args .l .now) long (forms c .0)
-
-good-right : (c : tie.Else1) → let st = c .before .before in Lent (st .args .rs) (st .args .r .now)
-good-right c =
-    let st = c .before .before in
-    let long : length (st .args .rs .lens) ≡ maxRank = search needs in
-    lent-good (st .args .rs) (st .args .r .now) long (forms c .1)
+    let ll : length (st .args .ls .lens) ≡ maxRank = search needs in
+    let rl : length (st .args .rs .lens) ≡ maxRank = search needs in
+    fine-two (st .args .g) (st .args .ls) (st .args .l .now) (st .args .rs) (st .args .r .now) ll rl (sym (early-is (c .before)) ∙ c .if1 .left)
 
 -- RANK, AXIS and LENGTH, and what is known where none was met.
 own-is : (c : tie.After-catenate-refusal) → c .catenate-refusal .result ≡ own 22 (means (c .before .before .before) .refusals)
@@ -86,18 +72,18 @@ axis-is : (c : tie.After-position) → let st = c .before .before .before .befor
 axis-is c =
     let e = c .before .before in
     let st = e .before .before .before .before in
-    let gl = good-left (e .before .before) in
-    let gr = good-right (e .before .before) in
+    let gl = fine (e .before .before) .left in
+    let gr = fine (e .before .before) .right in
     let h = high-is (st .args .ls) (st .args .rs) (st .args .l .now) (st .args .r .now) (gl .high) (gr .high) (gl .rank-is) (gr .rank-is) (c .before .higher .result) (c .before .higher .ensures) in
     c .position .ensures
-    ∙ ap₂ (λ x y. positionOf (x -ℤ y) (c .before .higher .result .rank)) (read32 _ (st .fits .k)) (read32 _ (st .fits .g))
+    ∙ read-position (c .before .higher .result .rank) _ _ (st .fits .k) (st .fits .g)
     ∙ rw (← (h .rank-is), joins e .on-axis)
 
 high : (p : tie.After-position) → (p .before .higher .result .rank ≤ maxRank) × (p .position .result < p .before .higher .result .rank)
 high p =
     let e = p .before .before in
     let st = e .before .before .before .before in
-    (height (st .args .g) (st .args .k) (st .args .ls) (st .args .rs) (st .args .l .now) (st .args .r .now) (good-left (e .before .before)) (good-right (e .before .before)) (joins e) (p .before .higher .result) (p .before .higher .ensures) (p .position .result) (axis-is p) .high, axis-in (st .args .g) (st .args .k) (st .args .ls) (st .args .rs) (st .args .l .now) (st .args .r .now) (good-left (e .before .before)) (good-right (e .before .before)) (joins e) (p .before .higher .result) (p .before .higher .ensures) (p .position .result) (axis-is p))
+    (height (st .args .g) (st .args .k) (st .args .ls) (st .args .rs) (st .args .l .now) (st .args .r .now) (fine (e .before .before) .left) (fine (e .before .before) .right) (joins e) (p .before .higher .result) (p .before .higher .ensures) (p .position .result) (axis-is p) .high, axis-in (st .args .g) (st .args .k) (st .args .ls) (st .args .rs) (st .args .l .now) (st .args .r .now) (fine (e .before .before) .left) (fine (e .before .before) .right) (joins e) (p .before .higher .result) (p .before .higher .ensures) (p .position .result) (axis-is p))
 
 made : (c : tie.After-with-length) → let st = c .before .before .before .before .before .before .before .before .before in c .with-length .result ≡ shapeOf (means st .lengths)
 made c =
@@ -107,7 +93,7 @@ made c =
     let st = e .before .before .before .before in
     c .with-length .ensures
     ∙ with-length-is (p .before .higher .result) (p .position .result) _ (high p .0) (high p .1)
-    ∙ ap shapeOf (lengths-are (st .args .g) (st .args .k) (st .args .ls) (st .args .rs) (st .args .l .now) (st .args .r .now) (good-left (e .before .before)) (good-right (e .before .before)) (joins e) (p .before .higher .result) (p .before .higher .ensures) (p .position .result) (axis-is p) _ _ (x .before .extent .ensures) (x .extent2 .ensures))
+    ∙ ap shapeOf (lengths-are (st .args .g) (st .args .k) (st .args .ls) (st .args .rs) (st .args .l .now) (st .args .r .now) (fine (e .before .before) .left) (fine (e .before .before) .right) (joins e) (p .before .higher .result) (p .before .higher .ensures) (p .position .result) (axis-is p) _ _ (x .before .extent .ensures) (x .extent2 .ensures))
 
 room : (c : tie.After-count) → let st = c .before .before .before .before .before .before .before .before .before .before in c .count .result ≡ countOf (shapeOf (means st .lengths))
 room c = c .count .ensures ∙ ap countOf (made (c .before))
@@ -121,15 +107,12 @@ lists : (q : tie.After-count3)
     × (take (q .count3 .result - 0) (start q .args .r .now) ≡ arrayOf (right (start q)) .elements)
 lists q =
     let e = q .before .before .before .before .before .before .before .before .before .before .before .before in (
-      ap (λ n. take n (start q .args .l .now)) (sub-zero _ ∙ q .before .count2 .ensures ∙ good-left e .count-is),
-      ap (λ n. take n (start q .args .r .now)) (sub-zero _ ∙ q .count3 .ensures ∙ good-right e .count-is),
+      lent-part (start q .args .ls) (start q .args .l .now) (fine e .left) _ (q .before .count2 .ensures),
+      lent-part (start q .args .rs) (start q .args .r .now) (fine e .right) _ (q .count3 .ensures),
     )
 
-small : (q : tie.After-count3) → countOf (shapeOf (means (start q) .lengths)) ≤ maxCount
-small q = omega (arith, room (q .before .before .before .before), q .before .before .before .if3 .left)
-
 total : (q : tie.After-count3) → q .before .before .before .before .count .result ≡ count (means (start q) .lengths)
-total q = room (q .before .before .before .before) ∙ made-count (means (start q) .lengths) (small q)
+total q = made-count (means (start q) .lengths) _ (room (q .before .before .before .before)) (q .before .before .before .if3 .left)
 
 returns : tie.Need-returns
 returns c =
@@ -137,13 +120,13 @@ returns c =
     replied-refused (c .refused .result) _ (st .args .out .now) (c .refused .ensures) (early-reply (names st) (st .args .out .now) _ (early-is (c .before .before)) (c .before .if1 .taken))
 
 catenate-refusal-requires : tie.Need-catenate-refusal-requires
-catenate-refusal-requires c κs = (good-left c .good, good-right c .good)
+catenate-refusal-requires c κs = (fine c .left .good, fine c .right .good)
 
 returns-2 : tie.Need-returns-2
 returns-2 c =
     let e = c .before .before .before in
     let st = e .before .before in
-    replied-refused (c .refused2 .result) _ (st .args .out .now) (c .refused2 .ensures) (own-reply (names st) (st .args .out .now) (fine e) _ (own-is (c .before .before)) (c .before .if2 .taken))
+    replied-refused (c .refused2 .result) _ (st .args .out .now) (c .refused2 .ensures) (own-reply (names st) (st .args .out .now) (fine e .none) _ (own-is (c .before .before)) (c .before .if2 .taken))
 
 extent-requires : tie.Need-extent-requires
 extent-requires c κs = let h = high c in omega arith
@@ -156,7 +139,7 @@ add-with-length c =
     let p = c .before .before in
     let e = p .before .before in
     let st = e .before .before .before .before in
-    omega (arith, extents-small (st .args .g) (st .args .k) (st .args .ls) (st .args .rs) (st .args .l .now) (st .args .r .now) (good-left (e .before .before)) (good-right (e .before .before)) (joins e) (p .before .higher .result) (p .before .higher .ensures) (p .position .result) (axis-is p) _ _ (c .before .extent .ensures) (c .extent2 .ensures))
+    omega (arith, extents-small (st .args .g) (st .args .k) (st .args .ls) (st .args .rs) (st .args .l .now) (st .args .r .now) (fine (e .before .before) .left) (fine (e .before .before) .right) (joins e) (p .before .higher .result) (p .before .higher .ensures) (p .position .result) (axis-is p) _ _ (c .before .extent .ensures) (c .extent2 .ensures))
 
 returns-3 : tie.Need-returns-3
 returns-3 c =
@@ -164,26 +147,26 @@ returns-3 c =
     let e = n .before .before .before .before .before .before in
     let st = e .before .before .before .before in
     replied-refused (c .refused3 .result) 9 (st .args .out .now) (c .refused3 .ensures)
-    (limit-reply (names st) (st .args .out .now) (fine (e .before .before)) (none e) (made-no-rule (means st .lengths) (omega (arith, room n))))
+    (limit-reply (names st) (st .args .out .now) (fine (e .before .before) .none) (none e) (made-no-rule (means st .lengths) _ (room n) (omega arith)))
 
 returns-4 : tie.Need-returns-4
 returns-4 c =
     let n = c .before .before .before in
     let e = n .before .before .before .before .before .before in
     let st = e .before .before .before .before in
-    let small : countOf (shapeOf (means st .lengths)) ≤ maxCount = omega (arith, room n) in
+    let small : n .count .result ≤ maxCount = omega arith in
     replied-refused (c .refused4 .result) 10 (st .args .out .now) (c .refused4 .ensures)
-    (space-reply (names st) (st .args .out .now) (fine (e .before .before)) (none e) (made-rule (means st .lengths) small) (omega (arith, room n, made-count (means st .lengths) small)))
+    (space-reply (names st) (st .args .out .now) (fine (e .before .before) .none) (none e) (made-rule (means st .lengths) _ (room n) small) (omega (arith, made-count (means st .lengths) _ (room n) small)))
 
 part-join-into-end : tie.Need-part-join-into-end
 part-join-into-end c =
-    let g = good-left (c .before .before .before .before .before .before .before .before .before .before .before .before .before .before) in
+    let g = fine (c .before .before .before .before .before .before .before .before .before .before .before .before .before .before) .left in
     omega (arith, g .room, g .count-is, c .before .before .before .count2 .ensures)
 
 part-join-into-end-2 : tie.Need-part-join-into-end-2
 part-join-into-end-2 c =
     let q = c .before .before .before in
-    let g = good-right (q .before .before .before .before .before .before .before .before .before .before .before .before) in
+    let g = fine (q .before .before .before .before .before .before .before .before .before .before .before .before) .right in
     omega (arith, g .room, g .count-is, q .count3 .ensures)
 
 join-into-requires : tie.Need-join-into-requires
@@ -201,10 +184,10 @@ join-into-requires c κs =
       (
         h .1,
         (
-          total q ∙ sym (ap count (lengths-are (st .args .g) (st .args .k) (st .args .ls) (st .args .rs) (st .args .l .now) (st .args .r .now) (good-left (e .before .before)) (good-right (e .before .before)) (joins e) (p .before .higher .result) (p .before .higher .ensures) (p .position .result) (axis-is p) _ _ a b)),
+          total q ∙ sym (ap count (lengths-are (st .args .g) (st .args .k) (st .args .ls) (st .args .rs) (st .args .l .now) (st .args .r .now) (fine (e .before .before) .left) (fine (e .before .before) .right) (joins e) (p .before .higher .result) (p .before .higher .ensures) (p .position .result) (axis-is p) _ _ a b)),
           (
             q .before .before .before .if3 .left,
-            (q .before .before .if4 .left, (left-room (st .args .g) (st .args .k) (st .args .ls) (st .args .rs) (st .args .l .now) (st .args .r .now) (good-left (e .before .before)) (good-right (e .before .before)) (joins e) (p .before .higher .result) (p .before .higher .ensures) (p .position .result) (axis-is p) _ _ a b _ _ (u .0) (u .1), right-room (st .args .g) (st .args .k) (st .args .ls) (st .args .rs) (st .args .l .now) (st .args .r .now) (good-left (e .before .before)) (good-right (e .before .before)) (joins e) (p .before .higher .result) (p .before .higher .ensures) (p .position .result) (axis-is p) _ _ a b _ _ (u .0) (u .1))),
+            (q .before .before .if4 .left, (left-room (st .args .g) (st .args .k) (st .args .ls) (st .args .rs) (st .args .l .now) (st .args .r .now) (fine (e .before .before) .left) (fine (e .before .before) .right) (joins e) (p .before .higher .result) (p .before .higher .ensures) (p .position .result) (axis-is p) _ _ a b _ _ (u .0) (u .1), right-room (st .args .g) (st .args .k) (st .args .ls) (st .args .rs) (st .args .l .now) (st .args .r .now) (fine (e .before .before) .left) (fine (e .before .before) .right) (joins e) (p .before .higher .result) (p .before .higher .ensures) (p .position .result) (axis-is p) _ _ a b _ _ (u .0) (u .1))),
           ),
         ),
       ),
@@ -220,8 +203,8 @@ returns-5 c =
     let u = lists q in
     let out = st .args .out .now in
     replied-given _ (means st) out _ (ap (λ z. record { number = 0; shape = z }) (made (q .before .before .before .before .before)))
-    (catenate-out (st .args .g) (st .args .k) (st .args .ls) (st .args .rs) (st .args .l .now) (st .args .r .now) (good-left (e .before .before)) (good-right (e .before .before)) (joins e) (p .before .higher .result) (p .before .higher .ensures) (p .position .result) (axis-is p) _ _ (x .before .extent .ensures) (x .extent2 .ensures) _ _ (u .0) (u .1) _ out _ (total q) (c .before .join-into .ensures))
-    (given-reply (names st) out (fine (e .before .before)) (none e) (made-rule (means st .lengths) (small q)) (omega (arith, total q, q .before .before .if4 .left)))
+    (catenate-out (st .args .g) (st .args .k) (st .args .ls) (st .args .rs) (st .args .l .now) (st .args .r .now) (fine (e .before .before) .left) (fine (e .before .before) .right) (joins e) (p .before .higher .result) (p .before .higher .ensures) (p .position .result) (axis-is p) _ _ (x .before .extent .ensures) (x .extent2 .ensures) _ _ (u .0) (u .1) _ out _ (total q) (c .before .join-into .ensures))
+    (given-reply (names st) out (fine (e .before .before) .none) (none e) (made-rule (means st .lengths) _ (room (q .before .before .before .before)) (q .before .before .before .if3 .left)) (omega (arith, total q, q .before .before .if4 .left)))
 
 pub catenate-spec : {M : Type 1} → statement M
 catenate-spec =

@@ -1,12 +1,12 @@
 use borrow.Author.Needs.{needs}
 use native.Mathlib.Omega.{arith}
-use mathlib.Core.Path.{_≡_, sym, ap, ap₂, _∙_}
+use mathlib.Core.Path.{_≡_, refl, sym, ap, ap₂, _∙_}
 use mathlib.Core.List.{List, []}
 use mathlib.Core.Bool.{true}
 use lib.ListN.{length}
 use lib.Seq.{length-take-le}
 use lib.IntN.{ℤ, natAbs, _-ℤ_}
-use Rattle.signed.proofs.Reading.{read32}
+use Rattle.signed.proofs.Reading.{read-position}
 use Rattle.shape.specs.declared.Shape.{Shape}
 use Rattle.shape.specs.Shape.{maxRank, goodShape}
 use Rattle.shape.proofs.Counts.{good-rank}
@@ -67,7 +67,7 @@ besides c =
 found : (c : tie.After-position) → let st = c .before .before .before .before in c .position .result ≡ positionOf (st .args .k -ℤ st .args .g) (c .before .higher .result .rank)
 found c =
     let st = c .before .before .before .before in
-    c .position .ensures ∙ ap₂ (λ a b. positionOf (a -ℤ b) (c .before .higher .result .rank)) (read32 _ (st .fits .k)) (read32 _ (st .fits .g))
+    c .position .ensures ∙ read-position (c .before .higher .result .rank) _ _ (st .fits .k) (st .fits .g)
 
 on-axis : (c : tie.Else2)
     → let p = c .before .before in
@@ -76,8 +76,7 @@ on-axis : (c : tie.Else2)
 on-axis c =
     let p = c .before .before in
     let st = p .before .before .before .before in
-    let e = position-lt (st .args .k -ℤ st .args .g) (p .before .higher .result .rank) (omega (arith, found p, c .if2 .left)) in
-    (e .0, found p ∙ e .1)
+    position-lt (st .args .k -ℤ st .args .g) _ (p .before .higher .result .rank) _ refl (found p) (c .if2 .left)
 
 -- The other lengths.
 left-agrees : (c : tie.After-agrees) (x y : List ℤ)
@@ -106,7 +105,7 @@ returns c x y =
     let h = p .before in
     let st = h .before .before .before in
     sym (catenate-axis (st .args .g) (st .args .k) (left st x) (right st y) (tested (h .before .before) x y ∙ h .before .if1 .taken)
-    (ap (within _) (known h x y .rank-is) ∙ position-none _ _ (omega (arith, found p, c .if2 .taken))))
+    (position-none _ _ _ _ (known h x y .rank-is) (found p) (c .if2 .taken)))
 
 agrees-requires : tie.Need-agrees-requires
 agrees-requires c κs =

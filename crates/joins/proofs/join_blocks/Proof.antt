@@ -1,12 +1,12 @@
 use borrow.Author.Needs.{needs}
 use native.Mathlib.Omega.{arith}
-use native.Mathlib.Nat.{mul-le-mul-right}
+use Rattle.shape.proofs.Places.{row-fits}
 use Prim.Native.Nat.{_+_, _-_, _*_, _≤_}
 use mathlib.Core.Path.{_≡_, refl, ap, _∙_}
 use lib.ListN.{length}
 use Rattle.meaning.proofs.Sides.{sideAt}
 use Rattle.copying.proofs.Runs.{filled, length-filled}
-use Rattle.copying.proofs.Parts.{filled-start, part-long, part-kept}
+use Rattle.copying.proofs.Parts.{filled-start, part-long, part-room}
 use Rattle.joins.specs.Joined.{joinedAt}
 use Rattle.joins.proofs.Blocks.{left-more, right-more, sized-le}
 use Rattle.joins.proofs.join_blocks.Statement.{statement}
@@ -30,10 +30,10 @@ inside : (c : tie.In-loop Inv-loop μ-loop)
 inside c =
     let st = c .before .before in
     let o = c .before .loop .o in (
-      omega (arith, mul-le-mul-right {m = o + 1} {n = st .args .outer} (st .args .v + st .args .w) (omega arith)),
+      omega (arith, row-fits o (st .args .outer) (st .args .v + st .args .w) (omega arith)),
       (
-        omega (arith, mul-le-mul-right {m = o + 1} {n = st .args .outer} (st .args .v) (omega arith)),
-        omega (arith, mul-le-mul-right {m = o + 1} {n = st .args .outer} (st .args .w) (omega arith)),
+        omega (arith, row-fits o (st .args .outer) (st .args .v) (omega arith)),
+        omega (arith, row-fits o (st .args .outer) (st .args .w) (omega arith)),
       ),
     )
 
@@ -96,7 +96,7 @@ put-side-requires-2 c κs =
     let i = inside p in
     let e = left-more v w (sideAt (st .args .x) (st .args .l .now)) (sideAt (st .args .y) (st .args .r .now)) o (lp .out) out₀ _ _ (lp .inv .1 .1)
     (part-long (lp .out) (o * (v + w)) v (omega arith)) (q .put-side .ensures) in (
-      part-kept _ out₀ (o * (v + w) + v) w (ap length e ∙ length-filled _ (o * (v + w) + v) out₀ (omega arith)) (omega arith),
+      part-room _ (o * (v + w) + v) w (length out₀) (ap length e ∙ length-filled _ (o * (v + w) + v) out₀ (omega arith)) (omega arith),
       (omega arith, omega (arith, sized-le (st .args .y) (o * w + w) (st .args .outer * w) (i .1 .1))),
     )
 
@@ -114,7 +114,7 @@ loop-again c =
     let out₀ = st .args .out .now in
     let i = inside p in
     let e = left-more v w f g o (lp .out) out₀ _ _ (lp .inv .1 .1) (part-long (lp .out) (o * (v + w)) v (omega arith)) (q .put-side .ensures) in
-    let d = right-more v w f g o _ out₀ _ _ e (part-kept _ out₀ (o * (v + w) + v) w (ap length e ∙ length-filled _ (o * (v + w) + v) out₀ (omega arith)) (omega arith)) (c .before .put-side2 .ensures) in
+    let d = right-more v w f g o _ out₀ _ _ e (part-room _ (o * (v + w) + v) w (length out₀) (ap length e ∙ length-filled _ (o * (v + w) + v) out₀ (omega arith)) (omega arith)) (c .before .put-side2 .ensures) in
     (omega arith, (ap length d ∙ length-filled _ ((o + 1) * (v + w)) out₀ (omega arith), d))
 
 returns : tie.Need-returns Inv-loop μ-loop

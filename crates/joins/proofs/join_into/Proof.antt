@@ -8,9 +8,9 @@ use Rattle.shape.specs.declared.Around.{Around}
 use Rattle.shape.specs.Shape.{maxRank, counted}
 use Rattle.shape.proofs.Surround.{Parts, parts}
 use Rattle.meaning.proofs.Sides.{sideAt}
-use Rattle.copying.proofs.Runs.{filled}
+use Rattle.copying.proofs.Runs.{filled, filled-none}
 use Rattle.joins.specs.Joined.{joinedAt, sized}
-use Rattle.joins.proofs.Blocks.{Widths, widths, filled-zero}
+use Rattle.joins.proofs.Blocks.{Widths, widths}
 use Rattle.joins.proofs.join_into.Statement.{statement}
 use Rattle.joins.proofs.join_into.Tie as tie
 use Rattle.joins.proofs.join_into.Reads as reads
@@ -34,7 +34,7 @@ around-widths c =
     widths (st .args .hs) (st .args .k) (st .args .a) (st .args .b) (st .args .total) (omega arith) (around-parts c)
 
 returns : tie.Need-returns
-returns c = filled-zero _ _ _ (c .if1 .taken)
+returns c = rw (c .if1 .taken) (filled-none _ _)
 
 mul-join-blocks : tie.Need-mul-join-blocks
 mul-join-blocks c = rw (c .around .ensures) (omega (arith, around-widths (c .before) .left-small, c .before .before .pre .1 .1 .1 .0))

@@ -1,10 +1,11 @@
 use borrow.Author.Needs.{needs}
 use native.Mathlib.Omega.{arith}
-use mathlib.Core.Path.{_≡_, sym, ap, ap₂, _∙_}
+use mathlib.Core.Path.{_≡_, refl, sym, ap, ap₂, _∙_}
 use mathlib.Core.Bool.{_&&_}
 use lib.ListN.{length}
 use Rattle.signed.proofs.Reading.{read32}
 use Rattle.shape.specs.Shape.{maxRank, shapeOf}
+use Rattle.shape.proofs.Made.{made-is}
 use Rattle.meaning.specs.Array.{Operand, arrayOf, goodForm}
 use Rattle.meaning.specs.Primitives.{indexOf}
 use Rattle.copying.proofs.Runs.{filled}
@@ -14,7 +15,7 @@ use Rattle.answer.proofs.Lent.{lent-part, FineTwo, fine-two}
 use lib.IntN.{natAbs}
 use Rattle.signed.proofs.Equal.{origin-is}
 use Rattle.lookups.specs.Found.{positions}
-use Rattle.lookups.proofs.Lookup.{same-shape, index-names, index-rank, index-none, index-lengths, index-count, index-rule, index-out}
+use Rattle.lookups.proofs.Lookup.{index-names, index-rank, index-none, index-lengths, index-count, index-rule, index-out}
 use Rattle.lookups.proofs.index_of.Statement.{statement}
 use Rattle.lookups.proofs.index_of.Tie as tie
 
@@ -110,7 +111,7 @@ returns-4 c K =
     let l = arrayOf (left st) in
     let r = arrayOf (right st) in
     replied-given _ (indexOf G l r) out _
-    (ap (λ y. record { number = 0; shape = y }) (c .of-lengths .ensures ∙ same-shape (st .args .rs) (g .high) ∙ ap shapeOf (sym (index-lengths G l r))))
+    (ap (λ y. record { number = 0; shape = y }) (c .of-lengths .ensures ∙ made-is _ _ _ (g .high) refl ∙ ap shapeOf (sym (index-lengths G l r))))
     (c .before .before .before .put-positions .ensures
     ∙ ap₂ (λ x y. filled (positions (z .size .result) x y) (length y) out) (lent-part (st .args .ls) (st .args .l .now) (fine e .left) _ (m .before .count .ensures))
     (lent-part (st .args .rs) (st .args .r .now) g _ (m .count2 .ensures))

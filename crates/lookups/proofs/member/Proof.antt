@@ -1,10 +1,11 @@
 use borrow.Author.Needs.{needs}
 use native.Mathlib.Omega.{arith}
-use mathlib.Core.Path.{_≡_, sym, ap, ap₂, _∙_}
+use mathlib.Core.Path.{_≡_, refl, sym, ap, ap₂, _∙_}
 use mathlib.Core.Bool.{_&&_}
 use lib.ListN.{length}
 use Rattle.signed.proofs.Reading.{read32}
 use Rattle.shape.specs.Shape.{maxRank, shapeOf}
+use Rattle.shape.proofs.Made.{made-is}
 use Rattle.meaning.specs.Array.{Operand, arrayOf, goodForm}
 use Rattle.meaning.specs.Primitives.{member}
 use Rattle.copying.proofs.Runs.{filled}
@@ -12,7 +13,7 @@ use Rattle.answer.specs.Answer.{lent, early}
 use Rattle.answer.proofs.Order.{early-reply, space-reply, given-reply, replied-refused, replied-given}
 use Rattle.answer.proofs.Lent.{lent-part, FineTwo, fine-two}
 use Rattle.lookups.specs.Found.{members}
-use Rattle.lookups.proofs.Lookup.{same-shape, member-names, member-none, member-lengths, member-count, member-rule, member-out}
+use Rattle.lookups.proofs.Lookup.{member-names, member-none, member-lengths, member-count, member-rule, member-out}
 use Rattle.lookups.proofs.member.Statement.{statement}
 use Rattle.lookups.proofs.member.Tie as tie
 
@@ -80,7 +81,7 @@ returns-3 c K =
     let l = arrayOf (left st) in
     let r = arrayOf (right st) in
     replied-given _ (member l r) out _
-    (ap (λ z. record { number = 0; shape = z }) (c .of-lengths .ensures ∙ same-shape (st .args .ls) (g .high) ∙ ap shapeOf (sym (member-lengths l r))))
+    (ap (λ z. record { number = 0; shape = z }) (c .of-lengths .ensures ∙ made-is _ _ _ (g .high) refl ∙ ap shapeOf (sym (member-lengths l r))))
     (c .before .before .before .put-found .ensures
     ∙ ap₂ (λ x y. filled (members x y) (length x) out) (lent-part (st .args .ls) (st .args .l .now) g _ (m .before .count .ensures))
     (lent-part (st .args .rs) (st .args .r .now) (fine e .right) _ (m .count2 .ensures))

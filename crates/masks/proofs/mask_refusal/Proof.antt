@@ -3,7 +3,7 @@ use mathlib.Core.Bool.{Bool, true, false}
 use Prim.Native.Nat.{_-_, _≤_}
 use native.Mathlib.Omega.{arith}
 use lib.Dec.{eqb}
-use lib.Seq.{length-take-le}
+use lib.Seq.{length-take-le, getD-take}
 use mathlib.Core.List.{List}
 use lib.IntN.{ℤ, natAbs, _-ℤ_}
 use lib.ListN.{length, getD, take}
@@ -12,13 +12,13 @@ use Rattle.shape.specs.Shape.{maxRank, counted}
 use Rattle.shape.proofs.Counts.{good-rank}
 use Rattle.meaning.specs.Array.{Array, arrayOf}
 use Rattle.meaning.specs.Terms.{rank, within}
-use Rattle.meaning.proofs.Positions.{positionOf}
-use Rattle.signed.proofs.Reading.{read32}
+use Rattle.meaning.proofs.Positions.{positionOf, position-lt, position-none}
+use Rattle.signed.proofs.Reading.{read-position}
 use Rattle.answer.specs.Answer.{lent, own}
 use Rattle.meaning.specs.Primitives.{Meaning}
 use Rattle.answer.proofs.Lent.{Lent, lent-good, lent-part}
 use Rattle.masks.specs.Vector.{vectorShape}
-use Rattle.masks.proofs.Results.{vector-long, vector-high, axis-named, axis-unnamed, axis-length}
+use Rattle.masks.proofs.Results.{vector-long, vector-high}
 use Rattle.masks.specs.Uses.{numbered, masking, maskFits, maskTest}
 use Rattle.masks.proofs.Masking.{maskingOf, masking-rank, masking-axis, masking-test, masking-refusal}
 use borrow.Author.Needs.{needs}
@@ -49,10 +49,13 @@ s-high c =
     let st = c .before .before .before in
     omega (arith, ap (λ (x : Shape). x .rank) (c .as-vector .ensures), vector-high (st .args .rs) (good-rank (st .args .rs) (st .pre .1)))
 
+s-rank : (c : tie.After-as-vector) → length (counted (c .as-vector .result)) ≡ c .as-vector .result .rank
+s-rank c = length-take-le (c .as-vector .result .rank) (c .as-vector .result .lens) (omega (arith, s-long c, s-high c))
+
 at-is : (c : tie.After-position) → c .position .result ≡ positionOf (c .before .before .before .before .args .k -ℤ c .before .before .before .before .args .g) (c .before .as-vector .result .rank)
 at-is c =
     let st = c .before .before .before .before in
-    c .position .ensures ∙ ap₂ (λ x y. positionOf (x -ℤ y) (c .before .as-vector .result .rank)) (read32 _ (st .fits .k)) (read32 _ (st .fits .g))
+    c .position .ensures ∙ read-position (c .before .as-vector .result .rank) _ _ (st .fits .k) (st .fits .g)
 
 -- The refusals, by a shape that R is read with.
 abbrev given : tie.Start → Shape → List ℤ → Meaning
@@ -64,8 +67,10 @@ by-shape st s e b =
     let rs = st .args .rs in
     masking-refusal (st .args .expands) (st .args .g) (st .args .k) (left st) rs b s e (length-take-le (rs .rank) (rs .lens) (omega (arith, long st, good-rank rs (st .pre .1))))
 
-has : (c : tie.Else2) → within (c .before .before .before .before .before .args .k -ℤ c .before .before .before .before .before .args .g) (length (counted (c .before .before .as-vector .result))) ≡ true
-has c = let st = c .before .before .before .before .before in axis-named (st .args .g) (st .args .k) (c .before .before .as-vector .result) (s-long (c .before .before)) (s-high (c .before .before)) _ (at-is (c .before)) (omega arith)
+has : (c : tie.Else2)
+    → (let st = c .before .before .before .before .before in
+    (within (st .args .k -ℤ st .args .g) (length (counted (c .before .before .as-vector .result))) ≡ true) × (c .before .position .result ≡ natAbs (st .args .k -ℤ st .args .g)))
+has c = position-lt _ _ _ _ (s-rank (c .before .before)) (at-is (c .before)) (omega arith)
 
 mask-is : (c : tie.After-count)
     → (let st = c .before .before .before .before .before .before in take (c .count .result - 0) (st .args .l .now) ≡ left st .elements)
@@ -77,9 +82,8 @@ length-is : (c : tie.After-count)
     getD (v .as-vector .result .lens) (c .before .before .position .result) 0 ≡ getD (counted (v .as-vector .result)) (natAbs (st .args .k -ℤ st .args .g)) 0)
 length-is c =
     let p = c .before .before in
-    let v = p .before in
-    let st = v .before .before .before in
-    sym (axis-length (st .args .g) (st .args .k) (v .as-vector .result) (s-long v) (s-high v) _ (at-is p) (omega arith))
+    let s = p .before .as-vector .result in
+    sym (getD-take (s .rank) (s .lens) (p .position .result) 0 (omega arith)) ∙ ap (λ x. getD (counted s) x 0) (has (c .before) .1)
 
 -- What the mask meets.
 tested : (c : tie.After-count) (e : Bool) → c .before .before .before .before .before .before .args .expands ≡ e → (b : List ℤ)
@@ -93,7 +97,7 @@ tested c e q b =
     let s = v .as-vector .result in
     ap₂ (maskTest e (eqb (st .args .rs .rank) 0)) (mask-is c) (length-is c)
     ∙ ap (λ x. maskTest x (eqb (st .args .rs .rank) 0) (left st .elements) (getD (counted s) (natAbs (st .args .k -ℤ st .args .g)) 0)) (sym q)
-    ∙ sym (masking-test (st .args .g) (st .args .k) (left st) (eqb (st .args .rs .rank) 0) (arrayOf (lent s b)) (st .args .expands) (list (v .before)) (has (c .before)))
+    ∙ sym (masking-test (st .args .g) (st .args .k) (left st) (eqb (st .args .rs .rank) 0) (arrayOf (lent s b)) (st .args .expands) (list (v .before)) (has (c .before) .0))
     ∙ by-shape st s (v .as-vector .ensures) b
 
 inside : (c : tie.After-count) → c .count .result ≤ length (c .before .before .before .before .before .before .args .l .now)
@@ -117,7 +121,7 @@ returns-2 c b =
     sym
     (sym (by-shape st s (v .as-vector .ensures) b)
     ∙ masking-axis (st .args .g) (st .args .k) (left st) (eqb (st .args .rs .rank) 0) (arrayOf (lent s b)) (st .args .expands) (list (v .before))
-    (axis-unnamed (st .args .g) (st .args .k) s (s-long v) (s-high v) _ (at-is (c .before)) (omega arith)))
+    (position-none _ _ _ _ (s-rank v) (at-is (c .before)) (omega arith)))
 
 -- src/lib.rt:137:13
 mul-n : tie.Need-mul-n

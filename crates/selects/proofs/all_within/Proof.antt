@@ -46,13 +46,13 @@ returns : tie.Need-returns Inv-loop μ-loop
 returns c =
     let lp = c .before .before .before .before in
     let st = lp .before in
-    sym (sym (read st) ∙ lp .loop .inv .1 ∙ every-stop (test st) (st .args .l .now) (lp .loop .i) (pos 0) (omega arith) (position-none _ _ (omega (arith, found (c .before), c .if1 .taken))))
+    sym (sym (read st) ∙ lp .loop .inv .1 ∙ every-stop (test st) (st .args .l .now) (lp .loop .i) (pos 0) (omega arith) (position-none _ _ _ _ refl (found (c .before)) (c .if1 .taken)))
 
 loop-again : tie.Need-loop-again Inv-loop μ-loop
 loop-again c =
     let lp = c .before .before .before .before in
     let st = lp .before in
-    (omega arith, lp .loop .inv .1 ∙ every-next (test st) (st .args .l .now) (lp .loop .i) (pos 0) (omega arith) (position-lt _ _ (omega (arith, found (c .before), c .if1 .left)) .0))
+    (omega arith, lp .loop .inv .1 ∙ every-next (test st) (st .args .l .now) (lp .loop .i) (pos 0) (omega arith) (position-lt _ _ _ _ refl (found (c .before)) (c .if1 .left) .0))
 
 returns-2 : tie.Need-returns-2 Inv-loop μ-loop
 returns-2 c =

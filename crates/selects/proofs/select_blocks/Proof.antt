@@ -1,6 +1,6 @@
 use borrow.Author.Needs.{needs}
 use native.Mathlib.Omega.{arith}
-use native.Mathlib.Nat.{mul-le-mul-right}
+use Rattle.shape.proofs.Places.{row-fits}
 use mathlib.Core.Path.{_≡_, refl, ap, ap₂, _∙_}
 use Prim.Native.Nat.{_-_, _*_, _≤_, _+_}
 use lib.ListN.{length, getD}
@@ -41,8 +41,8 @@ inside : (c : tie.In-loop Inv-loop μ-loop)
 inside c =
     let st = c .before .before in
     let o = c .before .loop .o in (
-      omega (arith, mul-le-mul-right {m = o + 1} {n = st .args .outer} (st .args .n * st .args .inner) (omega arith)),
-      omega (arith, mul-le-mul-right {m = o + 1} {n = st .args .outer} (length (st .args .l .now) * st .args .inner) (omega arith)),
+      omega (arith, row-fits o (st .args .outer) (st .args .n * st .args .inner) (omega arith)),
+      omega (arith, row-fits o (st .args .outer) (length (st .args .l .now) * st .args .inner) (omega arith)),
     )
 
 loop-holds : tie.Need-loop-holds Inv-loop μ-loop
@@ -103,9 +103,9 @@ loop-again c =
     let n = st .args .n in
     let w = st .args .inner in
     let i = inside p in
-    let e = block-more (length l) n w (chosen (toZ w32 (ofZ w32 (st .args .g))) l) (lp .o) (lp .o * (length l * w)) (lp .o * (length l * w) + length l * w) (lp .o * (n * w)) (lp .o * (n * w) + n * w)
+    let e = block-more (length l) n w (chosen (toZ w32 (ofZ w32 (st .args .g))) l) (lp .o) (lp .o * (length l * w)) (lp .o * (n * w))
     (st .args .r .now) (lp .out) out₀ _ _ (λ i h. within-lt (getD l i (pos 0) -ℤ toZ w32 (ofZ w32 (st .args .g))) n (positions st i h))
-    (lp .inv .1 .1) refl refl refl refl (part-long (lp .out) (lp .o * (length l * w)) (length l * w) (omega arith)) (c .before .select-block .ensures) in
+    (lp .inv .1 .1) refl refl (part-long (lp .out) (lp .o * (length l * w)) (length l * w) (omega arith)) (c .before .select-block .ensures) in
     (omega arith, (ap length e ∙ length-filled _ ((lp .o + 1) * (length l * w)) out₀ (omega arith), e))
 
 returns : tie.Need-returns Inv-loop μ-loop

@@ -14,10 +14,11 @@ use Rattle.meaning.specs.Terms.{within}
 use Rattle.meaning.proofs.Positions.{within-lt}
 use Rattle.copying.proofs.Runs.{filled}
 use Rattle.copying.proofs.Blocks.{source}
+use Rattle.meaning.proofs.Arrays.{none-made}
 use Rattle.answer.proofs.Lent.{Lent, lent-good}
 use Rattle.answer.proofs.Moved.{along-lent}
 use Rattle.selects.specs.Chosen.{chosen, Chosen}
-use Rattle.selects.proofs.Selecting.{Blocks, blocks, none-made}
+use Rattle.selects.proofs.Selecting.{Blocks, blocks}
 use Rattle.selects.proofs.select_into.Statement.{statement}
 use Rattle.selects.proofs.select_into.Tie as tie
 use Rattle.selects.proofs.select_into.Reads as reads
@@ -49,7 +50,7 @@ positions c i h =
     ap (λ n. within (getD (st .args .l .now) i (pos 0) -ℤ st .args .g) n) (around-parts c .length-is) ∙ st .pre .1 .1 .0 i h
 
 returns : tie.Need-returns
-returns c = let st = c .before in none-made _ _ (st .args .total) (st .args .out .now) (st .pre .1 .1 .1 .0) (c .if1 .taken)
+returns c = let st = c .before in none-made _ _ (st .args .total) (st .args .out .now) (sym (st .pre .1 .1 .1 .0) ∙ c .if1 .taken) (c .if1 .taken)
 
 select-blocks-requires : tie.Need-select-blocks-requires
 select-blocks-requires c κs =

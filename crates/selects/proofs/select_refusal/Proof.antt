@@ -1,21 +1,20 @@
 use borrow.Author.Needs.{needs}
 use native.Mathlib.Omega.{arith}
-use native.Mathlib.Nat.{sub-zero}
 use Prim.Native.Nat.{_-_, _<_, _≤_}
-use mathlib.Core.Path.{_≡_, sym, ap, ap₂, _∙_}
+use mathlib.Core.Path.{_≡_, refl, sym, ap, ap₂, _∙_}
 use mathlib.Core.List.{List}
 use mathlib.Core.Bool.{true}
 use lib.ListN.{length, getD, take}
 use lib.Seq.{length-take-le}
 use lib.IntN.{ℤ, natAbs, _-ℤ_}
-use Rattle.signed.proofs.Reading.{read32}
+use Rattle.signed.proofs.Reading.{read32, read-position}
 use Rattle.shape.specs.Shape.{maxRank}
 use Rattle.shape.proofs.Counts.{good-rank}
 use Rattle.meaning.specs.Array.{Array, arrayOf}
 use Rattle.meaning.specs.Terms.{rank, axis, within, every}
 use Rattle.meaning.proofs.Positions.{positionOf, position-lt, position-none}
 use Rattle.answer.specs.Answer.{lent}
-use Rattle.answer.proofs.Lent.{Lent, lent-good, axis-is}
+use Rattle.answer.proofs.Lent.{Lent, lent-good, lent-part, axis-is}
 use Rattle.selects.proofs.Selecting.{select-scalar, select-rank, select-axis, select-index, select-none}
 use Rattle.selects.proofs.select_refusal.Statement.{statement}
 use Rattle.selects.proofs.select_refusal.Tie as tie
@@ -54,15 +53,14 @@ list c = omega (arith, good (c .before .before .before) .rank-is)
 found : (c : tie.After-position) → let st = c .before .before .before .before in c .position .result ≡ positionOf (st .args .k -ℤ st .args .g) (st .args .t5 .rank)
 found c =
     let st = c .before .before .before .before in
-    c .position .ensures ∙ ap₂ (λ x y. positionOf (x -ℤ y) (st .args .t5 .rank)) (read32 _ (st .fits .k)) (read32 _ (st .fits .g))
+    c .position .ensures ∙ read-position (st .args .t5 .rank) _ _ (st .fits .k) (st .fits .g)
 
 on-axis : (c : tie.Else3)
     → let st = c .before .before .before .before .before in
     (within (st .args .k -ℤ st .args .g) (st .args .t5 .rank) ≡ true) × (c .before .position .result ≡ natAbs (st .args .k -ℤ st .args .g))
 on-axis c =
     let st = c .before .before .before .before .before in
-    let e = position-lt (st .args .k -ℤ st .args .g) (st .args .t5 .rank) (omega (arith, found (c .before), c .if3 .left)) in
-    (e .0, found (c .before) ∙ e .1)
+    position-lt (st .args .k -ℤ st .args .g) _ (st .args .t5 .rank) _ refl (found (c .before)) (c .if3 .left)
 
 tested : (c : tie.After-all-within) (b : List ℤ)
     → let st = c .before .before .before .before .before .before .before .before .before in
@@ -71,12 +69,11 @@ tested c b =
     let e = c .before .before .before .before in
     let st = e .before .before .before .before .before in
     let at : e .before .position .result ≡ natAbs (st .args .k -ℤ st .args .g) = on-axis e .1 in
-    let g = good st in
     c .all-within .ensures
     ∙ ap (λ G. every (λ z. within (z -ℤ G) (getD (st .args .t5 .lens) (e .before .position .result) 0)) (take (c .before .before .count .result - 0) (st .args .l .now))) (read32 _ (st .fits .g))
     ∙ ap₂ (λ n xs. every (λ z. within (z -ℤ st .args .g) n) xs)
     (ap (λ i. getD (st .args .t5 .lens) i 0) at ∙ sym (axis-is (st .args .t5) b (natAbs (st .args .k -ℤ st .args .g)) (omega arith)))
-    (ap (λ n. take n (st .args .l .now)) (sub-zero _ ∙ c .before .before .count .ensures ∙ g .count-is))
+    (lent-part (st .args .ls) (st .args .l .now) (good st) _ (c .before .before .count .ensures))
 
 returns : tie.Need-returns
 returns c b = sym (select-scalar (c .before .args .g) (c .before .args .k) (left (c .before)) (right (c .before) b) (rank-is (c .before) b ∙ c .if1 .taken))
@@ -92,7 +89,7 @@ returns-3 c b =
     let e = c .before .before in
     let st = e .before .before .before in
     sym (select-axis (st .args .g) (st .args .k) (left st) (right st b) (some (e .before .before) b) (list e)
-    (ap (within _) (rank-is st b) ∙ position-none _ _ (omega (arith, found (c .before), c .if3 .taken))))
+    (position-none _ _ _ _ (rank-is st b) (found (c .before)) (c .if3 .taken)))
 
 mul-n : tie.Need-mul-n
 mul-n c = let h = high (c .before .before .before .before .before) in search needs

@@ -3,7 +3,7 @@ use native.Mathlib.Omega.{arith}
 use mathlib.Core.Path.{_≡_, refl, sym, ap, ap₂, _∙_}
 use Prim.Native.Nat.{_-_, _*_, _≤_, _<_, _+_}
 use lib.ListN.{length, getD}
-use native.Mathlib.Nat.{mul-le-mul-right}
+use Rattle.shape.proofs.Places.{row-fits}
 use lib.IntN.{pos, natAbs, _-ℤ_}
 use Rattle.signed.proofs.Reading.{read32}
 use mir.Syntax.{w32}
@@ -46,8 +46,8 @@ inside : (c : tie.After-chosen-at Inv-loop μ-loop)
 inside c =
     let st = c .before .before .before .before in
     let f = found c .1 in (
-      omega (arith, mul-le-mul-right {m = c .chosen-at .result + 1} {n = st .args .n} (st .args .inner) (omega arith)),
-      omega (arith, mul-le-mul-right {m = c .before .before .before .loop .q + 1} {n = length (st .args .l .now)} (st .args .inner) (omega arith)),
+      omega (arith, row-fits (c .chosen-at .result) (st .args .n) (st .args .inner) (omega arith)),
+      omega (arith, row-fits (c .before .before .before .loop .q) (length (st .args .l .now)) (st .args .inner) (omega arith)),
     )
 
 loop-holds : tie.Need-loop-holds Inv-loop μ-loop

@@ -6,7 +6,8 @@ use borrow.Author.Needs.{needs}
 use lib.ListN.{take, replicate}
 use Rattle.shape.specs.Shape.{maxRank}
 use Rattle.meaning.specs.Primitives.{backwards}
-use Rattle.transposes.proofs.Choosing.{length-backwards, backwards-more, padded-all}
+use Rattle.meaning.proofs.Sent.{length-backwards}
+use Rattle.transposes.proofs.Choosing.{backwards-more, padded-all}
 use Rattle.transposes.proofs.backwards.Statement.{statement}
 use Rattle.transposes.proofs.backwards.Tie as tie
 

@@ -1,18 +1,19 @@
-use mathlib.Core.Path.{_≡_, sym, ap, ap₂, _∙_}
+use mathlib.Core.Path.{_≡_, refl, sym, ap, _∙_}
 use mathlib.Core.Bool.{true}
 use native.Mathlib.Omega.{arith}
 use lib.ListN.{length}
 use lib.IntN.{_-ℤ_, natAbs}
 use Rattle.shape.specs.Shape.{maxRank, shapeOf}
-use Rattle.signed.proofs.Reading.{read32}
+use Rattle.shape.proofs.Made.{made-is}
+use Rattle.signed.proofs.Reading.{read32, read-position}
 use Rattle.meaning.specs.Array.{arrayOf, goodForm}
 use Rattle.meaning.specs.Terms.{rank, asVector, within}
 use Rattle.meaning.specs.Primitives.{reverse}
-use Rattle.meaning.proofs.Positions.{positionOf}
+use Rattle.meaning.proofs.Positions.{positionOf, position-lt, position-none}
 use Rattle.answer.specs.Answer.{lent, early}
 use Rattle.answer.proofs.Order.{early-reply, own-reply, space-reply, given-reply, replied-refused, replied-given}
-use Rattle.answer.proofs.Lent.{Lent, lent-good, early-fine, made-is}
-use Rattle.turns.proofs.Axes.{axis-missing, axis-named}
+use Rattle.answer.proofs.Lent.{FineOne, fine-one}
+use Rattle.turns.proofs.Axes.{axes-are}
 use Rattle.turns.proofs.Reversal.{reverse-names, reverse-axis, reverse-none, reverse-rule, reverse-lengths, reverse-out}
 use borrow.Author.Needs.{needs}
 use Rattle.turns.proofs.reverse.Statement.{statement}
@@ -31,28 +32,22 @@ use Rattle.turns.proofs.turn_into.Reads as turn-into-reads
 early-is : (c : tie.After-early-one) → c .early-one .result ≡ early (goodForm (lent (c .before .args .rs) (c .before .args .r .now))) (c .before .args .g)
 early-is c = c .early-one .ensures ∙ ap (early _) (read32 _ (c .before .fits .g))
 
-fine : (c : tie.Else1) → early (goodForm (lent (c .before .before .args .rs) (c .before .before .args .r .now))) (c .before .before .args .g) ≡ 0
-fine c = sym (early-is (c .before)) ∙ c .if1 .left
-
-form : (c : tie.Else1) → goodForm (lent (c .before .before .args .rs) (c .before .before .args .r .now)) ≡ true
-form c = early-fine (c .before .before .args .g) _ (fine c) .forms
-
-good : (c : tie.Else1) → Lent (c .before .before .args .rs) (c .before .before .args .r .now)
-good c =
+fine : (c : tie.Else1) → FineOne (c .before .before .args .g) (c .before .before .args .rs) (c .before .before .args .r .now)
+fine c =
     let long : length (c .before .before .args .rs .lens) ≡ maxRank = search needs in
-    lent-good (c .before .before .args .rs) (c .before .before .args .r .now) long (form c)
+    fine-one (c .before .before .args .g) (c .before .before .args .rs) (c .before .before .args .r .now) long (sym (early-is (c .before)) ∙ c .if1 .left)
 
 -- Where the axis is.
 position-is : (c : tie.After-position) → c .position .result ≡ positionOf (c .before .before .before .before .args .k -ℤ c .before .before .before .before .args .g) (c .before .axes-of .result)
 position-is c =
     let st = c .before .before .before .before in
-    c .position .ensures ∙ ap₂ (λ x y. positionOf (x -ℤ y) (c .before .axes-of .result)) (read32 _ (st .fits .k)) (read32 _ (st .fits .g))
+    c .position .ensures ∙ read-position (c .before .axes-of .result) _ _ (st .fits .k) (st .fits .g)
 
 named : (c : tie.Else2) → (within (c .before .before .before .before .before .args .k -ℤ c .before .before .before .before .before .args .g) (rank (asVector (arrayOf (lent (c .before .before .before .before .before .args .rs) (c .before .before .before .before .before .args .r .now))))) ≡ true)
     × (c .before .position .result ≡ natAbs (c .before .before .before .before .before .args .k -ℤ c .before .before .before .before .before .args .g))
 named c =
     let st = c .before .before .before .before .before in
-    axis-named (st .args .rs) (st .args .r .now) (good (c .before .before .before)) _ _ (st .args .k) (st .args .g) (c .before .before .axes-of .ensures) (position-is (c .before)) (omega arith)
+    position-lt _ _ _ _ (axes-are (st .args .rs) (st .args .r .now) (fine (c .before .before .before) .operand) _ (c .before .before .axes-of .ensures)) (position-is (c .before)) (omega arith)
 
 -- src/lib.rt:28:9
 returns : tie.Need-returns
@@ -68,9 +63,9 @@ returns-2 c L =
     let e = c .before .before .before .before in
     let a = arrayOf (lent (st .args .rs) (st .args .r .now)) in
     replied-refused (c .refused2 .result) 5 (st .args .out .now) (c .refused2 .ensures)
-    (own-reply (reverse-names (st .args .g) (st .args .k) L (lent (st .args .rs) (st .args .r .now))) (st .args .out .now) (fine e) 5
+    (own-reply (reverse-names (st .args .g) (st .args .k) L (lent (st .args .rs) (st .args .r .now))) (st .args .out .now) (fine e .none) 5
     (reverse-axis (st .args .g) (st .args .k) a
-    (axis-missing (st .args .rs) (st .args .r .now) (good e) _ _ (st .args .k) (st .args .g) (c .before .before .before .axes-of .ensures) (position-is (c .before .before)) (omega arith)))
+    (position-none _ _ _ _ (axes-are (st .args .rs) (st .args .r .now) (fine e .operand) _ (c .before .before .before .axes-of .ensures)) (position-is (c .before .before)) (omega arith)))
     (λ z. omega arith))
 
 -- src/lib.rt:37:9
@@ -81,16 +76,16 @@ returns-3 c L =
     let e = e2 .before .before .before in
     let a = arrayOf (lent (st .args .rs) (st .args .r .now)) in
     replied-refused (c .refused3 .result) 10 (st .args .out .now) (c .refused3 .ensures)
-    (space-reply (reverse-names (st .args .g) (st .args .k) L (lent (st .args .rs) (st .args .r .now))) (st .args .out .now) (fine e)
-    (reverse-none (st .args .g) (st .args .k) a (named e2 .0)) (reverse-rule (st .args .g) (st .args .k) a (good e .rule))
-    (rw (reverse-lengths (st .args .g) (st .args .k) a) (omega (arith, good e .count-is, c .before .before .count .ensures))))
+    (space-reply (reverse-names (st .args .g) (st .args .k) L (lent (st .args .rs) (st .args .r .now))) (st .args .out .now) (fine e .none)
+    (reverse-none (st .args .g) (st .args .k) a (named e2 .0)) (reverse-rule (st .args .g) (st .args .k) a (fine e .operand .rule))
+    (rw (reverse-lengths (st .args .g) (st .args .k) a) (omega (arith, fine e .operand .count-is, c .before .before .count .ensures))))
 
 -- src/lib.rt:39:5
 turn-into-requires : tie.Need-turn-into-requires
 turn-into-requires c κs =
     let e2 = c .before .before .before in
     let e = e2 .before .before .before in
-    (form e, (c .before .before .count .ensures, (omega arith, omega (arith, e2 .before .before .axes-of .ensures))))
+    (fine e .operand .form, (c .before .before .count .ensures, (omega arith, omega (arith, e2 .before .before .axes-of .ensures))))
 
 -- src/lib.rt:21:1
 returns-4 : tie.Need-returns-4
@@ -98,13 +93,13 @@ returns-4 c L =
     let e2 = c .before .before .before .before .before .before .before in
     let st = e2 .before .before .before .before .before in
     let e = e2 .before .before .before in
-    let g = good e in
+    let g = fine e .operand in
     let a = arrayOf (lent (st .args .rs) (st .args .r .now)) in
     let m = reverse (st .args .g) (st .args .k) a in
     let t = c .before .before .before .before .before .before .count .ensures in
-    replied-given _ m (st .args .out .now) _ (ap (λ z. record { number = 0; shape = z }) (c .of-lengths .ensures ∙ made-is (st .args .rs) (st .args .r .now) g ∙ sym (ap shapeOf (reverse-lengths (st .args .g) (st .args .k) a))))
+    replied-given _ m (st .args .out .now) _ (ap (λ z. record { number = 0; shape = z }) (c .of-lengths .ensures ∙ made-is _ _ _ (g .high) refl ∙ sym (ap shapeOf (reverse-lengths (st .args .g) (st .args .k) a))))
     (reverse-out (st .args .g) (st .args .k) a _ _ (named e2 .1) (st .args .out .now) _ (c .before .before .before .turn-into .ensures))
-    (given-reply (reverse-names (st .args .g) (st .args .k) L (lent (st .args .rs) (st .args .r .now))) (st .args .out .now) (fine e)
+    (given-reply (reverse-names (st .args .g) (st .args .k) L (lent (st .args .rs) (st .args .r .now))) (st .args .out .now) (fine e .none)
     (reverse-none (st .args .g) (st .args .k) a (named e2 .0)) (reverse-rule (st .args .g) (st .args .k) a (g .rule))
     (rw (reverse-lengths (st .args .g) (st .args .k) a) (omega (arith, g .count-is, t))))
 

@@ -1,4 +1,4 @@
-use mathlib.Core.Path.{_≡_, sym, ap, ap₂, _∙_}
+use mathlib.Core.Path.{_≡_, refl, sym, ap, _∙_}
 use mathlib.Core.Bool.{true, _&&_}
 use native.Mathlib.Omega.{arith}
 use lib.ListN.{length}
@@ -6,16 +6,16 @@ use lib.IntN.{_-ℤ_, natAbs}
 use borrow.Author.Needs.{needs, sfits-of}
 use mir.Facts.{toZ-ofZ}
 use Rattle.shape.specs.Shape.{maxRank, shapeOf}
-use Rattle.shape.proofs.Bools.{both}
-use Rattle.signed.proofs.Reading.{read32}
+use Rattle.shape.proofs.Made.{made-is}
+use Rattle.signed.proofs.Reading.{read32, read-position}
 use Rattle.meaning.specs.Array.{arrayOf, goodForm}
 use Rattle.meaning.specs.Terms.{rank, asVector, isList, within}
 use Rattle.meaning.specs.Primitives.{rotate}
-use Rattle.meaning.proofs.Positions.{positionOf}
+use Rattle.meaning.proofs.Positions.{positionOf, position-lt, position-none}
 use Rattle.answer.specs.Answer.{lent, early}
 use Rattle.answer.proofs.Order.{early-reply, own-reply, space-reply, given-reply, replied-refused, replied-given}
-use Rattle.answer.proofs.Lent.{Lent, lent-good, early-fine, made-is}
-use Rattle.turns.proofs.Axes.{axis-missing, axis-named}
+use Rattle.answer.proofs.Lent.{FineTwo, fine-two}
+use Rattle.turns.proofs.Axes.{axes-are}
 use Rattle.turns.proofs.Rotation.{rotate-names, rotate-rank, rotate-axis, rotate-length, rotate-none, rotate-rule, rotate-lengths, rotate-out, list-yes, list-no, one-yes, one-no, amount-at}
 use Rattle.turns.proofs.rotate.Statement.{statement}
 use Rattle.turns.proofs.rotate.Tie as tie
@@ -34,37 +34,28 @@ early-is : (c : tie.After-early-two)
     → c .early-two .result ≡ early (goodForm (lent (c .before .args .ls) (c .before .args .l .now)) && goodForm (lent (c .before .args .rs) (c .before .args .r .now))) (c .before .args .g)
 early-is c = c .early-two .ensures ∙ ap (early _) (read32 _ (c .before .fits .g))
 
-fine : (c : tie.Else1) → early (goodForm (lent (c .before .before .args .ls) (c .before .before .args .l .now)) && goodForm (lent (c .before .before .args .rs) (c .before .before .args .r .now))) (c .before .before .args .g) ≡ 0
-fine c = sym (early-is (c .before)) ∙ c .if1 .left
-
-forms : (c : tie.Else1) → (goodForm (lent (c .before .before .args .ls) (c .before .before .args .l .now)) ≡ true) × (goodForm (lent (c .before .before .args .rs) (c .before .before .args .r .now)) ≡ true)
-forms c = both _ _ (early-fine (c .before .before .args .g) _ (fine c) .forms)
-
-left : (c : tie.Else1) → Lent (c .before .before .args .ls) (c .before .before .args .l .now)
-left c =
-    let long : length (c .before .before .args .ls .lens) ≡ maxRank = search needs in
-    lent-good (c .before .before .args .ls) (c .before .before .args .l .now) long (forms c .0)
-
-right : (c : tie.Else1) → Lent (c .before .before .args .rs) (c .before .before .args .r .now)
-right c =
-    let long : length (c .before .before .args .rs .lens) ≡ maxRank = search needs in
-    lent-good (c .before .before .args .rs) (c .before .before .args .r .now) long (forms c .1)
+fine : (c : tie.Else1) → let st = c .before .before in FineTwo (st .args .g) (st .args .ls) (st .args .l .now) (st .args .rs) (st .args .r .now)
+fine c =
+    let st = c .before .before in
+    let ll : length (st .args .ls .lens) ≡ maxRank = search needs in
+    let rl : length (st .args .rs .lens) ≡ maxRank = search needs in
+    fine-two (st .args .g) (st .args .ls) (st .args .l .now) (st .args .rs) (st .args .r .now) ll rl (sym (early-is (c .before)) ∙ c .if1 .left)
 
 -- L is a list.
 list : (c : tie.Else2) → isList (arrayOf (lent (c .before .before .before .before .args .ls) (c .before .before .before .before .args .l .now))) ≡ true
-list c = list-yes _ _ (left (c .before .before)) (omega arith)
+list c = list-yes _ _ (fine (c .before .before) .left) (omega arith)
 
 -- Where the axis is.
 position-is : (c : tie.After-position) → c .position .result ≡ positionOf (c .before .before .before .before .before .before .args .k -ℤ c .before .before .before .before .before .before .args .g) (c .before .axes-of .result)
 position-is c =
     let st = c .before .before .before .before .before .before in
-    c .position .ensures ∙ ap₂ (λ x y. positionOf (x -ℤ y) (c .before .axes-of .result)) (read32 _ (st .fits .k)) (read32 _ (st .fits .g))
+    c .position .ensures ∙ read-position (c .before .axes-of .result) _ _ (st .fits .k) (st .fits .g)
 
 named : (c : tie.Else3) → (within (c .before .before .before .before .before .before .before .args .k -ℤ c .before .before .before .before .before .before .before .args .g) (rank (asVector (arrayOf (lent (c .before .before .before .before .before .before .before .args .rs) (c .before .before .before .before .before .before .before .args .r .now))))) ≡ true)
     × (c .before .position .result ≡ natAbs (c .before .before .before .before .before .before .before .args .k -ℤ c .before .before .before .before .before .before .before .args .g))
 named c =
     let st = c .before .before .before .before .before .before .before in
-    axis-named (st .args .rs) (st .args .r .now) (right (c .before .before .before .before .before)) _ _ (st .args .k) (st .args .g) (c .before .before .axes-of .ensures) (position-is (c .before)) (omega arith)
+    position-lt _ _ _ _ (axes-are (st .args .rs) (st .args .r .now) (fine (c .before .before .before .before .before) .right) _ (c .before .before .axes-of .ensures)) (position-is (c .before)) (omega arith)
 
 -- src/lib.rt:53:9
 returns : tie.Need-returns
@@ -79,8 +70,8 @@ returns-2 c =
     let e = c .before .before .before in
     let st = e .before .before in
     replied-refused (c .refused2 .result) 4 (st .args .out .now) (c .refused2 .ensures)
-    (own-reply (rotate-names (st .args .g) (st .args .k) (lent (st .args .ls) (st .args .l .now)) (lent (st .args .rs) (st .args .r .now))) (st .args .out .now) (fine e) 4
-    (rotate-rank (st .args .g) (st .args .k) _ _ (list-no _ _ (left e) (omega arith))) (λ z. omega arith))
+    (own-reply (rotate-names (st .args .g) (st .args .k) (lent (st .args .ls) (st .args .l .now)) (lent (st .args .rs) (st .args .r .now))) (st .args .out .now) (fine e .none) 4
+    (rotate-rank (st .args .g) (st .args .k) _ _ (list-no _ _ (fine e .left) (omega arith))) (λ z. omega arith))
 
 -- src/lib.rt:61:9
 returns-3 : tie.Need-returns-3
@@ -89,9 +80,9 @@ returns-3 c =
     let e = e2 .before .before in
     let st = e .before .before in
     replied-refused (c .refused3 .result) 5 (st .args .out .now) (c .refused3 .ensures)
-    (own-reply (rotate-names (st .args .g) (st .args .k) (lent (st .args .ls) (st .args .l .now)) (lent (st .args .rs) (st .args .r .now))) (st .args .out .now) (fine e) 5
+    (own-reply (rotate-names (st .args .g) (st .args .k) (lent (st .args .ls) (st .args .l .now)) (lent (st .args .rs) (st .args .r .now))) (st .args .out .now) (fine e .none) 5
     (rotate-axis (st .args .g) (st .args .k) _ _ (list e2)
-    (axis-missing (st .args .rs) (st .args .r .now) (right e) _ _ (st .args .k) (st .args .g) (c .before .before .before .axes-of .ensures) (position-is (c .before .before)) (omega arith)))
+    (position-none _ _ _ _ (axes-are (st .args .rs) (st .args .r .now) (fine e .right) _ (c .before .before .before .axes-of .ensures)) (position-is (c .before .before)) (omega arith)))
     (λ z. omega arith))
 
 -- src/lib.rt:64:9
@@ -102,8 +93,8 @@ returns-4 c =
     let e = e2 .before .before in
     let st = e .before .before in
     replied-refused (c .refused4 .result) 6 (st .args .out .now) (c .refused4 .ensures)
-    (own-reply (rotate-names (st .args .g) (st .args .k) (lent (st .args .ls) (st .args .l .now)) (lent (st .args .rs) (st .args .r .now))) (st .args .out .now) (fine e) 6
-    (rotate-length (st .args .g) (st .args .k) _ _ (list e2) (named e3 .0) (one-no _ _ (left e) (λ z. c .before .if4 .taken (c .before .before .count .ensures ∙ z))))
+    (own-reply (rotate-names (st .args .g) (st .args .k) (lent (st .args .ls) (st .args .l .now)) (lent (st .args .rs) (st .args .r .now))) (st .args .out .now) (fine e .none) 6
+    (rotate-length (st .args .g) (st .args .k) _ _ (list e2) (named e3 .0) (one-no _ _ (fine e .left) (λ z. c .before .if4 .taken (c .before .before .count .ensures ∙ z))))
     (λ z. omega arith))
 
 -- src/lib.rt:68:9
@@ -116,17 +107,17 @@ returns-5 c =
     let st = e .before .before in
     let a = arrayOf (lent (st .args .rs) (st .args .r .now)) in
     replied-refused (c .refused5 .result) 10 (st .args .out .now) (c .refused5 .ensures)
-    (space-reply (rotate-names (st .args .g) (st .args .k) (lent (st .args .ls) (st .args .l .now)) (lent (st .args .rs) (st .args .r .now))) (st .args .out .now) (fine e)
-    (rotate-none (st .args .g) (st .args .k) _ _ (list e2) (named e3 .0) (one-yes _ _ (left e) (sym (e4 .before .count .ensures) ∙ e4 .if4 .left)))
-    (rotate-rule (st .args .g) (st .args .k) _ a (right e .rule))
-    (rw (rotate-lengths (st .args .g) (st .args .k) (arrayOf (lent (st .args .ls) (st .args .l .now))) a) (omega (arith, right e .count-is, c .before .before .count2 .ensures))))
+    (space-reply (rotate-names (st .args .g) (st .args .k) (lent (st .args .ls) (st .args .l .now)) (lent (st .args .rs) (st .args .r .now))) (st .args .out .now) (fine e .none)
+    (rotate-none (st .args .g) (st .args .k) _ _ (list e2) (named e3 .0) (one-yes _ _ (fine e .left) (sym (e4 .before .count .ensures) ∙ e4 .if4 .left)))
+    (rotate-rule (st .args .g) (st .args .k) _ a (fine e .right .rule))
+    (rw (rotate-lengths (st .args .g) (st .args .k) (arrayOf (lent (st .args .ls) (st .args .l .now))) a) (omega (arith, fine e .right .count-is, c .before .before .count2 .ensures))))
 
 -- src/lib.rt:70:22
 shared-slice-copy-out-turn-into : tie.Need-shared-slice-copy-out-turn-into
 shared-slice-copy-out-turn-into c =
     let e4 = c .before .before in
     let e = e4 .before .before .before .before .before .before .before in
-    let g = left e in
+    let g = fine e .left in
     omega (arith, g .room, g .count-is, e4 .before .count .ensures)
 
 -- src/lib.rt:70:5
@@ -135,7 +126,7 @@ turn-into-requires c κs =
     let e5 = c .before .before in
     let e3 = e5 .before .before .before .before in
     let e = e3 .before .before .before .before .before in
-    (forms e .1, (e5 .before .count2 .ensures, (omega arith, omega (arith, e3 .before .before .axes-of .ensures))))
+    (fine e .right .form, (e5 .before .count2 .ensures, (omega arith, omega (arith, e3 .before .before .axes-of .ensures))))
 
 -- src/lib.rt:46:1
 returns-6 : tie.Need-returns-6
@@ -150,11 +141,11 @@ returns-6 c =
     let a = arrayOf (lent (st .args .rs) (st .args .r .now)) in
     let one = sym (e4 .before .count .ensures) ∙ e4 .if4 .left in
     replied-given _ (rotate (st .args .g) (st .args .k) l a) (st .args .out .now) _
-    (ap (λ z. record { number = 0; shape = z }) (c .of-lengths .ensures ∙ made-is (st .args .rs) (st .args .r .now) (right e) ∙ sym (ap shapeOf (rotate-lengths (st .args .g) (st .args .k) l a))))
-    (rotate-out (st .args .g) (st .args .k) l a _ _ (named e3 .1) (toZ-ofZ (sfits-of (c .before .before .before .before .before .turn-into-arg .given)) ∙ amount-at _ _ (left e) one) (st .args .out .now) _ (c .before .before .before .turn-into .ensures))
-    (given-reply (rotate-names (st .args .g) (st .args .k) (lent (st .args .ls) (st .args .l .now)) (lent (st .args .rs) (st .args .r .now))) (st .args .out .now) (fine e)
-    (rotate-none (st .args .g) (st .args .k) l a (list e2) (named e3 .0) (one-yes _ _ (left e) one)) (rotate-rule (st .args .g) (st .args .k) l a (right e .rule))
-    (rw (rotate-lengths (st .args .g) (st .args .k) l a) (omega (arith, right e .count-is, e5 .before .count2 .ensures))))
+    (ap (λ z. record { number = 0; shape = z }) (c .of-lengths .ensures ∙ made-is _ _ _ (fine e .right .high) refl ∙ sym (ap shapeOf (rotate-lengths (st .args .g) (st .args .k) l a))))
+    (rotate-out (st .args .g) (st .args .k) l a _ _ (named e3 .1) (toZ-ofZ (sfits-of (c .before .before .before .before .before .turn-into-arg .given)) ∙ amount-at _ _ (fine e .left) one) (st .args .out .now) _ (c .before .before .before .turn-into .ensures))
+    (given-reply (rotate-names (st .args .g) (st .args .k) (lent (st .args .ls) (st .args .l .now)) (lent (st .args .rs) (st .args .r .now))) (st .args .out .now) (fine e .none)
+    (rotate-none (st .args .g) (st .args .k) l a (list e2) (named e3 .0) (one-yes _ _ (fine e .left) one)) (rotate-rule (st .args .g) (st .args .k) l a (fine e .right .rule))
+    (rw (rotate-lengths (st .args .g) (st .args .k) l a) (omega (arith, fine e .right .count-is, e5 .before .count2 .ensures))))
 
 pub rotate-spec : {M : Type 1} → statement M
 rotate-spec =

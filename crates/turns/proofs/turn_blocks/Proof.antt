@@ -1,16 +1,18 @@
-use mathlib.Core.Path.{_≡_, refl, sym, ap, _∙_}
+use mathlib.Core.Path.{_≡_, refl, ap, _∙_}
 use mathlib.Core.List.{List}
-use mathlib.Core.Bool.{Bool}
-use Prim.Native.Nat.{ℕ, _+_, _*_, _-_, _/_, _%_, _≤_, _<_}
+use mathlib.Core.Bool.{Bool, true}
+use Prim.Native.Nat.{ℕ, _+_, _*_, _-_, _≤_, _<_}
 use native.Mathlib.Omega.{arith}
 use lib.ListN.{length, getD}
 use lib.IntN.{ℤ, pos}
 use borrow.Author.Needs.{needs}
 use borrow.Rule.Slice.PartMut.{same-len-mid}
 use Rattle.copying.proofs.Runs.{filled, filled-none}
-use Rattle.copying.proofs.Blocks.{source}
+use Rattle.shape.proofs.Places.{row-fits}
+use Rattle.copying.proofs.Blocks.{source, put-block}
 use Rattle.turns.specs.Rows.{turnRow}
-use Rattle.turns.proofs.Rows.{block-room, part-size, block-step, turned-in, turned-source}
+use Rattle.copying.proofs.Parts.{part-long}
+use Rattle.turns.proofs.Rows.{turn-row-lt}
 use Rattle.turns.proofs.turn_blocks.Statement.{statement}
 use Rattle.turns.proofs.turn_blocks.Tie as tie
 use Rattle.turns.proofs.turn_blocks.Reads as reads
@@ -35,13 +37,13 @@ room c =
     let a = c .before .before .args in
     let o = c .before .loop .o in
     let l : o < a .outer = omega arith in (
-      omega (arith, block-room o (a .outer) (a .n * a .inner) (length (a .r .now)) l (omega arith)),
-      omega (arith, block-room o (a .outer) (a .n * a .inner) (length (a .out .now)) l (omega arith)),
+      omega (arith, row-fits o (a .outer) (a .n * a .inner) l),
+      omega (arith, row-fits o (a .outer) (a .n * a .inner) l),
     )
 
 -- src/lib.rt:83:16
 mul-size : tie.Need-mul-size Inv-loop μ-loop
-mul-size c = omega (arith, block-room 0 (c .args .outer) (c .args .n * c .args .inner) (length (c .args .r .now)) (omega arith) (omega arith))
+mul-size c = omega (arith, row-fits 0 (c .args .outer) (c .args .n * c .args .inner) (omega arith))
 
 -- src/lib.rt:86:5
 loop-holds : tie.Need-loop-holds Inv-loop μ-loop
@@ -82,7 +84,7 @@ turn-block-requires c κs =
     let lp = c .before .before .before .loop in
     let m = room (c .before .before) in (
       c .before .before .before .before .pre .1 .0,
-      (part-size (a .r .now) (lp .at) (a .n * a .inner) (m .0), part-size (lp .out) (lp .at) (a .n * a .inner) (omega (arith, m .1, lp .inv .1 .1 .0))),
+      (part-long (a .r .now) (lp .at) (a .n * a .inner) (m .0), part-long (lp .out) (lp .at) (a .n * a .inner) (omega (arith, m .1, lp .inv .1 .1 .0))),
     )
 
 -- src/lib.rt:86:5
@@ -91,16 +93,14 @@ loop-again c =
     let a = c .before .before .before .before .before .before .args in
     let lp = c .before .before .before .before .before .loop in
     let size = a .n * a .inner in
-    let m = room (c .before .before .before .before) in
-    let r = a .r .now in (
+    let m = room (c .before .before .before .before) in (
       omega arith,
       (
         omega (arith, lp .inv .1 .0),
         (
           same-len-mid (lp .at) (lp .at + size - lp .at) (lp .out) (c .before .turn-block .last .1 .1 .1 .1 .1 .0) (c .before .turn-block .kept .1 .1 .1 .1 .1 .0) ∙ lp .inv .1 .1 .0,
-          block-step (element (a .back) (a .a) r (a .n) (a .inner)) (λ i. turnRow (a .back) (a .a) (a .n) (i / a .inner) * a .inner + i % a .inner) (lp .at) size r (lp .out) (a .out .now) _ (lp .inv .1 .1 .1) (m .0)
-              (λ i l. turned-in (a .back) (a .a) (a .n) (a .inner) i l)
-              (λ i l. ap (λ k. getD r k (pos 0)) (ap (λ x. source (a .n) (a .n) (a .inner) (turnRow (a .back) (a .a) (a .n)) (x + i)) (lp .inv .1 .0) ∙ turned-source (a .back) (a .a) (a .n) (a .inner) i l (lp .o) ∙ ap (λ x. x + (turnRow (a .back) (a .a) (a .n) (i / a .inner) * a .inner + i % a .inner)) (sym (lp .inv .1 .0))))
+          put-block (λ i. true) (turnRow (a .back) (a .a) (a .n)) (a .n) (a .n) (a .inner) (a .r .now) (lp .o) (λ i l w. turn-row-lt (a .back) (a .a) (a .n) i l) (lp .out) (a .out .now) _ (lp .at) (lp .at)
+              (lp .inv .1 .1 .1) (lp .inv .1 .0) (lp .inv .1 .0)
               (c .before .turn-block .ensures),
         ),
       ),

@@ -1,6 +1,8 @@
 use Rattle.shape.specs.Shape.{maxRank}
+use lib.Seq.{length-take-le}
 use Rattle.shape.proofs.Counts.{good-rank}
-use Rattle.vectors.proofs.Lengths.{length-small, whole-stored}
+use Rattle.shape.proofs.Rule.{rule-length}
+use Rattle.vectors.proofs.Lengths.{whole-stored}
 use Prim.Native.Nat.{_-_, _≤_}
 use mathlib.Core.Path.{_≡_, refl, _∙_}
 use lib.IntN.{pos}
@@ -32,7 +34,7 @@ loop-again c =
     let lp = c .before .before .before .loop in
     let s = st .args .t1 in
     let long : length (s .lens) ≡ maxRank = search needs in
-    let small = length-small s long (st .pre .0) (lp .i) (omega arith) in
+    let small = rule-length (s .rank) (s .lens) (lp .i) (st .pre .0) (length-take-le (s .rank) (s .lens) (omega (arith, rank-high st))) (omega arith) in
     let e = whole-stored (c .whole .result) (getD (s .lens) (lp .i) 0) (omega arith) (c .whole .ensures) in (
       omega arith,
       (simp length-set (lp .inv .1 .0), rw (lp .inv .1 .1) (filled-one _ (pos 0) _ (lp .i) (st .args .out .now) (omega arith) e)),

@@ -1,5 +1,5 @@
 use borrow.Author.Needs.{needs}
-use Prim.Native.Nat.{ℕ, _≤_}
+use Prim.Native.Nat.{ℕ}
 use native.Mathlib.Omega.{arith}
 use mathlib.Core.Path.{_≡_, sym, ap, ap₂, _∙_}
 use mathlib.Core.Bool.{true, false, _&&_}
@@ -7,7 +7,7 @@ use mathlib.Core.List.{List, map}
 use lib.IntN.{natAbs}
 use lib.ListN.{length, length-map}
 use Rattle.signed.proofs.Reading.{read32}
-use Rattle.shape.specs.Shape.{maxRank, maxCount, countOf, count, shapeOf, shapeRule}
+use Rattle.shape.specs.Shape.{maxRank, countOf, count, shapeOf, shapeRule}
 use Rattle.meaning.specs.Array.{Operand, arrayOf, goodForm}
 use Rattle.meaning.specs.Primitives.{reshape}
 use Rattle.copying.proofs.Runs.{filled}
@@ -16,7 +16,7 @@ use Rattle.answer.proofs.Order.{early-reply, own-reply, limit-reply, space-repl
 use Rattle.answer.proofs.Lent.{lent-part, FineTwo, fine-two}
 use Rattle.vectors.specs.Cycle.{cycled}
 use Rattle.shape.proofs.Made.{made-rule, made-no-rule, made-count}
-use Rattle.vectors.proofs.Made.{many-no-rule}
+use Rattle.shape.proofs.Rule.{rule-high}
 use Rattle.vectors.proofs.Reshaping.{reshape-names, reshape-lengths, reshape-limit, reshape-count, reshape-out}
 use Rattle.vectors.proofs.reshape.Statement.{statement}
 use Rattle.vectors.proofs.reshape.Tie as tie
@@ -68,14 +68,11 @@ module _ (c : tie.Else4) where
   abbrev st : tie.Start
   st = c .before .before .before .before .before .before .before .before .before .before
 
-  held : countOf (shapeOf (asked st)) ≤ maxCount
-  held = omega (arith, total-is (c .before), c .if4 .left)
-
   total : c .before .count2 .result ≡ count (asked st)
-  total = total-is (c .before) ∙ made-count (asked st) held
+  total = made-count (asked st) _ (total-is (c .before)) (c .if4 .left)
 
   rule : shapeRule (length (reshape (arrayOf (left st)) (arrayOf (right st)) .lengths)) (reshape (arrayOf (left st)) (arrayOf (right st)) .lengths) ≡ true
-  rule = reshape-limit (arrayOf (left st)) (arrayOf (right st)) true (made-rule (asked st) held)
+  rule = reshape-limit (arrayOf (left st)) (arrayOf (right st)) true (made-rule (asked st) _ (total-is (c .before)) (c .if4 .left))
 
 returns : tie.Need-returns
 returns c K =
@@ -100,7 +97,7 @@ returns-3 c K =
     let st = e .before .before in
     replied-refused (c .refused3 .result) 9 (st .args .out .now) (c .refused3 .ensures)
     (limit-reply (reshape-names (st .args .g) K (left st) (right st)) (st .args .out .now) (fine e .none) (none-own (n .before))
-    (reshape-limit (arrayOf (left st)) (arrayOf (right st)) false (many-no-rule (asked st) (omega (arith, many n, c .before .if3 .taken)))))
+    (reshape-limit (arrayOf (left st)) (arrayOf (right st)) false (rule-high _ (asked st) (omega (arith, many n, c .before .if3 .taken)))))
 
 part-shape-from-end : tie.Need-part-shape-from-end
 part-shape-from-end c = let g = fine (c .before .before .before .before) .left in omega (arith, g .room, g .count-is, c .before .count .ensures)
@@ -113,7 +110,7 @@ returns-4 c K =
     let st = e .before .before in
     replied-refused (c .refused4 .result) 9 (st .args .out .now) (c .refused4 .ensures)
     (limit-reply (reshape-names (st .args .g) K (left st) (right st)) (st .args .out .now) (fine e .none) (none-own (n .before))
-    (reshape-limit (arrayOf (left st)) (arrayOf (right st)) false (made-no-rule (asked st) (omega (arith, total-is t, c .before .if4 .taken)))))
+    (reshape-limit (arrayOf (left st)) (arrayOf (right st)) false (made-no-rule (asked st) _ (total-is t) (c .before .if4 .taken))))
 
 returns-5 : tie.Need-returns-5
 returns-5 c K =
