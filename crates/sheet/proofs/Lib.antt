@@ -1,1 +1,3 @@
 pub mod Search
+pub mod Waits
+pub mod Cut

@@ -4,9 +4,14 @@ use libc::STDOUT_FILENO;
 use sheet_line::MAX_LINE;
 ghost use mathlib.Core.Path.{_≡_};
 ghost use mathlib.Core.Bool.{false};
-ghost use Prim.Native.Nat.{ℕ, _≤_, _<_};
-ghost use lib.ListN.{length, getD};
+ghost use mathlib.Core.List.{List, [], _++_};
+ghost use Prim.Native.Nat.{ℕ, _+_, _≤_, _<_};
+ghost use lib.ListN.{length, take, getD};
 ghost use Rattle.sheet_line.specs.Text.{newline};
+ghost use Rattle.sheet_line.specs.Call.{maxLine, front};
+ghost use Rattle.sheet_answer.specs.Sheet.{sheetAnswer, heldAnswer, Buffers};
+ghost use Rattle.sheet.specs.Lines.{linesFrom};
+ghost use Rattle.sheet.specs.Steps.{Appended, Answered, Holds, Took};
 
 // What is held between chunks: the length of the line so far and whether it was too long, its number, and how much text waits to be written.
 struct Held {
@@ -19,7 +24,7 @@ struct Held {
 impl Held {
     // Before the first line.
     fn none() -> Held
-        ensures { λ h. ⌜ (h .len ≤ 0) × (h .waiting ≤ 0) ⌝ }
+        ensures { λ h. ⌜ (h .len ≤ 0) × ((h .waiting ≤ 0) × ((h .number ≡ 1) × (h .over ≡ false))) ⌝ }
     {
         Held {
             len: 0,
@@ -39,7 +44,11 @@ fn answer_line(
     r: &mut [i32],
     out: &mut [i32],
     text: &mut [u8],
-) -> usize {
+) -> usize
+    requires { ⌜ Buffers (now l) (now r) (now out) (now text) ⌝ }
+    ensures count { λ n. ⌜ n ≡ length (heldAnswer number over (now (line .entry))) ⌝ }
+    ensures text { λ n. ⌜ now (text .exit) ≡ front (heldAnswer number over (now (line .entry))) (now (text .entry)) ⌝ }
+{
     if over {
         return sheet_answer::print_bad(number, text);
     }
@@ -58,15 +67,17 @@ fn answer_line(
 // Where the text ends after n bytes more.
 fn ended(start: usize, n: usize, room: usize) -> usize
     requires { ⌜ start ≤ room ⌝ }
-    ensures { λ e. ⌜ e ≤ room ⌝ }
+    ensures bound { λ e. ⌜ e ≤ room ⌝ }
+    ensures sum { λ e. ⌜ (start + n ≤ room → e ≡ start + n) ⌝ }
 {
     if n <= room - start { start + n } else { start }
 }
 
 // Writes what waits, unless there is still room for the longest answer, which is no longer than the longest line; what then waits.
 fn flushed(text: &[u8], waiting: usize) -> usize
-    requires { ⌜ waiting ≤ length (now text) ⌝ }
-    ensures { λ n. ⌜ n ≤ waiting ⌝ }
+    requires { ⌜ (waiting ≤ length (now text)) × (maxLine ≤ length (now text)) ⌝ }
+    ensures bound { λ n. ⌜ (n ≤ waiting) × (n + maxLine ≤ length (now (text .entry))) ⌝ }
+    ensures text { λ n. ⌜ Appended (take waiting (now (text .entry))) [] (take n (now (text .entry))) ⌝ }
 {
     if MAX_LINE <= text.len() - waiting {
         return waiting;
@@ -84,8 +95,9 @@ fn end_line(
     out: &mut [i32],
     text: &mut [u8],
 ) -> Held
-    requires { ⌜ held .waiting ≤ length (now text) ⌝ }
-    ensures { λ h. ⌜ (h .len ≤ 0) × (h .waiting ≤ length (now (text .entry))) ⌝ }
+    requires { ⌜ (held .waiting ≤ length (now text)) × Buffers (now l) (now r) (now out) (now text) ⌝ }
+    ensures bound { λ h. ⌜ (h .len ≤ 0) × (h .waiting ≤ length (now (text .entry))) ⌝ }
+    ensures answer { λ h. ⌜ Answered held h (heldAnswer (held .number) (held .over) (now (line .entry))) (now (text .entry)) (now (text .exit)) ⌝ }
 {
     let number = held.number;
     let over = held.over;
@@ -103,6 +115,7 @@ fn end_line(
 
 fn copy_bytes(run: &[u8], out: &mut [u8])
     requires { ⌜ length (now run) ≤ length (now out) ⌝ }
+    ensures { λ _. ⌜ now (out .exit) ≡ front (now (run .entry)) (now (out .entry)) ⌝ }
 {
     let mut i = 0;
     while i < run.len() {
@@ -114,7 +127,9 @@ fn copy_bytes(run: &[u8], out: &mut [u8])
 // The line so far with a run of bytes more, or too long.
 fn hold_run(run: &[u8], held: Held, line: &mut [u8]) -> Held
     requires { ⌜ held .len ≤ length (now line) ⌝ }
-    ensures { λ h. ⌜ (h .len ≤ length (now (line .entry))) × (h .waiting ≤ held .waiting) ⌝ }
+    ensures bound { λ h. ⌜ h .len ≤ length (now (line .entry)) ⌝ }
+    ensures same { λ h. ⌜ (h .number ≡ held .number) × (h .waiting ≡ held .waiting) ⌝ }
+    ensures line { λ h. ⌜ ((bytes : List ℕ) → Holds held (now (line .entry)) bytes → Holds h (now (line .exit)) (bytes ++ now (run .entry))) ⌝ }
 {
     let len = held.len;
     let over = held.over;
@@ -148,8 +163,9 @@ fn take_line(
     out: &mut [i32],
     text: &mut [u8],
 ) -> Held
-    requires { ⌜ (held .len ≤ length (now line)) × (held .waiting ≤ length (now text)) ⌝ }
-    ensures { λ h. ⌜ (h .len ≤ length (now (line .entry))) × (h .waiting ≤ length (now (text .entry))) ⌝ }
+    requires { ⌜ (held .len ≤ length (now line)) × ((held .waiting ≤ length (now text)) × Buffers (now l) (now r) (now out) (now text)) ⌝ }
+    ensures bound { λ h. ⌜ (h .len ≤ 0) × (h .waiting ≤ length (now (text .entry))) ⌝ }
+    ensures answer { λ h. ⌜ ((bytes : List ℕ) → Holds held (now (line .entry)) bytes → Answered held h (sheetAnswer (held .number) (bytes ++ now (run .entry))) (now (text .entry)) (now (text .exit))) ⌝ }
 {
     if held.len == 0 {
         return end_line(run, held, l, r, out, text);
@@ -218,8 +234,9 @@ fn take_chunk(
     out: &mut [i32],
     text: &mut [u8],
 ) -> Held
-    requires { ⌜ (start .len ≤ length (now line)) × (start .waiting ≤ length (now text)) ⌝ }
-    ensures { λ h. ⌜ (h .len ≤ length (now (line .entry))) × (h .waiting ≤ length (now (text .entry))) ⌝ }
+    requires { ⌜ (start .len ≤ length (now line)) × ((start .waiting ≤ length (now text)) × Buffers (now l) (now r) (now out) (now text)) ⌝ }
+    ensures bound { λ h. ⌜ (h .len ≤ length (now (line .entry))) × (h .waiting ≤ length (now (text .entry))) ⌝ }
+    ensures lines { λ h. ⌜ ((bytes : List ℕ) → Holds start (now (line .entry)) bytes → Took start h (linesFrom (start .number) bytes (now (chunk .entry))) (now (line .exit)) (now (text .entry)) (now (text .exit))) ⌝ }
 {
     let mut held = start;
     let mut at = 0;

@@ -4,3 +4,4 @@ pub mod Answers
 pub mod Room
 pub mod Paper
 pub mod Pairs
+pub mod Joined

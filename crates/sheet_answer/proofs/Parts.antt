@@ -7,11 +7,13 @@ use mathlib.Core.Bool.{true, false}
 use lib.ListN.{length, getD, drop, length-append}
 use lib.Seq.{drop-cons, drop-length}
 use lib.IntN.{ℤ, pos, negsuc, natAbs}
+use mir.Syntax.{w32}
+use mir.Val.{SFits}
 use Rattle.shape.proofs.Bools.{no-way}
 use Rattle.meaning.specs.Terms.{negative}
 use Rattle.sheet_line.specs.Text.{blank, minus, digits, decimal, following}
 use Rattle.sheet_answer.specs.Steps.{Written}
-use Rattle.sheet_answer.proofs.Writing.{write-none, write-more}
+use Rattle.sheet_answer.proofs.Writing.{width-most, write-none, write-more}
 
 -- An element's text by its sign and size.
 pub decimal-natural : (z : ℤ) → negative z ≡ false → decimal z ≡ digits (natAbs z)
@@ -28,6 +30,11 @@ pub decimal-longer : (z : ℤ) → length (digits (natAbs z)) ≤ length (decima
 unfolding decimal
 decimal-longer (pos n) = omega arith
 decimal-longer (negsuc m) = omega arith
+
+-- An element's size has at most ten digits.
+pub size-short : (z : ℤ) → SFits w32 z → length (digits (natAbs z)) ≤ 10
+size-short (pos n) h = width-most 9 n (omega (arith, h .sfits))
+size-short (negsuc m) h = width-most 9 (suc m) (omega (arith, h .sfits))
 
 drop-shorter : {A : Type 0} (f : A → List ℕ) (ys : List A) (k : ℕ) → length (following (map f (drop k ys))) ≤ length (following (map f ys))
 unfolding following

@@ -3,7 +3,7 @@ ghost use mathlib.Core.Path.{_≡_};
 ghost use Prim.Native.Nat.{_≤_};
 ghost use lib.ListN.{length};
 ghost use Rattle.shape.specs.Shape.{maxRank, maxCount};
-ghost use Rattle.sheet_line.specs.Call.{front};
+ghost use Rattle.sheet_line.specs.Call.{maxLine, maxHeld, front};
 ghost use Rattle.sheet_answer.specs.Answer.{okLine, noLine, replyLine, fitted};
 use crate::print::digit_pairs;
 use crate::print::elements_width;
@@ -35,6 +35,7 @@ fn print_array(line: usize, lens: &[usize], out: &[i32], text: &mut [u8]) -> usi
     requires { ⌜ (length (now lens) ≤ maxRank) × (length (now out) ≤ maxCount) ⌝ }
     ensures count { λ n. ⌜ n ≡ length (fitted (okLine line (record { lengths = now (lens .entry); elements = now (out .entry) })) (now (text .entry))) ⌝ }
     ensures text { λ n. ⌜ now (text .exit) ≡ front (fitted (okLine line (record { lengths = now (lens .entry); elements = now (out .entry) })) (now (text .entry))) (now (text .entry)) ⌝ }
+    ensures room { λ n. ⌜ (length (now (out .entry)) ≤ maxHeld → length (okLine line (record { lengths = now (lens .entry); elements = now (out .entry) })) ≤ maxLine) ⌝ }
 {
     let rank = lens.len();
     let need = width(line) + width(rank) + lengths_width(lens) + elements_width(out) + 5;
@@ -53,6 +54,7 @@ fn print_array(line: usize, lens: &[usize], out: &[i32], text: &mut [u8]) -> usi
 pub fn print_ok(line: usize, shape: Shape, out: &[i32], text: &mut [u8]) -> usize
     ensures count { λ n. ⌜ n ≡ length (fitted (replyLine line 0 (record { shape = shape; buffer = now (out .entry) })) (now (text .entry))) ⌝ }
     ensures text { λ n. ⌜ now (text .exit) ≡ front (fitted (replyLine line 0 (record { shape = shape; buffer = now (out .entry) })) (now (text .entry))) (now (text .entry)) ⌝ }
+    ensures room { λ n. ⌜ (length (now (out .entry)) ≤ maxHeld → length (replyLine line 0 (record { shape = shape; buffer = now (out .entry) })) ≤ maxLine) ⌝ }
 {
     let count = shape.count();
     if Shape::MAX_COUNT < count {

@@ -3,8 +3,9 @@ mod answer;
 mod print;
 
 ghost use mathlib.Core.Path.{_≡_};
+ghost use Prim.Native.Nat.{_≤_};
 ghost use lib.ListN.{length};
-ghost use Rattle.sheet_line.specs.Call.{front};
+ghost use Rattle.sheet_line.specs.Call.{maxLine, maxHeld, front};
 ghost use Rattle.sheet_answer.specs.Answer.{badLine, replyLine, fitted};
 use answer::print_no;
 use answer::print_ok;
@@ -30,6 +31,7 @@ pub fn print_bad(line_number: u64, text: &mut [u8]) -> usize
 }
 
 // The answer to a call's reply: its number, and for number 0 its shape and the buffer that holds the elements.
+// With a buffer of no more elements than the program's it is no longer than the longest line.
 pub fn print_reply(
     line_number: u64,
     number: usize,
@@ -39,6 +41,7 @@ pub fn print_reply(
 ) -> usize
     ensures count { λ n. ⌜ n ≡ length (fitted (replyLine «line_number» number (record { shape = shape; buffer = now (out .entry) })) (now (text .entry))) ⌝ }
     ensures text { λ n. ⌜ now (text .exit) ≡ front (fitted (replyLine «line_number» number (record { shape = shape; buffer = now (out .entry) })) (now (text .entry))) (now (text .entry)) ⌝ }
+    ensures room { λ n. ⌜ (length (now (out .entry)) ≤ maxHeld → length (replyLine «line_number» number (record { shape = shape; buffer = now (out .entry) })) ≤ maxLine) ⌝ }
 {
     let line = line_number as usize;
     if number == 0 {

@@ -122,7 +122,7 @@ pub fn put_part(text: &mut [u8], end: usize, n: usize) -> usize
 // The bytes of a blank and an element.
 fn element_width(z: i32) -> usize
     ensures digits { λ r. ⌜ r ≡ suc (length (decimal z)) ⌝ }
-    ensures bound { λ r. ⌜ r ≤ 22 ⌝ }
+    ensures bound { λ r. ⌜ r ≤ 12 ⌝ }
 {
     let size = signed::size(z);
     let n = width(size);
@@ -160,7 +160,7 @@ pub fn lengths_width(lens: &[usize]) -> usize
 pub fn elements_width(out: &[i32]) -> usize
     requires { ⌜ length (now out) ≤ maxCount ⌝ }
     ensures digits { λ r. ⌜ r ≡ length (following (map decimal (now (out .entry)))) ⌝ }
-    ensures bound { λ r. ⌜ r ≤ 22 * maxCount ⌝ }
+    ensures bound { λ r. ⌜ r ≤ 12 * length (now (out .entry)) ⌝ }
 {
     let mut sum = 0;
     let mut i = out.len();

@@ -16,8 +16,13 @@ returns c =
     let st = c .before .before .before .before .before .before .before in
     let ns = st .args .lens .now in
     let zs = st .args .out .now in
-    no-room (okLine (st .args .line) (record { lengths = ns; elements = zs })) (st .args .text .now)
-    (omega (arith, ok-length (st .args .line) ns zs, c .before .before .before .before .width .ensures .0, c .before .before .before .width2 .ensures .0, c .before .before .lengths-width .ensures .0, c .before .elements-width .ensures .0))
+    let long = ok-length (st .args .line) ns zs in
+    let number = c .before .before .before .before .width .ensures in
+    let rank = c .before .before .before .width2 .ensures in
+    let lengths = c .before .before .lengths-width .ensures in
+    let elements = c .before .elements-width .ensures in
+    let p = no-room (okLine (st .args .line) (record { lengths = ns; elements = zs })) (st .args .text .now) (omega (arith, long, number .0, rank .0, lengths .0, elements .0)) in
+    (p .0, (p .1, λ h. omega (arith, long, number, rank, lengths, elements)))
 
 put-elements-requires : tie.Need-put-elements-requires
 put-elements-requires c κs =
@@ -49,7 +54,8 @@ returns-2 c =
     let two = write-more t (pe .last .0) (pl .last .0) (pl .result) (pe .result) need (following (map digits ns)) (following (map decimal zs) ++ newline ∷ []) room one (pl .ensures) in
     let three = write-more t (pl .last .0) (p .last .0) (p .result) (pl .result) need (blank ∷ digits (length ns)) (following (map digits ns) ++ (following (map decimal zs) ++ newline ∷ [])) room two (p .ensures) in
     let all = write-more t (p .last .0) (h .last .0) (h .result) (p .result) need (digits line ++ blank ∷ 111 ∷ 107 ∷ []) ((blank ∷ digits (length ns)) ++ (following (map digits ns) ++ (following (map decimal zs) ++ newline ∷ []))) room three (h .ensures) in
-    all-printed bytes t (h .last .0) (h .result) need long room (rw (ok-text line ns zs) all)
+    let p = all-printed bytes t (h .last .0) (h .result) need long room (rw (ok-text line ns zs) all) in
+    (p .0, (p .1, λ few. omega (arith, long, number .ensures .1, rank .ensures .1, lengths .ensures .1, elements .ensures .1)))
 
 pub print-array-spec : {M : Type 1} → statement M
 print-array-spec =

@@ -1,7 +1,7 @@
 use Prim.Native.Nat.{_≤_}
 use native.Mathlib.Omega.{arith}
 use native.Mathlib.Nat.{sub-zero}
-use mathlib.Core.Path.{_≡_}
+use mathlib.Core.Path.{_≡_, ap}
 use lib.ListN.{length, length-take}
 use Rattle.shape.specs.Shape.{maxRank, maxCount, countOf}
 use Rattle.shape.proofs.Counts.{good-count, good-rank}
@@ -17,12 +17,16 @@ ranked c h = let s = c .before .before .args .shape in good-rank s (good-count s
 returns : tie.Need-returns
 returns c =
     let st = c .before .before .before in
-    nothing-to-print (replyLine (st .args .line) 0 (record { shape = st .args .shape; buffer = st .args .out .now })) (st .args .text .now) (bad-shape (st .args .line) (st .args .shape) (st .args .out .now) (omega (arith, c .before .count .ensures)))
+    let none = bad-shape (st .args .line) (st .args .shape) (st .args .out .now) (omega (arith, c .before .count .ensures)) in
+    let p = nothing-to-print (replyLine (st .args .line) 0 (record { shape = st .args .shape; buffer = st .args .out .now })) (st .args .text .now) none in
+    (p .0, (p .1, λ h. omega (arith, ap length none)))
 
 returns-2 : tie.Need-returns-2
 returns-2 c =
     let st = c .before .before .before .before in
-    nothing-to-print (replyLine (st .args .line) 0 (record { shape = st .args .shape; buffer = st .args .out .now })) (st .args .text .now) (short-buffer (st .args .line) (st .args .shape) (st .args .out .now) (omega (arith, c .before .before .count .ensures)) (omega (arith, c .before .before .count .ensures)))
+    let none = short-buffer (st .args .line) (st .args .shape) (st .args .out .now) (omega (arith, c .before .before .count .ensures)) (omega (arith, c .before .before .count .ensures)) in
+    let p = nothing-to-print (replyLine (st .args .line) 0 (record { shape = st .args .shape; buffer = st .args .out .now })) (st .args .text .now) none in
+    (p .0, (p .1, λ h. omega (arith, ap length none)))
 
 part-print-array-end : tie.Need-part-print-array-end
 part-print-array-end c =
@@ -36,7 +40,9 @@ returns-3 : tie.Need-returns-3
 returns-3 c =
     let st = c .before .before .before .before .before .before .before .before .before .before .before .before in
     let n : c .before .before .before .before .before .before .before .before .before .before .count .result ≡ countOf (st .args .shape) = c .before .before .before .before .before .before .before .before .before .before .count .ensures in
-    rw (good-reply (st .args .line) (st .args .shape) (st .args .out .now) (omega arith) (omega arith), ← n) (rw (sub-zero (st .args .shape .rank), sub-zero (c .before .before .before .before .before .before .before .before .before .before .count .result)) at (c .before .before .print-array .ensures))
+    let count = c .before .before .before .before .before .before .before .before .before .before .count .result in
+    let p = rw (sub-zero (st .args .shape .rank), sub-zero count) at (c .before .before .print-array .ensures) in
+    rw (good-reply (st .args .line) (st .args .shape) (st .args .out .now) (omega arith) (omega arith), ← n) (p .0, (p .1 .0, λ h. p .1 .1 (omega (arith, length-take count (st .args .out .now)))))
 
 pub print-ok-spec : {M : Type 1} → statement M
 print-ok-spec =

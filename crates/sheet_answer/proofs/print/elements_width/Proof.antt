@@ -13,7 +13,7 @@ use Rattle.sheet_answer.proofs.print.elements_width.Statement.{statemen
 use Rattle.sheet_answer.proofs.print.elements_width.Tie as tie
 
 abbrev Inv-loop : tie.InvT-loop
-Inv-loop out sum₀ i₀ sum i = (i ≤ length out) × ((sum ≡ length (partsFrom decimal out i)) × (sum + 22 * i ≤ 22 * length out))
+Inv-loop out sum₀ i₀ sum i = (i ≤ length out) × ((sum ≡ length (partsFrom decimal out i)) × (sum + 12 * i ≤ 12 * length out))
 
 abbrev μ-loop : tie.MeasureT-loop
 μ-loop out sum₀ i₀ sum i = i

@@ -1,0 +1,26 @@
+-- Paper 01, "The sheet program": the bytes of a sheet, cut into lines.
+use Prim.Native.Nat.{ℕ, _+_, _%_}
+use mathlib.Core.List.{List, [], _∷_, _++_}
+use mathlib.Core.Bool.{cond}
+use lib.Dec.{eqb}
+use Rattle.sheet_line.specs.Text.{newline}
+use Rattle.sheet_answer.specs.Sheet.{sheetAnswer}
+
+-- The number of the next line; no sheet has so many lines that it starts again.
+abbrev pub next : ℕ → ℕ
+next number = number % 1000000000000000000 + 1
+
+-- What is printed for the lines that end among some bytes, and the line that has begun after them: its number and its bytes so far.
+pub record Lines : Type 0 where
+  pub printed : List ℕ
+  pub number : ℕ
+  pub begun : List ℕ
+
+abbrev pub after : List ℕ → Lines → Lines
+after printed s = record { printed = printed ++ s .printed; number = s .number; begun = s .begun }
+
+-- A newline ends a line, and a line without one has begun.
+unfoldable pub linesFrom : ℕ → List ℕ → List ℕ → Lines
+linesFrom number begun [] = record { printed = []; number = number; begun = begun }
+linesFrom number begun (b ∷ bs) =
+    cond (eqb b newline) (after (sheetAnswer number begun) (linesFrom (next number) [] bs)) (linesFrom number (begun ++ b ∷ []) bs)
