@@ -2,3 +2,4 @@ pub mod Steps
 pub mod Runs
 pub mod Blocks
 pub mod Parts
+pub mod Moves

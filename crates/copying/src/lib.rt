@@ -1,7 +1,8 @@
 // Runs of elements that are copied, filled and reversed. Each is one tight loop, so that it is compiled to moves of many elements.
 ghost use mathlib.Core.Path.{_≡_};
-ghost use Prim.Native.Nat.{min};
-ghost use lib.ListN.{length, replicate};
+ghost use mathlib.Core.List.{_++_};
+ghost use Prim.Native.Nat.{min, _+_, _≤_};
+ghost use lib.ListN.{length, replicate, take, drop};
 ghost use Rattle.copying.specs.Runs.{copied, reversed};
 
 // The lesser of two lengths.
@@ -20,6 +21,54 @@ pub fn copy_run(src: &[i32], out: &mut [i32])
     while i < n {
         out[i] = src[i];
         i += 1;
+    }
+}
+
+// Eight elements, all read before any is written.
+fn move_8(src: &[i32], out: &mut [i32], i: usize)
+    requires { ⌜ (i + 8 ≤ length (now src)) × (i + 8 ≤ length (now out)) ⌝ }
+    ensures { λ _. ⌜ now (out .exit) ≡ take i (now (out .entry)) ++ take 8 (drop i (now (src .entry))) ++ drop (i + 8) (now (out .entry)) ⌝ }
+{
+    let a0 = src[i];
+    let a1 = src[i + 1];
+    let a2 = src[i + 2];
+    let a3 = src[i + 3];
+    let a4 = src[i + 4];
+    let a5 = src[i + 5];
+    let a6 = src[i + 6];
+    let a7 = src[i + 7];
+    out[i] = a0;
+    out[i + 1] = a1;
+    out[i + 2] = a2;
+    out[i + 3] = a3;
+    out[i + 4] = a4;
+    out[i + 5] = a5;
+    out[i + 6] = a6;
+    out[i + 7] = a7;
+}
+
+// Eight at a time, while that many of the first n are left: how many are copied.
+fn copy_eights(src: &[i32], out: &mut [i32], n: usize) -> usize
+    requires { ⌜ (n ≤ length (now src)) × (n ≤ length (now out)) ⌝ }
+    ensures { λ i. ⌜ (i ≤ n) × (now (out .exit) ≡ take i (now (src .entry)) ++ drop i (now (out .entry))) ⌝ }
+{
+    let mut done = 0;
+    while 8 <= n - done {
+        move_8(src, out, done);
+        done += 8;
+    }
+    done
+}
+
+// As copy_run, for runs that are short: the compiler need not test whether the buffers overlap.
+pub fn copy_row(src: &[i32], out: &mut [i32])
+    ensures { λ _. ⌜ now (out .exit) ≡ copied (now (src .entry)) (now (out .entry)) ⌝ }
+{
+    let n = fewer(src.len(), out.len());
+    let mut at = copy_eights(src, out, n);
+    while at < n {
+        out[at] = src[at];
+        at += 1;
     }
 }
 

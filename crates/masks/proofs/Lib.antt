@@ -11,3 +11,4 @@ pub mod Lined
 pub mod Compressing
 pub mod Expanding
 pub mod Masking
+pub mod Bits

@@ -1,28 +1,17 @@
 -- Blocks written one after another.
-use mathlib.Core.Path.{_≡_, refl, sym, ap, ap₂, _∙_}
+use mathlib.Core.Path.{_≡_, sym}
 use mathlib.Core.List.{List}
-use mathlib.Core.Bool.{Bool, true, false, cond}
-use Prim.Native.Nat.{ℕ, _+_, _*_, _/_, _%_, _-_, _≤_, _<_}
-use native.Mathlib.Nat.{div-lt-iff-lt-mul, mod-lt, div-add-mod', zero-mul}
+use mathlib.Core.Bool.{Bool}
+use Prim.Native.Nat.{ℕ, _+_, _*_, _-_, _≤_, _<_}
+use native.Mathlib.Nat.{zero-mul}
 use native.Mathlib.Omega.{arith}
-use lib.ListN.{length, getD, take, drop, set, length-drop}
-use lib.Seq.{length-take-le, getD-take, getD-drop}
-use lib.Arith.{digits-lt, digits-div, digits-mod}
-use lib.IntN.{ℤ, pos}
+use lib.ListN.{length, take, drop}
+use lib.IntN.{ℤ}
 use borrow.Rule.Slice.PartMut.{putMid}
-use Rattle.shape.specs.declared.Shape.{Shape}
-use Rattle.shape.specs.Shape.{counted, count, aroundOf}
-use Rattle.shape.specs.Place.{place, index}
-use Rattle.shape.proofs.Axis.{axis-position, axis-index, count-axis}
-use Rattle.shape.proofs.Surround.{Parts, count-set}
-use Rattle.meaning.specs.Array.{arrayOf, at, tab, build}
-use Rattle.meaning.specs.Terms.{rank, along}
-use Rattle.meaning.proofs.Tab.{length-tab, getD-tab, tab-ext}
-use Rattle.copying.proofs.Runs.{filled, put-list}
+use Rattle.meaning.specs.Array.{at, tab}
+use Rattle.copying.proofs.Runs.{filled}
 use Rattle.copying.proofs.Parts.{part-long, part-room}
 use Rattle.copying.proofs.Blocks.{put-block}
-use Rattle.answer.specs.Answer.{lent}
-use Rattle.answer.proofs.Lent.{Lent}
 use Rattle.masks.specs.Rows.{takes, taken, rowed, placed, Block, Blocks}
 use Rattle.masks.proofs.Uses.{taken-lt}
 use Rattle.masks.proofs.Written.{run-inside, Written, written-none, written-front, written-room, written-more}

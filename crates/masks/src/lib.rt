@@ -30,18 +30,19 @@ fn as_vector(s: Shape) -> Shape
     s
 }
 
+// No element ends the loop, so that it is compiled to tests of many elements.
 fn all_bits(l: &[i32]) -> bool
     ensures { λ b. ⌜ b ≡ every isBit (now (l .entry)) ⌝ }
 {
+    let mut all = true;
     let mut i = 0;
     while i < l.len() {
-        if signed::is_bit(l[i]) {
-            i += 1;
-        } else {
-            return false;
+        if !signed::is_bit(l[i]) {
+            all = false;
         }
+        i += 1;
     }
-    true
+    all
 }
 
 fn count_ones(l: &[i32]) -> usize

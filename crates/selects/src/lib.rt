@@ -196,7 +196,7 @@ fn select_rows(g: i32, l: &[i32], n: usize, inner: usize, r: &[i32], out: &mut [
         let to = from + inner;
         let at = q * inner;
         let end = at + inner;
-        copying::copy_run(&r[from..to], &mut out[at..end]);
+        copying::copy_row(&r[from..to], &mut out[at..end]);
         q += 1;
     }
 }

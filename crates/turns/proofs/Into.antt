@@ -13,7 +13,7 @@ use Rattle.shape.specs.Shape.{counted, count, countOf, aroundOf}
 use Rattle.shape.proofs.Axis.{in-length}
 use Rattle.shape.proofs.Surround.{Parts, parts}
 use Rattle.meaning.specs.Array.{Array, arrayOf, at, build}
-use Rattle.meaning.specs.Terms.{rank, axis, along}
+use Rattle.meaning.specs.Terms.{axis, along}
 use Rattle.meaning.proofs.Arrays.{build-ext, build-at, none-made}
 use Rattle.copying.specs.Runs.{copied}
 use Rattle.copying.proofs.Runs.{copied-fits, filled}

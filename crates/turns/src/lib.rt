@@ -155,7 +155,7 @@ fn reverse_rows(r: &[i32], n: usize, inner: usize, out: &mut [i32])
         let from = copying::fewer(i * inner, r.len());
         let stop = from + inner;
         let end = to + inner;
-        copying::copy_run(&r[from..stop], &mut out[to..end]);
+        copying::copy_row(&r[from..stop], &mut out[to..end]);
         to = end;
     }
 }

@@ -3,7 +3,7 @@ use native.Mathlib.Omega.{arith}
 use mathlib.Core.Path.{_≡_, sym, ap, _∙_}
 use mathlib.Core.Bool.{_&&_}
 use lib.ListN.{length}
-use Rattle.shape.specs.Shape.{maxRank, maxCount, count, countOf, shapeOf}
+use Rattle.shape.specs.Shape.{maxRank, maxCount, countOf, shapeOf}
 use Rattle.shape.proofs.Made.{made-rule, made-no-rule, made-count}
 use Rattle.meaning.specs.Array.{arrayOf, goodForm}
 use Rattle.meaning.specs.Terms.{rank, asRank}

@@ -16,7 +16,7 @@ use Rattle.selects.proofs.select_rows.Statement.{statement}
 use Rattle.selects.proofs.select_rows.Tie as tie
 use Rattle.selects.proofs.select_rows.Reads as reads
 use Rattle.selects.proofs.select_rows.Lts as lts
-use Rattle.copying.proofs.copy_run.Reads as copy-run-reads
+use Rattle.copying.proofs.copy_row.Reads as copy-row-reads
 
 abbrev Inv-loop : tie.InvT-loop
 Inv-loop g l n inner r out₀ q₀ out q = (q ≤ length l) × ((length out ≡ length out₀) × (out ≡ filled (λ j. getD r (inBlock inner (chosen (toZ w32 g) l) j) (pos 0)) (q * inner) out₀))
@@ -71,29 +71,29 @@ mul-at c = omega (arith, inside c)
 add-end : tie.Need-add-end Inv-loop μ-loop
 add-end c = omega (arith, inside c)
 
-mul-copy-run : tie.Need-mul-copy-run Inv-loop μ-loop
-mul-copy-run c = let i = inside c in search needs
+mul-copy-row : tie.Need-mul-copy-row Inv-loop μ-loop
+mul-copy-row c = let i = inside c in search needs
 
-sub-copy-run : tie.Need-sub-copy-run Inv-loop μ-loop
-sub-copy-run c = omega (arith, inside c)
+sub-copy-row : tie.Need-sub-copy-row Inv-loop μ-loop
+sub-copy-row c = omega (arith, inside c)
 
-part-copy-run-start : tie.Need-part-copy-run-start Inv-loop μ-loop
-part-copy-run-start c = omega (arith, inside c)
+part-copy-row-start : tie.Need-part-copy-row-start Inv-loop μ-loop
+part-copy-row-start c = omega (arith, inside c)
 
-part-copy-run-end : tie.Need-part-copy-run-end Inv-loop μ-loop
-part-copy-run-end c = omega (arith, inside c)
+part-copy-row-end : tie.Need-part-copy-row-end Inv-loop μ-loop
+part-copy-row-end c = omega (arith, inside c)
 
-mul-copy-run-2 : tie.Need-mul-copy-run-2 Inv-loop μ-loop
-mul-copy-run-2 c = let i = inside (c .before) in search needs
+mul-copy-row-2 : tie.Need-mul-copy-row-2 Inv-loop μ-loop
+mul-copy-row-2 c = let i = inside (c .before) in search needs
 
-sub-copy-run-2 : tie.Need-sub-copy-run-2 Inv-loop μ-loop
-sub-copy-run-2 c = omega (arith, inside (c .before))
+sub-copy-row-2 : tie.Need-sub-copy-row-2 Inv-loop μ-loop
+sub-copy-row-2 c = omega (arith, inside (c .before))
 
-part-copy-run-start-2 : tie.Need-part-copy-run-start-2 Inv-loop μ-loop
-part-copy-run-start-2 c = omega (arith, inside (c .before))
+part-copy-row-start-2 : tie.Need-part-copy-row-start-2 Inv-loop μ-loop
+part-copy-row-start-2 c = omega (arith, inside (c .before))
 
-part-copy-run-end-2 : tie.Need-part-copy-run-end-2 Inv-loop μ-loop
-part-copy-run-end-2 c = omega (arith, inside (c .before))
+part-copy-row-end-2 : tie.Need-part-copy-row-end-2 Inv-loop μ-loop
+part-copy-row-end-2 c = omega (arith, inside (c .before))
 
 loop-again : tie.Need-loop-again Inv-loop μ-loop
 loop-again c =
@@ -104,7 +104,7 @@ loop-again c =
     let out₀ = st .args .out .now in
     let i = inside p in
     let e = row-more w (chosen (toZ w32 (ofZ w32 (st .args .g))) (st .args .l .now)) (lp .q) (lp .q * w + w) (p .chosen-at .result * w) (p .chosen-at .result * w + w) (st .args .r .now) (lp .out) out₀ _
-    (lp .inv .1 .1) refl (omega arith) (ap (λ x. x * w) (found p .0)) refl (omega arith) (c .before .copy-run .ensures) in
+    (lp .inv .1 .1) refl (omega arith) (ap (λ x. x * w) (found p .0)) refl (omega arith) (c .before .copy-row .ensures) in
     (omega arith, (ap length e ∙ length-filled _ ((lp .q + 1) * w) out₀ (omega arith), e))
 
 returns : tie.Need-returns Inv-loop μ-loop
@@ -131,14 +131,14 @@ select-rows-spec =
     add-to
     mul-at
     add-end
-    mul-copy-run
-    sub-copy-run
-    part-copy-run-start
-    part-copy-run-end
-    mul-copy-run-2
-    sub-copy-run-2
-    part-copy-run-start-2
-    part-copy-run-end-2
+    mul-copy-row
+    sub-copy-row
+    part-copy-row-start
+    part-copy-row-end
+    mul-copy-row-2
+    sub-copy-row-2
+    part-copy-row-start-2
+    part-copy-row-end-2
     (λ c κs. search needs)
     (λ c. search needs)
     (λ c. search needs)

@@ -13,7 +13,7 @@ use Rattle.turns.proofs.reverse_rows.Statement.{statement}
 use Rattle.turns.proofs.reverse_rows.Tie as tie
 use Rattle.turns.proofs.reverse_rows.Reads as reads
 use Rattle.turns.proofs.reverse_rows.Lts as lts
-use Rattle.copying.proofs.copy_run.Reads as copy-run-reads
+use Rattle.copying.proofs.copy_row.Reads as copy-row-reads
 use Rattle.copying.proofs.fewer.Reads as fewer-reads
 
 -- What element j of the reversed block is.
@@ -49,36 +49,36 @@ add-end : tie.Need-add-end Inv-loop μ-loop
 add-end c = omega (arith, from-is c, row (c .before))
 
 -- src/lib.rt:116:27
-mul-copy-run : tie.Need-mul-copy-run Inv-loop μ-loop
-mul-copy-run c = omega (arith, from-is c, row (c .before))
+mul-copy-row : tie.Need-mul-copy-row Inv-loop μ-loop
+mul-copy-row c = omega (arith, from-is c, row (c .before))
 
 -- src/lib.rt:116:27
-sub-copy-run : tie.Need-sub-copy-run Inv-loop μ-loop
-sub-copy-run c = omega (arith, from-is c, row (c .before))
+sub-copy-row : tie.Need-sub-copy-row Inv-loop μ-loop
+sub-copy-row c = omega (arith, from-is c, row (c .before))
 
 -- src/lib.rt:116:27
-part-copy-run-start : tie.Need-part-copy-run-start Inv-loop μ-loop
-part-copy-run-start c = omega (arith, from-is c, row (c .before))
+part-copy-row-start : tie.Need-part-copy-row-start Inv-loop μ-loop
+part-copy-row-start c = omega (arith, from-is c, row (c .before))
 
 -- src/lib.rt:116:27
-part-copy-run-end : tie.Need-part-copy-run-end Inv-loop μ-loop
-part-copy-run-end c = omega (arith, from-is c, row (c .before))
+part-copy-row-end : tie.Need-part-copy-row-end Inv-loop μ-loop
+part-copy-row-end c = omega (arith, from-is c, row (c .before))
 
 -- src/lib.rt:116:43
-mul-copy-run-2 : tie.Need-mul-copy-run-2 Inv-loop μ-loop
-mul-copy-run-2 c = omega (arith, from-is (c .before), row (c .before .before))
+mul-copy-row-2 : tie.Need-mul-copy-row-2 Inv-loop μ-loop
+mul-copy-row-2 c = omega (arith, from-is (c .before), row (c .before .before))
 
 -- src/lib.rt:116:43
-sub-copy-run-2 : tie.Need-sub-copy-run-2 Inv-loop μ-loop
-sub-copy-run-2 c = omega (arith, from-is (c .before), row (c .before .before))
+sub-copy-row-2 : tie.Need-sub-copy-row-2 Inv-loop μ-loop
+sub-copy-row-2 c = omega (arith, from-is (c .before), row (c .before .before))
 
 -- src/lib.rt:116:43
-part-copy-run-start-2 : tie.Need-part-copy-run-start-2 Inv-loop μ-loop
-part-copy-run-start-2 c = omega (arith, from-is (c .before), row (c .before .before))
+part-copy-row-start-2 : tie.Need-part-copy-row-start-2 Inv-loop μ-loop
+part-copy-row-start-2 c = omega (arith, from-is (c .before), row (c .before .before))
 
 -- src/lib.rt:116:43
-part-copy-run-end-2 : tie.Need-part-copy-run-end-2 Inv-loop μ-loop
-part-copy-run-end-2 c = omega (arith, from-is (c .before), row (c .before .before))
+part-copy-row-end-2 : tie.Need-part-copy-row-end-2 Inv-loop μ-loop
+part-copy-row-end-2 c = omega (arith, from-is (c .before), row (c .before .before))
 
 -- src/lib.rt:111:5
 loop-again : tie.Need-loop-again Inv-loop μ-loop
@@ -94,11 +94,11 @@ loop-again c =
       (
         omega arith,
         (
-          same-len-mid (lp .to) (lp .to + st .args .inner - lp .to) (lp .out) (c .before .copy-run .last .1 .0) (c .before .copy-run .kept .1 .0) ∙ lp .inv .1 .1 .0,
+          same-len-mid (lp .to) (lp .to + st .args .inner - lp .to) (lp .out) (c .before .copy-row .last .1 .0) (c .before .copy-row .kept .1 .0) ∙ lp .inv .1 .1 .0,
           put-copied (element r (st .args .n) (st .args .inner)) (lp .to) (st .args .inner) _ (lp .out) out₀ _ (lp .inv .1 .1 .1) refl (omega arith) r
               from (from + st .args .inner) (pos 0) refl (omega arith)
               (λ x b. ap (λ k. getD r k (pos 0)) (reversed-row (st .args .n) (st .args .inner) (lp .i) (lp .to) x (omega arith) (lp .inv .0) (lp .inv .1 .0) b ∙ ap (λ k. k + x) (sym q)))
-              (c .before .copy-run .ensures),
+              (c .before .copy-row .ensures),
         ),
       ),
     )
@@ -126,14 +126,14 @@ reverse-rows-spec =
     (λ c κs. search needs)
     add-stop
     add-end
-    mul-copy-run
-    sub-copy-run
-    part-copy-run-start
-    part-copy-run-end
-    mul-copy-run-2
-    sub-copy-run-2
-    part-copy-run-start-2
-    part-copy-run-end-2
+    mul-copy-row
+    sub-copy-row
+    part-copy-row-start
+    part-copy-row-end
+    mul-copy-row-2
+    sub-copy-row-2
+    part-copy-row-start-2
+    part-copy-row-end-2
     (λ c κs. search needs)
     (λ c. search needs)
     loop-again

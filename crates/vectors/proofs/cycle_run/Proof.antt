@@ -25,7 +25,7 @@ loop-again c =
     let src = lp .before .args .src .now in
     let out₀ = lp .before .args .out .now in
     let e = lp .loop .i + length src in
-    let put = cycle-put src (lp .loop .out) out₀ _ (lp .loop .i) (length src) e (lp .loop .inv .1 .1 .0) (omega arith) (lp .loop .inv .1 .1 .1) refl (omega arith) (c .before .copy-run .ensures) in
+    let put = cycle-put src (lp .loop .out) out₀ _ (lp .loop .i) (length src) e (lp .loop .inv .1 .1 .0) (omega arith) (lp .loop .inv .1 .1 .1) refl (omega arith) (c .before .copy-row .ensures) in
     (omega arith, (ap length put ∙ length-filled (cycled src) e out₀ (omega arith), (cycled-next src (lp .loop .i) (lp .loop .inv .1 .1 .0), put)))
 
 returns : tie.Need-returns Inv-loop μ-loop
@@ -33,7 +33,7 @@ returns c =
     let lp = c .before .before .before .before .before in
     let n = lp .before .args .n in
     cycle-put (lp .before .args .src .now) (lp .loop .out) (lp .before .args .out .now) _ (lp .loop .i) (n - lp .loop .i) n (lp .loop .inv .1 .1 .0) (omega arith) (lp .loop .inv .1 .1 .1)
-    (omega arith) (omega arith) (c .before .copy-run2 .ensures)
+    (omega arith) (omega arith) (c .before .copy-row2 .ensures)
 
 pub cycle-run-spec : {M : Type 1} → statement M
 cycle-run-spec =

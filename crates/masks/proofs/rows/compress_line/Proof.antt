@@ -8,7 +8,7 @@ use lib.IntN.{pos}
 use lib.ListN.{length, getD}
 use Rattle.meaning.specs.Terms.{eqZ}
 use Rattle.signed.proofs.Reading.{read32}
-use Rattle.masks.proofs.Ones.{test-one, test-other, before}
+use Rattle.masks.proofs.Ones.{test-one, test-other}
 use Rattle.masks.proofs.Kept.{Kept, kept-none, kept-all, kept-one, kept-other, kept-room}
 use Rattle.masks.proofs.rows.compress_line.Statement.{statement}
 use Rattle.masks.proofs.rows.compress_line.Tie as tie
