@@ -1,6 +1,5 @@
 -- The leading item as a start and a length.
 use mathlib.Core.Path.{_≡_, refl, sym, ap, ap₂, _∙_}
-use mathlib.Core.List.{List, []}
 use Prim.Native.Nat.{ℕ, zero, suc, _*_}
 use lib.ListN.{take, drop}
 use lib.IntN.{ℤ, natAbs, _-ℤ_}

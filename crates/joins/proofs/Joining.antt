@@ -19,7 +19,7 @@ use Rattle.shape.proofs.Axis.{in-set, axis-position, axis-position-lt, axis-ind
 use Rattle.shape.proofs.Surround.{count-set}
 use Rattle.meaning.specs.Array.{Operand, Array, arrayOf, tab, build}
 use Rattle.meaning.specs.Refusal.{number, precedence, meets, winner}
-use Rattle.meaning.specs.Terms.{axis, isScalar, eqZ, within, sameLengths}
+use Rattle.meaning.specs.Terms.{isScalar, eqZ, within, sameLengths}
 use Rattle.meaning.specs.Primitives.{side, higher, ranksFit, catenate}
 use Rattle.meaning.specs.Reply.{Primitive, primitives, named}
 use Rattle.meaning.proofs.Tab.{tab-ext}

@@ -1,6 +1,7 @@
 // The positions of a list in chains, so that an element is looked for among a few. Each value belongs to one chain, by arithmetic on its bits,
 // and the positions of a chain rise: the first that holds a value is the value's first position.
 ghost use mathlib.Core.Path.{_≡_};
+ghost use mathlib.Core.List.{List};
 ghost use Prim.Native.Nat.{ℕ, _≤_, _<_};
 ghost use lib.ListN.{length, getD};
 ghost use Rattle.shape.specs.Shape.{maxCount};
@@ -39,19 +40,38 @@ pub fn link(l: &[i32], heads: &mut [u16; CHAINS], links: &mut [u16; Shape::MAX_C
 }
 
 fn wide(p: u16) -> usize
-    ensures { λ r. ⌜ r ≡ p ⌝ }
+    ensures { λ r. ⌜ (r ≡ p) × (r < 65536) ⌝ }
 {
     p as usize
 }
 
-// The first position that holds x, the length where none does. Where the chain is long the list is searched instead.
+// The first position that holds x, the length where none does. An empty chain and one that begins with x take the same branch: a branch for an
+// empty chain alone is guessed wrong for nearly every second random value.
 pub fn look(l: &[i32], heads: &[u16; CHAINS], links: &[u16; Shape::MAX_COUNT], x: i32) -> usize
     requires { ⌜ (length (now l) ≤ maxCount) × Linked (now l) (now heads) (now links) 0 ⌝ }
     ensures { λ n. ⌜ n ≡ firstAt x (now (l .entry)) ⌝ }
 {
     let n = l.len();
+    if n == 0 {
+        return 0;
+    }
     let h = chain(x);
-    let mut p = wide(heads[h]);
+    let p = wide(heads[h]);
+    let q = copying::fewer(p, n - 1);
+    let skip = if signed::same(x, l[q]) { n } else { 0 };
+    if p + skip < n {
+        return follow(l, links, x, p);
+    }
+    copying::fewer(p, n)
+}
+
+// The same, from the first position of x's chain on. Where the chain is long the list is searched instead.
+fn follow(l: &[i32], links: &[u16; Shape::MAX_COUNT], x: i32, first: usize) -> usize
+    requires { ⌜ (length (now l) ≤ maxCount) × ((heads : List ℕ) × (Linked (now l) heads (now links) 0 × (first ≡ getD heads (chainOf x) 0))) ⌝ }
+    ensures { λ n. ⌜ n ≡ firstAt x (now (l .entry)) ⌝ }
+{
+    let n = l.len();
+    let mut p = first;
     let mut left = n / ELEMENTS_TO_A_STEP;
     while p < n {
         if signed::same(x, l[p]) {

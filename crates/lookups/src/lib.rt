@@ -129,7 +129,12 @@ fn put_chained(bits: bool, first: usize, l: &[i32], r: &[i32], out: &mut [i32])
     let mut heads = [chains::NONE; chains::CHAINS];
     let mut links = [chains::NONE; Shape::MAX_COUNT];
     chains::link(l, &mut heads, &mut links);
-    put_looked_up(bits, first, l, &heads, &links, r, out);
+    // By constants, so that the compiler makes a loop for each.
+    if bits {
+        put_looked_up(true, first, l, &heads, &links, r, out);
+    } else {
+        put_looked_up(false, first, l, &heads, &links, r, out);
+    }
 }
 
 fn put_looked_up(

@@ -1,7 +1,7 @@
 -- Paper 01, "The primitives", in its order: when each refuses, the lengths of its result, and the element at each place.
 -- FORM, ORIGIN, LIMIT and SPACE are the same for all and stand in Reply. A type shows what a primitive looks at: G is the origin, K the axis number.
 -- k means K - G, the axis counted from zero: a difference of whole numbers, which never wraps.
-use Prim.Native.Nat.{ℕ, zero, suc, _+_, _-_, _%_, min, max}
+use Prim.Native.Nat.{ℕ, suc, _+_, _-_, _%_, min, max}
 use mathlib.Core.List.{List, [], _∷_, map}
 use mathlib.Core.Bool.{Bool, not, cond, _&&_, _||_}
 use lib.ListN.{length, getD, set, replicate}

@@ -11,7 +11,7 @@ use lib.IntN.{ℤ, pos, natAbs, _-ℤ_}
 use Rattle.shape.specs.declared.Shape.{Shape}
 use Rattle.shape.specs.Shape.{maxCount, counted, count, aroundOf, shapeOf, without}
 use Rattle.shape.proofs.Surround.{Parts}
-use Rattle.meaning.specs.Array.{Operand, Array, arrayOf, at, tab, build}
+use Rattle.meaning.specs.Array.{Operand, Array, arrayOf, at, build}
 use Rattle.meaning.specs.Refusal.{number, precedence, meets, winner}
 use Rattle.meaning.specs.Terms.{rank, axis, isScalar, isList, eqZ, within, every, putIn, along}
 use Rattle.meaning.specs.Primitives.{select}

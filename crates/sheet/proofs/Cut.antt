@@ -2,10 +2,8 @@
 use Prim.Native.Nat.{ℕ, suc, _+_, _-_, _≤_, _<_}
 use native.Mathlib.Omega.{arith}
 use native.Mathlib.Numerals.{add-one}
-use mathlib.Core.Path.{_≡_, refl, sym, ap, subst, _∙_}
+use mathlib.Core.Path.{_≡_, refl, sym, ap, _∙_}
 use mathlib.Core.List.{List, [], _∷_, _++_, append-assoc, append-nil}
-use mathlib.Core.Bool.{false}
-use lib.Dec.{eqb}
 use lib.ListN.{length, getD, take, drop, take-append-drop, length-take}
 use lib.Seq.{drop-drop, drop-cons, drop-length, getD-take, getD-drop}
 use lib.IntN.{ℤ}

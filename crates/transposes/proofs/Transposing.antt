@@ -16,7 +16,7 @@ use Rattle.shape.proofs.Bools.{both, refuted, no-way, and-true}
 use Rattle.shape.proofs.Rule.{rule-small}
 use Rattle.shape.proofs.Counts.{good-count, count-good, count-of}
 use Rattle.shape.proofs.Made.{made-counted, made-is}
-use Rattle.meaning.specs.Array.{Operand, Array, arrayOf, at, build, goodForm}
+use Rattle.meaning.specs.Array.{Operand, Array, arrayOf, at, build}
 use Rattle.meaning.specs.Refusal.{number, precedence, meets, winner}
 use Rattle.meaning.specs.Terms.{rank, eqZ, within, every}
 use Rattle.meaning.specs.Primitives.{Meaning, sentTo, axesTo, sentLengths, broughtBack, backwards, transpose, allOccur, transposeBy}

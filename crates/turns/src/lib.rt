@@ -95,6 +95,9 @@ fn turn_into(back: bool, z: i32, s: Shape, k: usize, total: usize, r: &[i32], ou
     turn_blocks(back, r, w.outer, w.length, w.inner, a, out);
 }
 
+// Blocks shorter than this are rotated all in one. From here on two runs a block take no longer.
+const SHORT: usize = 128;
+
 // Turns the n rows of each block, `inner` elements a row.
 fn turn_blocks(
     back: bool,
@@ -110,11 +113,38 @@ fn turn_blocks(
         ⌜ now (out .exit) ≡ filled (λ j. getD (now (r .entry)) (source n n inner (turnRow back a n) j) (pos 0)) (outer * n * inner) (now (out .entry)) ⌝ }
 {
     let size = n * inner;
+    if !back {
+        if size < SHORT {
+            rotate_short(r, outer, size, a * inner, out);
+            return;
+        }
+    }
     let mut at = 0;
     let mut o = 0;
     while o < outer {
         let end = at + size;
         turn_block(back, &r[at..end], n, inner, a, &mut out[at..end]);
+        at = end;
+        o += 1;
+    }
+}
+
+// Blocks that are short: one run over all of them, and then the end of each.
+fn rotate_short(r: &[i32], outer: usize, size: usize, cut: usize, out: &mut [i32])
+    requires { ⌜ (0 < outer) × ((cut ≤ size) × ((outer * size ≤ length (now r)) × (outer * size ≤ length (now out)))) ⌝ }
+    ensures { λ _.
+        ⌜ now (out .exit) ≡ filled (λ j. getD (now (r .entry)) (j / size * size + (j % size + cut) % size) (pos 0)) (outer * size) (now (out .entry)) ⌝ }
+{
+    let total = outer * size;
+    let seam = total - cut;
+    copying::copy_run(&r[cut..total], &mut out[0..seam]);
+    let mut at = 0;
+    let mut o = 0;
+    while o < outer {
+        let stop = at + cut;
+        let end = at + size;
+        let from = end - cut;
+        copying::copy_run(&r[at..stop], &mut out[from..end]);
         at = end;
         o += 1;
     }

@@ -5,21 +5,18 @@ use borrow.Author.Needs.{needs}
 use Rattle.answer.proofs.early_one.Statement.{statement}
 use Rattle.answer.proofs.early_one.Tie as tie
 
--- src/lib.rt:37:1
 returns : tie.Need-returns
 returns c =
     sym
     (early-none (c .before .before .before .before .args .g) _ (sym (c .before .before .before .good-form .ensures) ∙ c .before .before .if1 .taken)
     (sym (rw (read32 _ (c .before .before .before .before .fits .g)) at (c .before .is-origin .ensures)) ∙ c .if2 .taken))
 
--- src/lib.rt:37:1
 returns-2 : tie.Need-returns-2
 returns-2 c =
     sym
     (early-origin (c .before .before .before .before .args .g) _ (sym (c .before .before .before .good-form .ensures) ∙ c .before .before .if1 .taken)
     (sym (rw (read32 _ (c .before .before .before .before .fits .g)) at (c .before .is-origin .ensures)) ∙ c .if2 .left))
 
--- src/lib.rt:37:1
 returns-3 : tie.Need-returns-3
 returns-3 c = sym (early-form (c .before .before .args .g) _ (sym (c .before .good-form .ensures) ∙ c .if1 .left))
 

@@ -5,13 +5,11 @@ use borrow.Author.Needs.{needs}
 use Rattle.answer.proofs.early_two.Statement.{statement}
 use Rattle.answer.proofs.early_two.Tie as tie
 
--- src/lib.rt:48:1
 returns : tie.Need-returns
 returns c =
     (rw (read32 _ (c .before .before .before .fits .g)) at (c .early-one .ensures))
     ∙ sym (early-right (c .before .before .before .args .g) _ _ (sym (c .before .before .good-form .ensures) ∙ c .before .if1 .taken))
 
--- src/lib.rt:48:1
 returns-2 : tie.Need-returns-2
 returns-2 c = sym (early-left (c .before .before .args .g) _ _ (sym (c .before .good-form .ensures) ∙ c .if1 .left))
 

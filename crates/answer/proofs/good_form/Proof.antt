@@ -5,11 +5,9 @@ use borrow.Author.Needs.{needs}
 use Rattle.answer.proofs.good_form.Statement.{statement}
 use Rattle.answer.proofs.good_form.Tie as tie
 
--- src/lib.rt:31:9
 returns : tie.Need-returns
 returns c = sym (form-bad (c .before .before .args .s) (c .before .before .args .b .now) (omega (arith, c .before .count .ensures)))
 
--- src/lib.rt:26:1
 returns-2 : tie.Need-returns-2
 returns-2 c =
     rw (c .before .count .ensures)

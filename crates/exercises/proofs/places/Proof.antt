@@ -4,12 +4,6 @@ use borrow.Author.Needs.{needs}
 use Rattle.shape.specs.Shape.{maxRank}
 use Rattle.exercises.proofs.places.Statement.{statement}
 use Rattle.exercises.proofs.places.Tie as tie
-use Rattle.exercises.proofs.places.Reads as reads
-use Rattle.exercises.proofs.places.Lts as lts
-use Rattle.exercises.proofs.matrix.Reads as matrix-reads
-use Rattle.io.proofs.print_decimal.Reads as print-decimal-reads
-use Rattle.io.proofs.write_all.Reads as write-all-reads
-use Rattle.shape.proofs.Place.successor.Reads as successor-reads
 
 abbrev Inv-loop : tie.InvT-loop
 Inv-loop place₀ turns₀ t4 t5 t6 place turns = length (place .positions) ≡ maxRank

@@ -17,9 +17,6 @@ use Rattle.meaning.proofs.Sides.{beside-near}
 use Rattle.joins.proofs.Agreeing.{agrees-scalar, agrees-parts}
 use Rattle.joins.proofs.agrees.Statement.{statement}
 use Rattle.joins.proofs.agrees.Tie as tie
-use Rattle.joins.proofs.agrees.Reads as reads
-use Rattle.joins.proofs.agrees.Lts as lts
-use Rattle.joins.proofs.same_part.Reads as same-part-reads
 
 -- As many lengths as the ranks say.
 ranked : (st : tie.Start) (x : List ℤ) → rank (arrayOf (lent (st .args .s) x)) ≡ st .args .s .rank

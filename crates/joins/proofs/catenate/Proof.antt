@@ -17,18 +17,7 @@ use Rattle.joins.proofs.Joining.{catenating, catenate-names, Joins, cat
 use Rattle.joins.proofs.Catenating.{height, axis-in, extents-small, lengths-are, left-room, right-room, catenate-out}
 use Rattle.joins.proofs.catenate.Statement.{statement}
 use Rattle.joins.proofs.catenate.Tie as tie
-use Rattle.joins.proofs.catenate.Reads as reads
-use Rattle.joins.proofs.catenate.Lts as lts
-use Rattle.answer.proofs.Answer.refused.Reads as refused-reads
-use Rattle.answer.proofs.early_two.Reads as early-two-reads
-use Rattle.joins.proofs.catenate_refusal.Reads as catenate-refusal-reads
-use Rattle.joins.proofs.extent.Reads as extent-reads
-use Rattle.joins.proofs.higher.Reads as higher-reads
-use Rattle.joins.proofs.join_into.Reads as join-into-reads
-use Rattle.shape.proofs.Shape.count.Reads as count-reads
 use Rattle.shape.proofs.Made.{made-rule, made-no-rule, made-count, with-length-is}
-use Rattle.shape.proofs.Shape.with_length.Reads as with-length-reads
-use Rattle.signed.proofs.position.Reads as position-reads
 
 -- The operands, the meaning and its name.
 abbrev left : tie.Start → Operand

@@ -20,12 +20,6 @@ use Rattle.joins.proofs.Heights.{ranks-fit-is, High, high-is}
 use Rattle.joins.proofs.Joining.{agree, catenate-rank, catenate-axis, catenate-left, catenate-right, catenate-none}
 use Rattle.joins.proofs.catenate_refusal.Statement.{statement}
 use Rattle.joins.proofs.catenate_refusal.Tie as tie
-use Rattle.joins.proofs.catenate_refusal.Reads as reads
-use Rattle.joins.proofs.catenate_refusal.Lts as lts
-use Rattle.joins.proofs.agrees.Reads as agrees-reads
-use Rattle.joins.proofs.higher.Reads as higher-reads
-use Rattle.joins.proofs.ranks_fit.Reads as ranks-fit-reads
-use Rattle.signed.proofs.position.Reads as position-reads
 
 -- The operands, and what is known of their ranks.
 abbrev left : tie.Start → List ℤ → Array

@@ -3,8 +3,6 @@ use mathlib.Core.Path.{sym}
 use borrow.Author.Tests.{eq-eqb, ne-eqb}
 use Rattle.joins.proofs.extent.Statement.{statement}
 use Rattle.joins.proofs.extent.Tie as tie
-use Rattle.joins.proofs.extent.Reads as reads
-use Rattle.joins.proofs.extent.Lts as lts
 
 returns : tie.Need-returns
 returns c = let st = c .before .before in sym (rw (eq-eqb (st .args .t1 .rank) (st .args .rank) (c .before .if1 .taken)))

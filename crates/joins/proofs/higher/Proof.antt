@@ -3,9 +3,6 @@ use mathlib.Core.Path.{sym, _∙_}
 use borrow.Author.Tests.{lt-ltb, le-ltb, eq-eqb, ne-eqb}
 use Rattle.joins.proofs.higher.Statement.{statement}
 use Rattle.joins.proofs.higher.Tie as tie
-use Rattle.joins.proofs.higher.Reads as reads
-use Rattle.joins.proofs.higher.Lts as lts
-use Rattle.shape.proofs.Shape.vector.Reads as vector-reads
 
 returns : tie.Need-returns
 returns c = let st = c .before .before .before in sym (rw (lt-ltb (st .args .ls .rank) (st .args .rs .rank) (c .if1 .taken)))

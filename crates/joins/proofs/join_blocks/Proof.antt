@@ -11,9 +11,6 @@ use Rattle.joins.specs.Joined.{joinedAt}
 use Rattle.joins.proofs.Blocks.{left-more, right-more, sized-le}
 use Rattle.joins.proofs.join_blocks.Statement.{statement}
 use Rattle.joins.proofs.join_blocks.Tie as tie
-use Rattle.joins.proofs.join_blocks.Reads as reads
-use Rattle.joins.proofs.join_blocks.Lts as lts
-use Rattle.joins.proofs.put_side.Reads as put-side-reads
 
 abbrev Inv-loop : tie.InvT-loop
 Inv-loop x l v y r w outer out₀ made o₀ out o = (o ≤ outer) × ((length out ≡ length out₀) × (out ≡ filled (joinedAt v w (sideAt x l) (sideAt y r)) (o * (v + w)) out₀))

@@ -13,10 +13,6 @@ use Rattle.joins.specs.Joined.{joinedAt, sized}
 use Rattle.joins.proofs.Blocks.{Widths, widths}
 use Rattle.joins.proofs.join_into.Statement.{statement}
 use Rattle.joins.proofs.join_into.Tie as tie
-use Rattle.joins.proofs.join_into.Reads as reads
-use Rattle.joins.proofs.join_into.Lts as lts
-use Rattle.joins.proofs.join_blocks.Reads as join-blocks-reads
-use Rattle.shape.proofs.Shape.around.Reads as around-reads
 
 -- The counts around the axis, where the result has elements.
 around-parts : (c : tie.Else1) → let st = c .before in Parts (st .args .hs) (st .args .k) (st .args .a + st .args .b) (st .args .total)

@@ -12,10 +12,6 @@ use Rattle.copying.proofs.Runs.{filled}
 use Rattle.joins.proofs.Blocks.{one-run, many-run}
 use Rattle.joins.proofs.put_side.Statement.{statement}
 use Rattle.joins.proofs.put_side.Tie as tie
-use Rattle.joins.proofs.put_side.Reads as reads
-use Rattle.joins.proofs.put_side.Lts as lts
-use Rattle.copying.proofs.copy_run.Reads as copy-run-reads
-use Rattle.copying.proofs.fill_run.Reads as fill-run-reads
 
 shared-slice-copy-out-fill-run : tie.Need-shared-slice-copy-out-fill-run
 shared-slice-copy-out-fill-run c = let h = rw (c .if1 .taken) at (c .before .pre .1 .1) in omega arith

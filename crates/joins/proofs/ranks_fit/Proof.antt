@@ -7,8 +7,6 @@ use lib.Dec.{eqb}
 use borrow.Author.Tests.{eq-eqb, ne-eqb}
 use Rattle.joins.proofs.ranks_fit.Statement.{statement}
 use Rattle.joins.proofs.ranks_fit.Tie as tie
-use Rattle.joins.proofs.ranks_fit.Reads as reads
-use Rattle.joins.proofs.ranks_fit.Lts as lts
 
 returns : tie.Need-returns
 returns c = let st = c .before in sym (rw (eq-eqb (st .args .a) 0 (c .if1 .taken)))

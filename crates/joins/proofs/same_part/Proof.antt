@@ -10,8 +10,6 @@ use Rattle.meaning.specs.Terms.{sameLengths}
 use Rattle.joins.proofs.Agreeing.{same-next, same-stop, same-end}
 use Rattle.joins.proofs.same_part.Statement.{statement}
 use Rattle.joins.proofs.same_part.Tie as tie
-use Rattle.joins.proofs.same_part.Reads as reads
-use Rattle.joins.proofs.same_part.Lts as lts
 
 abbrev Inv-loop : tie.InvT-loop
 Inv-loop i j n a b t₀ t = (t ≤ n) × (sameLengths (slice i (i + n) a) (slice j (j + n) b) ≡ sameLengths (slice (i + t) (i + n) a) (slice (j + t) (j + n) b))

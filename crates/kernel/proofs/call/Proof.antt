@@ -13,39 +13,29 @@ use Rattle.kernel.proofs.Numbered.Unnamed.{below, amid, above}
 use borrow.Author.Needs.{needs}
 use Rattle.kernel.proofs.call.Statement.{statement}
 use Rattle.kernel.proofs.call.Tie as tie
-use Rattle.kernel.proofs.call.Reads as reads
-use Rattle.kernel.proofs.call.Lts as lts
-use Rattle.answer.proofs.Answer.refused.Reads as refused-reads
-use Rattle.kernel.proofs.call_one.Reads as call-one-reads
-use Rattle.kernel.proofs.call_two.Reads as call-two-reads
 
 -- A test of the number, as the code makes it.
 tested : (c : tie.Start) (n : ℕ) → ltZ (c .args .number) (pos n) ≡ ltZ (toZ w32 (ofZ w32 (c .args .number))) (pos n)
 tested c n = ap (λ z. ltZ z (pos n)) (sym (read32 _ (c .fits .number)))
 
--- src/lib.rt:19:20
 call-one-requires : tie.Need-call-one-requires
 call-one-requires c κs = between 11 15 _ (c .before .before .if1 .left) (c .before .if2 .taken)
 
--- src/lib.rt:20:20
 call-two-requires : tie.Need-call-two-requires
 call-two-requires c κs = between 21 31 _ (c .before .before .if3 .left) (c .before .if4 .taken)
 
--- src/lib.rt:13:1
 returns : tie.Need-returns
 returns c =
     let st = c .before .before .before .before .before in
     carried (lent (st .args .ls) (st .args .l .now)) (lent (st .args .rs) (st .args .r .now)) (st .args .out .now)
     (read32 _ (st .fits .number)) (read32 _ (st .fits .g)) (read32 _ (st .fits .k)) (c .before .call-one .ensures (lent (st .args .ls) (st .args .l .now)))
 
--- src/lib.rt:13:1
 returns-2 : tie.Need-returns-2
 returns-2 c =
     let st = c .before .before .before .before .before .before .before in
     carried (lent (st .args .ls) (st .args .l .now)) (lent (st .args .rs) (st .args .r .now)) (st .args .out .now)
     (read32 _ (st .fits .number)) (read32 _ (st .fits .g)) (read32 _ (st .fits .k)) (c .before .call-two .ensures)
 
--- src/lib.rt:13:1
 returns-3 : tie.Need-returns-3
 returns-3 c =
     let st = c .before .before in

@@ -1,5 +1,4 @@
-use mathlib.Core.Path.{_≡_, refl, sym, ap, _∙_}
-use lib.IntN.{pos}
+use mathlib.Core.Path.{refl, sym}
 use Rattle.answer.specs.Answer.{lent}
 use native.Mathlib.Omega.{arith}
 use lib.Dec.{lit<}
@@ -8,13 +7,6 @@ use Rattle.kernel.proofs.Numbered.{carried, not-key}
 use borrow.Author.Needs.{needs}
 use Rattle.kernel.proofs.call_one.Statement.{statement}
 use Rattle.kernel.proofs.call_one.Tie as tie
-use Rattle.kernel.proofs.call_one.Reads as reads
-use Rattle.kernel.proofs.call_one.Lts as lts
-use Rattle.transposes.proofs.transpose.Reads as transpose-reads
-use Rattle.turns.proofs.reverse.Reads as reverse-reads
-use Rattle.vectors.proofs.interval.Reads as interval-reads
-use Rattle.vectors.proofs.ravel.Reads as ravel-reads
-use Rattle.vectors.proofs.shape_of.Reads as shape-of-reads
 
 returns : tie.Need-returns
 returns c L =

@@ -1,7 +1,6 @@
-use mathlib.Core.Path.{_≡_, refl, sym, ap, _∙_}
+use mathlib.Core.Path.{refl, sym}
 use native.Mathlib.Omega.{arith}
 use lib.Dec.{lit<}
-use lib.IntN.{pos}
 use borrow.Author.Needs.{needs}
 use Rattle.signed.proofs.Reading.{read32, key}
 use Rattle.answer.specs.Answer.{lent}

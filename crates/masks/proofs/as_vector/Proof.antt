@@ -4,11 +4,9 @@ use borrow.Author.Needs.{needs}
 use Rattle.masks.proofs.as_vector.Statement.{statement}
 use Rattle.masks.proofs.as_vector.Tie as tie
 
--- src/lib.rt:29:9
 returns : tie.Need-returns
 returns c = c .vector .ensures ∙ scalar-vector _ (c .before .if1 .taken)
 
--- src/lib.rt:25:1
 returns-2 : tie.Need-returns-2
 returns-2 c = array-vector _ (c .if1 .left)
 

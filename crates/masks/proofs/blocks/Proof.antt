@@ -26,61 +26,48 @@ room c =
     let st = c .before .before in
     passed-room (lp .inv) (st .pre) (omega arith)
 
--- src/lib.rt:119:16
 mul-size : tie.Need-mul-size Inv-loop μ-loop
 mul-size c = let a = c .args in omega (arith, c .pre .source, mul-le-mul-right {m = 1} {n = a .outer} (a .n * a .inner) (c .pre .some))
 
--- src/lib.rt:120:16
 mul-part : tie.Need-mul-part Inv-loop μ-loop
 mul-part c = let a = c .args in omega (arith, c .pre .room, mul-le-mul-right {m = 1} {n = a .outer} (a .m * a .inner) (c .pre .some))
 
--- src/lib.rt:124:5
 loop-holds : tie.Need-loop-holds Inv-loop μ-loop
 loop-holds c = passed-none _ _ _ _ _ _ _ _
 
--- src/lib.rt:125:20
 add-stop : tie.Need-add-stop Inv-loop μ-loop
 add-stop c = omega (arith, inside c)
 
--- src/lib.rt:126:19
 add-end : tie.Need-add-end Inv-loop μ-loop
 add-end c = omega (arith, room c)
 
--- src/lib.rt:127:27
 mul-block : tie.Need-mul-block Inv-loop μ-loop
 mul-block c = omega (arith, inside c)
 
--- src/lib.rt:127:27
 part-block-end : tie.Need-part-block-end Inv-loop μ-loop
 part-block-end c = omega (arith, inside c)
 
--- src/lib.rt:127:56
 mul-block-2 : tie.Need-mul-block-2 Inv-loop μ-loop
 mul-block-2 c = omega (arith, room (c .before))
 
--- src/lib.rt:127:56
 part-block-end-2 : tie.Need-part-block-end-2 Inv-loop μ-loop
 part-block-end-2 c = let lp = c .before .before .loop in omega (arith, room (c .before), lp .inv .written .long)
 
--- src/lib.rt:127:9
 block-requires : tie.Need-block-requires Inv-loop μ-loop
 block-requires c κs =
     let lp = c .before .before .before .loop in
     let st = c .before .before .before .before in
     (st .pre .row, passed-block (lp .inv) (st .pre) (omega arith))
 
--- src/lib.rt:124:5
 loop-again : tie.Need-loop-again Inv-loop μ-loop
 loop-again c =
     let lp = c .before .before .before .before .before .loop in
     let st = c .before .before .before .before .before .before in
     passed-more (lp .inv) (st .pre) (omega arith) _ (c .before .block .ensures)
 
--- src/lib.rt:111:1
 same-length : tie.Need-same-length Inv-loop μ-loop
 same-length c = c .before .loop .inv .written .long
 
--- src/lib.rt:111:1
 returns : tie.Need-returns Inv-loop μ-loop
 returns c = passed-all (c .before .loop .inv) (omega arith)
 

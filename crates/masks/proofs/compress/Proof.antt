@@ -3,7 +3,6 @@ use borrow.Author.Needs.{needs}
 use Rattle.masks.proofs.compress.Statement.{statement}
 use Rattle.masks.proofs.compress.Tie as tie
 
--- src/lib.rt:329:1
 returns : tie.Need-returns
 returns c =
     let st = c .before .before .before in

@@ -13,11 +13,9 @@ either c =
     let a = c .before .args in
     ⊎-elim (λ w. w .1 ∙ rw (eq-eqb (a .c) 1 (w .0 .taken))) (λ w. w .1 ∙ rw (ne-eqb (a .c) 1 (w .0 .left))) (c .if1 .came)
 
--- src/lib.rt:82:1
 returns : tie.Need-returns
 returns c = c .if2 .taken ∙ sym (or-left _ _ (sym (either (c .before)) ∙ c .if2 .taken))
 
--- src/lib.rt:82:1
 returns-2 : tie.Need-returns-2
 returns-2 c = let a = c .before .before .args in sym (ap (λ x. x || eqb (a .c) (a .n)) (sym (either (c .before)) ∙ c .if2 .left))
 

@@ -14,22 +14,18 @@ use Rattle.masks.proofs.compress_into.Tie as tie
 long : (st : tie.Start) → length (st .args .s .lens) ≡ maxRank
 long st = search needs
 
--- src/lib.rt:196:27
 part-copy-run-end : tie.Need-part-copy-run-end
 part-copy-run-end c = let st = c .before in omega (arith, single-inside _ _ _ _ _ _ _ (st .pre) (long st) (c .if1 .taken))
 
--- src/lib.rt:198:9
 lines-requires : tie.Need-lines-requires
 lines-requires c κs = masked-lines _ _ _ _ _ _ _ _ _ (c .before .before .pre) (ne-eqb _ 1 (c .before .if1 .left))
 
--- src/lib.rt:186:1
 returns : tie.Need-returns
 returns c =
     let e = c .before .before .before .before in
     let st = e .before in
     single-out _ _ _ _ _ _ _ (st .pre) (long st) (e .if1 .taken) (st .args .out .now) _ refl (c .before .copy-run .ensures)
 
--- src/lib.rt:186:1
 returns-2 : tie.Need-returns-2
 unfolding maskElement
 returns-2 c =

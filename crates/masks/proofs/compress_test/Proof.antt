@@ -7,21 +7,18 @@ use borrow.Author.Needs.{needs}
 use Rattle.masks.proofs.compress_test.Statement.{statement}
 use Rattle.masks.proofs.compress_test.Tie as tie
 
--- src/lib.rt:88:1
 returns : tie.Need-returns
 unfolding maskFits
 returns c =
     let t = c .before .before in
     sym (meets-none _ _ false (sym (t .before .compress-fits .ensures) ∙ t .if1 .taken) (sym (c .before .all-bits .ensures) ∙ c .if2 .taken))
 
--- src/lib.rt:88:1
 returns-2 : tie.Need-returns-2
 unfolding maskFits
 returns-2 c =
     let t = c .before .before in
     sym (domain-next _ _ (sym (t .before .compress-fits .ensures) ∙ t .if1 .taken) (sym (c .before .all-bits .ensures) ∙ c .if2 .left))
 
--- src/lib.rt:88:1
 returns-3 : tie.Need-returns-3
 unfolding maskFits
 returns-3 c = sym (length-first _ (every isBit (c .before .before .args .l .now)) (sym (c .before .compress-fits .ensures) ∙ c .if1 .left))

@@ -24,15 +24,12 @@ one c = test-one _ (sfits-of (c .before .if12 .given)) (c .if1 .taken)
 other : (c : tie.Else1 Inv-loop μ-loop) → eqZ (getD (c .before .before .before .before .args .l .now) (c .before .before .before .loop .i) (pos 0)) (pos 1) ≡ false
 other c = test-other _ (sfits-of (c .before .if12 .given)) (c .if1 .left)
 
--- src/lib.rt:63:5
 loop-holds : tie.Need-loop-holds Inv-loop μ-loop
 loop-holds c = (omega arith, before-none (c .args .l .now))
 
--- src/lib.rt:65:13
 add-n : tie.Need-add-n Inv-loop μ-loop
 add-n c = let lp = c .before .before .before .loop in omega (arith, before-le (c .before .before .before .before .args .l .now) (lp .i))
 
--- src/lib.rt:63:5
 loop-again : tie.Need-loop-again Inv-loop μ-loop
 loop-again c =
     let l = c .before .before .before .before .args .l .now in
@@ -44,7 +41,6 @@ loop-again c =
           (c .if1 .came),
     )
 
--- src/lib.rt:58:1
 returns : tie.Need-returns Inv-loop μ-loop
 returns c = c .before .loop .inv .1 ∙ before-all (c .before .before .args .l .now) (c .before .loop .i) (omega arith)
 

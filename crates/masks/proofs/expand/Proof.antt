@@ -3,7 +3,6 @@ use borrow.Author.Needs.{needs}
 use Rattle.masks.proofs.expand.Statement.{statement}
 use Rattle.masks.proofs.expand.Tie as tie
 
--- src/lib.rt:338:1
 returns : tie.Need-returns
 returns c =
     let st = c .before .before .before in

@@ -9,11 +9,9 @@ use borrow.Author.Needs.{needs}
 use Rattle.masks.proofs.expand_fits.Statement.{statement}
 use Rattle.masks.proofs.expand_fits.Tie as tie
 
--- src/lib.rt:118:9
 returns : tie.Need-returns
 returns c = sym (or-left _ _ (eq-eqb (c .before .args .rank) 0 (c .if1 .taken)))
 
--- src/lib.rt:114:1
 returns-2 : tie.Need-returns-2
 returns-2 c =
     let a = c .before .before .args in

@@ -15,19 +15,15 @@ use Rattle.masks.proofs.expand_into.Tie as tie
 long : (st : tie.Start) → length (st .args .s .lens) ≡ maxRank
 long st = search needs
 
--- src/lib.rt:282:22
 shared-slice-copy-out-spread : tie.Need-shared-slice-copy-out-spread
 shared-slice-copy-out-spread c = let st = c .before in scalar-first _ _ _ _ _ _ _ (st .pre) (long st) (c .if1 .taken)
 
--- src/lib.rt:282:9
 spread-requires : tie.Need-spread-requires
 spread-requires c κs = let st = c .before .before .before in scalar-room _ _ _ _ _ _ _ (st .pre) (long st) (c .before .before .if1 .taken)
 
--- src/lib.rt:284:9
 lines-requires : tie.Need-lines-requires
 lines-requires c κs = masked-lines _ _ _ _ _ _ _ _ _ (c .before .before .pre) (c .before .if1 .left)
 
--- src/lib.rt:269:1
 returns : tie.Need-returns
 returns c =
     let e = c .before .before .before .before in
@@ -35,7 +31,6 @@ returns c =
     scalar-out _ _ _ _ _ _ _ (st .pre) (long st) (e .if1 .taken) (st .args .out .now) _ _
     (read32 (getD (st .args .r .now) 0 (pos 0)) (sfits-of (c .before .before .before .spread-arg .given))) (c .before .spread .ensures)
 
--- src/lib.rt:269:1
 returns-2 : tie.Need-returns-2
 unfolding maskElement
 returns-2 c =

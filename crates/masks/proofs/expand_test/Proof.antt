@@ -7,21 +7,18 @@ use borrow.Author.Needs.{needs}
 use Rattle.masks.proofs.expand_test.Statement.{statement}
 use Rattle.masks.proofs.expand_test.Tie as tie
 
--- src/lib.rt:110:1
 returns : tie.Need-returns
 unfolding maskFits
 returns c =
     let t = c .before .before in
     sym (meets-none _ _ true (sym (c .before .expand-fits .ensures) ∙ c .if2 .taken) (sym (t .before .all-bits .ensures) ∙ t .if1 .taken))
 
--- src/lib.rt:110:1
 returns-2 : tie.Need-returns-2
 unfolding maskFits
 returns-2 c =
     let t = c .before .before in
     sym (length-next _ _ (sym (t .before .all-bits .ensures) ∙ t .if1 .taken) (sym (c .before .expand-fits .ensures) ∙ c .if2 .left))
 
--- src/lib.rt:110:1
 returns-3 : tie.Need-returns-3
 returns-3 c =
     let a = c .before .before .args in

@@ -12,18 +12,15 @@ use Rattle.masks.proofs.kept_count.Tie as tie
 test : (c : tie.After-is-one) → c .is-one .result ≡ eqZ (getD (c .before .before .before .args .l .now) 0 (pos 0)) (pos 1)
 test c = c .is-one .ensures ∙ ap (λ z. eqZ z (pos 1)) (read32 (getD (c .before .before .before .args .l .now) 0 (pos 0)) (sfits-of (c .before .is-one-arg .given)))
 
--- src/lib.rt:77:9
 returns : tie.Need-returns
 returns c = let a = c .before .before .args in c .count-ones .ensures ∙ kept-list (a .l .now) (a .n) (c .before .if1 .taken)
 
--- src/lib.rt:73:1
 returns-2 : tie.Need-returns-2
 returns-2 c =
     let e = c .before .before .before in
     let a = e .before .args in
     kept-all (a .l .now) (a .n) (omega arith) (sym (test (c .before)) ∙ c .if2 .taken)
 
--- src/lib.rt:73:1
 returns-3 : tie.Need-returns-3
 returns-3 c =
     let e = c .before .before .before in

@@ -7,15 +7,12 @@ use borrow.Author.Needs.{needs}
 use Rattle.masks.proofs.mask_into.Statement.{statement}
 use Rattle.masks.proofs.mask_into.Tie as tie
 
--- src/lib.rt:290:9
 expand-into-requires : tie.Need-expand-into-requires
 expand-into-requires c κs = let st = c .before .before in expanding-ready _ _ _ _ _ _ _ _ _ (st .pre) (c .before .if1 .taken)
 
--- src/lib.rt:292:9
 compress-into-requires : tie.Need-compress-into-requires
 compress-into-requires c κs = let st = c .before .before in compressing-ready _ _ _ _ _ _ _ _ _ (st .pre) (c .before .if1 .left)
 
--- src/lib.rt:280:1
 returns : tie.Need-returns
 unfolding maskElement
 returns c =
@@ -23,7 +20,6 @@ returns c =
     let a = e .before .args in
     c .before .expand-into .ensures ∙ ap (λ x. x ++ drop (a .total) (a .out .now)) (expanding-element _ _ _ _ _ _ _ _ _ (e .before .pre) (e .if1 .taken))
 
--- src/lib.rt:280:1
 returns-2 : tie.Need-returns-2
 unfolding maskElement
 returns-2 c =

@@ -103,7 +103,6 @@ tested c e q b =
 inside : (c : tie.After-count) → c .count .result ≤ length (c .before .before .before .before .before .before .args .l .now)
 inside c = let g = good (c .before .before .before .before .before .before) in omega (arith, g .room, g .count-is, c .count .ensures)
 
--- src/lib.rt:128:9
 returns : tie.Need-returns
 returns c b =
     let st = c .before .before in
@@ -112,7 +111,6 @@ returns c b =
     (sym (by-shape st s refl b)
     ∙ masking-rank (st .args .g) (st .args .k) (left st) (eqb (st .args .rs .rank) 0) (arrayOf (lent s b)) (st .args .expands) (omega (arith, good st .rank-is)))
 
--- src/lib.rt:134:9
 returns-2 : tie.Need-returns-2
 returns-2 c b =
     let v = c .before .before in
@@ -123,27 +121,21 @@ returns-2 c b =
     ∙ masking-axis (st .args .g) (st .args .k) (left st) (eqb (st .args .rs .rank) 0) (arrayOf (lent s b)) (st .args .expands) (list (v .before))
     (position-none _ _ _ _ (s-rank v) (at-is (c .before)) (omega arith)))
 
--- src/lib.rt:137:13
 mul-n : tie.Need-mul-n
 mul-n c = omega (arith, s-high (c .before .before .before))
 
--- src/lib.rt:137:13
 element-copy-out-n : tie.Need-element-copy-out-n
 element-copy-out-n c = omega (arith, s-high (c .before .before .before))
 
--- src/lib.rt:139:21
 part-expand-test-end : tie.Need-part-expand-test-end
 part-expand-test-end c = omega (arith, inside (c .before .before))
 
--- src/lib.rt:141:23
 part-compress-test-end : tie.Need-part-compress-test-end
 part-compress-test-end c = omega (arith, inside (c .before .before))
 
--- src/lib.rt:121:1
 returns-3 : tie.Need-returns-3
 returns-3 c b = let t = c .before .before in c .expand-test .ensures ∙ tested (t .before .before) true (t .if3 .taken) b
 
--- src/lib.rt:121:1
 returns-4 : tie.Need-returns-4
 unfolding maskFits
 returns-4 c b = let t = c .before .before in c .compress-test .ensures ∙ tested (t .before .before) false (t .if3 .left) b

@@ -136,7 +136,6 @@ rule c = given-rule (meaning (at-axis (c .before))) (lengths (c .before)) (lengt
 size : (c : tie.Else3) → count (meaning (at-axis (c .before)) .lengths) ≡ c .before .count2 .result
 size c = given-count (meaning (at-axis (c .before))) (lengths (c .before)) (lengths-is (c .before)) _ (total-is (c .before)) (small c)
 
--- src/lib.rt:305:9
 returns : tie.Need-returns
 returns c =
     let st = c .before .before .before in
@@ -144,11 +143,9 @@ returns c =
     replied-refused (c .refused .result) _ out (c .refused .ensures)
     (early-reply (masking-names (st .args .expands) (st .args .g) (st .args .k) (left st) (right st) _ _ refl refl) out _ (early-is (c .before .before)) (c .before .if1 .taken))
 
--- src/lib.rt:307:9
 mask-refusal-requires : tie.Need-mask-refusal-requires
 mask-refusal-requires c κs = (forms c .0, good-right c .good)
 
--- src/lib.rt:309:9
 returns-2 : tie.Need-returns-2
 returns-2 c =
     let o = c .before .before in
@@ -159,19 +156,15 @@ returns-2 c =
     (own-reply (masking-names e (st .args .g) (st .args .k) (left st) (right st) _ _ refl refl) out (fine (o .before)) _
     (own-is o ∙ ap (λ (m : Meaning). own (numbered e) (m .refusals)) (masking-is e (st .args .g) (st .args .k) (arrayOf (left st)) (arrayOf (right st)))) (c .before .if2 .taken))
 
--- src/lib.rt:314:31
 part-width-of-end : tie.Need-part-width-of-end
 part-width-of-end c = omega (arith, inside c)
 
--- src/lib.rt:314:41
 mul-width-of : tie.Need-mul-width-of
 mul-width-of c = let p = c .before .before in omega (arith, has p, high p)
 
--- src/lib.rt:314:41
 element-copy-out-width-of : tie.Need-element-copy-out-width-of
 element-copy-out-width-of c = let p = c .before .before in omega (arith, has p, high p)
 
--- src/lib.rt:318:9
 returns-3 : tie.Need-returns-3
 returns-3 c =
     let t = c .before .before in
@@ -180,7 +173,6 @@ returns-3 c =
     replied-refused (c .refused3 .result) 9 out (c .refused3 .ensures)
     (limit-reply (names p) out (fine (p .before .before .before .before)) (none p) (given-limit (meaning p) (lengths t) (lengths-is t) _ (total-is t) (omega arith)))
 
--- src/lib.rt:321:9
 returns-4 : tie.Need-returns-4
 returns-4 c =
     let e = c .before .before in
@@ -189,11 +181,9 @@ returns-4 c =
     replied-refused (c .refused4 .result) 10 out (c .refused4 .ensures)
     (space-reply (names p) out (fine (p .before .before .before .before)) (none p) (rule e) (omega (arith, size e)))
 
--- src/lib.rt:324:32
 part-mask-into-end : tie.Need-part-mask-into-end
 part-mask-into-end c = omega (arith, inside (c .before .before .before .before .before .before .before .before))
 
--- src/lib.rt:324:5
 mask-into-requires : tie.Need-mask-into-requires
 mask-into-requires c κs =
     let e = c .before .before .before .before in
@@ -201,7 +191,6 @@ mask-into-requires c κs =
     let p = at-axis t in
     masking-ready (call p) _ (none p) _ (t .before .before .before .before .before .count .ensures) _ (t .before .before .width-of .ensures) _ _ (total-is t) (small e) (omega arith)
 
--- src/lib.rt:297:1
 returns-5 : tie.Need-returns-5
 returns-5 c =
     let e = c .before .before .before .before .before .before in

@@ -4,12 +4,10 @@ use borrow.Author.Needs.{needs}
 use Rattle.masks.proofs.width_of.Statement.{statement}
 use Rattle.masks.proofs.width_of.Tie as tie
 
--- src/lib.rt:150:9
 returns : tie.Need-returns
 unfolding resultWidth
 returns c = let a = c .before .args in ap (λ b. resultWidth b (a .l .now) (a .n)) (sym (c .if1 .taken))
 
--- src/lib.rt:146:1
 returns-2 : tie.Need-returns-2
 unfolding resultWidth
 returns-2 c = let a = c .before .before .args in c .kept-count .ensures ∙ ap (λ b. resultWidth b (a .l .now) (a .n)) (sym (c .before .if1 .left))

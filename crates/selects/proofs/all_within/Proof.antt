@@ -13,9 +13,6 @@ use Rattle.meaning.proofs.Positions.{positionOf, position-lt, position-none}
 use Rattle.meaning.proofs.Every.{every-next, every-stop, every-end}
 use Rattle.selects.proofs.all_within.Statement.{statement}
 use Rattle.selects.proofs.all_within.Tie as tie
-use Rattle.selects.proofs.all_within.Reads as reads
-use Rattle.selects.proofs.all_within.Lts as lts
-use Rattle.signed.proofs.position.Reads as position-reads
 
 abbrev Inv-loop : tie.InvT-loop
 Inv-loop g l n i₀ i = (i ≤ length l) × (every (λ z. within (z -ℤ toZ w32 g) n) l ≡ every (λ z. within (z -ℤ toZ w32 g) n) (drop i l))

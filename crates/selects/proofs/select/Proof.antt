@@ -20,15 +20,6 @@ use Rattle.selects.specs.Chosen.{chosen}
 use Rattle.selects.proofs.Selecting.{selecting, select-names, Selects, select-fits, axis-in, shape-is, total-is, all-chosen, select-out}
 use Rattle.selects.proofs.select.Statement.{statement}
 use Rattle.selects.proofs.select.Tie as tie
-use Rattle.selects.proofs.select.Reads as reads
-use Rattle.selects.proofs.select.Lts as lts
-use Rattle.answer.proofs.Answer.refused.Reads as refused-reads
-use Rattle.answer.proofs.early_two.Reads as early-two-reads
-use Rattle.selects.proofs.select_into.Reads as select-into-reads
-use Rattle.selects.proofs.select_refusal.Reads as select-refusal-reads
-use Rattle.selects.proofs.selected.Reads as selected-reads
-use Rattle.shape.proofs.Shape.count.Reads as count-reads
-use Rattle.signed.proofs.position.Reads as position-reads
 
 -- The operands, the meaning and its name.
 abbrev left : tie.Start → Operand

@@ -12,10 +12,6 @@ use Rattle.selects.specs.Chosen.{chosen, inBlock}
 use Rattle.selects.proofs.Rows.{one-row}
 use Rattle.selects.proofs.select_block.Statement.{statement}
 use Rattle.selects.proofs.select_block.Tie as tie
-use Rattle.selects.proofs.select_block.Reads as reads
-use Rattle.selects.proofs.select_block.Lts as lts
-use Rattle.selects.proofs.select_line.Reads as select-line-reads
-use Rattle.selects.proofs.select_rows.Reads as select-rows-reads
 
 one : {w : ℕ} → w ≡ 1 → (n : ℕ) → n * w ≡ n
 one e n = ap (λ x. n * x) e ∙ mul-one n

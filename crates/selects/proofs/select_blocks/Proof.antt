@@ -17,9 +17,6 @@ use Rattle.copying.proofs.Parts.{filled-start, part-long}
 use Rattle.selects.proofs.Rows.{block-more}
 use Rattle.selects.proofs.select_blocks.Statement.{statement}
 use Rattle.selects.proofs.select_blocks.Tie as tie
-use Rattle.selects.proofs.select_blocks.Reads as reads
-use Rattle.selects.proofs.select_blocks.Lts as lts
-use Rattle.selects.proofs.select_block.Reads as select-block-reads
 
 abbrev Inv-loop : tie.InvT-loop
 Inv-loop g l n inner outer r out₀ taken made o₀ out o =

@@ -21,10 +21,6 @@ use Rattle.selects.specs.Chosen.{chosen, Chosen}
 use Rattle.selects.proofs.Selecting.{Blocks, blocks}
 use Rattle.selects.proofs.select_into.Statement.{statement}
 use Rattle.selects.proofs.select_into.Tie as tie
-use Rattle.selects.proofs.select_into.Reads as reads
-use Rattle.selects.proofs.select_into.Lts as lts
-use Rattle.selects.proofs.select_blocks.Reads as select-blocks-reads
-use Rattle.shape.proofs.Shape.around.Reads as around-reads
 
 -- What is known of R, and of the counts around the axis, where the result has elements.
 good : (st : tie.Start) → Lent (st .args .rs) (st .args .r .now)

@@ -12,8 +12,6 @@ use Rattle.selects.specs.Chosen.{chosen}
 use Rattle.selects.proofs.Rows.{chosen-up, chosen-found}
 use Rattle.selects.proofs.select_line.Statement.{statement}
 use Rattle.selects.proofs.select_line.Tie as tie
-use Rattle.selects.proofs.select_line.Reads as reads
-use Rattle.selects.proofs.select_line.Lts as lts
 
 abbrev Inv-loop : tie.InvT-loop
 Inv-loop g l n r out₀ i₀ out i = (i ≤ length l) × ((length out ≡ length out₀) × (out ≡ filled (λ j. getD r (chosen (toZ w32 g) l j) (pos 0)) i out₀))

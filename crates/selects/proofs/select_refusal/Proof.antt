@@ -18,11 +18,6 @@ use Rattle.answer.proofs.Lent.{Lent, lent-good, lent-part, axis-is}
 use Rattle.selects.proofs.Selecting.{select-scalar, select-rank, select-axis, select-index, select-none}
 use Rattle.selects.proofs.select_refusal.Statement.{statement}
 use Rattle.selects.proofs.select_refusal.Tie as tie
-use Rattle.selects.proofs.select_refusal.Reads as reads
-use Rattle.selects.proofs.select_refusal.Lts as lts
-use Rattle.selects.proofs.all_within.Reads as all-within-reads
-use Rattle.shape.proofs.Shape.count.Reads as count-reads
-use Rattle.signed.proofs.position.Reads as position-reads
 
 -- The operands, and what is known of them.
 abbrev left : tie.Start → Array

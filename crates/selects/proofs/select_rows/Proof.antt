@@ -14,9 +14,6 @@ use Rattle.copying.proofs.Parts.{filled-start}
 use Rattle.selects.proofs.Rows.{chosen-up, chosen-found, row-more}
 use Rattle.selects.proofs.select_rows.Statement.{statement}
 use Rattle.selects.proofs.select_rows.Tie as tie
-use Rattle.selects.proofs.select_rows.Reads as reads
-use Rattle.selects.proofs.select_rows.Lts as lts
-use Rattle.copying.proofs.copy_row.Reads as copy-row-reads
 
 abbrev Inv-loop : tie.InvT-loop
 Inv-loop g l n inner r out₀ q₀ out q = (q ≤ length l) × ((length out ≡ length out₀) × (out ≡ filled (λ j. getD r (inBlock inner (chosen (toZ w32 g) l) j) (pos 0)) (q * inner) out₀))

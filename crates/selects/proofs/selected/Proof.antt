@@ -3,11 +3,7 @@ use mathlib.Core.Path.{_∙_}
 use borrow.Author.Tests.{eq-eqb, ne-eqb}
 use Rattle.selects.proofs.selected.Statement.{statement}
 use Rattle.selects.proofs.selected.Tie as tie
-use Rattle.selects.proofs.selected.Reads as reads
-use Rattle.selects.proofs.selected.Lts as lts
 use Rattle.shape.proofs.Made.{with-length-is, without-axis-is}
-use Rattle.shape.proofs.Shape.without_axis.Reads as without-axis-reads
-use Rattle.shape.proofs.Shape.with_length.Reads as with-length-reads
 
 returns : tie.Need-returns
 returns c =

@@ -8,10 +8,6 @@ use Rattle.shape.specs.Shape.{maxRank, count, held}
 use Rattle.shape.proofs.Counts.{held-more}
 use Rattle.shape.proofs.held_count.Statement.{statement}
 use Rattle.shape.proofs.held_count.Tie as tie
-use Rattle.shape.proofs.held_count.Reads as reads
-use Rattle.shape.proofs.held_count.Lts as lts
-use Rattle.shape.proofs.capped.Reads as capped-reads
-use Rattle.shape.proofs.held.Reads as held-reads
 
 abbrev Inv-loop : tie.InvT-loop
 Inv-loop from to lens total₀ i₀ total i = (from ≤ i) × ((i ≤ to) × (total ≡ held (count (slice from i lens))))
@@ -19,12 +15,10 @@ Inv-loop from to lens total₀ i₀ total i = (from ≤ i) × ((i ≤ to) × (to
 abbrev μ-loop : tie.MeasureT-loop
 μ-loop from to lens total₀ i₀ total i = to - i
 
--- src/lib.rt:129:5
 loop-holds : tie.Need-loop-holds Inv-loop μ-loop
 unfolding count
 loop-holds c = (omega arith, (omega arith, rw (slice-empty (c .args .from) (c .args .t1))))
 
--- src/lib.rt:129:5
 loop-again : tie.Need-loop-again Inv-loop μ-loop
 loop-again c =
     let st = c .before .before .before .before in
@@ -38,7 +32,6 @@ loop-again c =
       ),
     )
 
--- src/lib.rt:123:1
 returns : tie.Need-returns Inv-loop μ-loop
 returns c =
     let st = c .before .before in

@@ -10,7 +10,7 @@ use Rattle.meaning.specs.Reply.{reply}
 use Rattle.answer.specs.Answer.{lent, Replied}
 use Rattle.sheet_line.specs.Call.{maxHeld}
 use Rattle.sheet_answer.specs.Answer.{badLine, replyLine}
-use Rattle.sheet_answer.specs.Sheet.{sheetAnswer, heldAnswer}
+use Rattle.sheet_answer.specs.Sheet.{heldAnswer}
 use Rattle.sheet_answer.proofs.Room.{bad-fits}
 use Rattle.sheet_answer.proofs.Joined.{bad-answer, good-answer, printed-whole, not-held, held-whole}
 use borrow.Author.Needs.{needs}

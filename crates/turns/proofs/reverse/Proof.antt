@@ -18,15 +18,6 @@ use Rattle.turns.proofs.Reversal.{reverse-names, reverse-axis, reverse-
 use borrow.Author.Needs.{needs}
 use Rattle.turns.proofs.reverse.Statement.{statement}
 use Rattle.turns.proofs.reverse.Tie as tie
-use Rattle.turns.proofs.reverse.Reads as reads
-use Rattle.turns.proofs.reverse.Lts as lts
-use Rattle.answer.proofs.Answer.refused.Reads as refused-reads
-use Rattle.answer.proofs.early_one.Reads as early-one-reads
-use Rattle.shape.proofs.Shape.count.Reads as count-reads
-use Rattle.shape.proofs.Shape.of_lengths.Reads as of-lengths-reads
-use Rattle.signed.proofs.position.Reads as position-reads
-use Rattle.turns.proofs.axes_of.Reads as axes-of-reads
-use Rattle.turns.proofs.turn_into.Reads as turn-into-reads
 
 -- FORM and ORIGIN, and what is known of R where neither was met.
 early-is : (c : tie.After-early-one) → c .early-one .result ≡ early (goodForm (lent (c .before .args .rs) (c .before .args .r .now))) (c .before .args .g)
@@ -49,14 +40,12 @@ named c =
     let st = c .before .before .before .before .before in
     position-lt _ _ _ _ (axes-are (st .args .rs) (st .args .r .now) (fine (c .before .before .before) .operand) _ (c .before .before .axes-of .ensures)) (position-is (c .before)) (omega arith)
 
--- src/lib.rt:28:9
 returns : tie.Need-returns
 returns c L =
     let st = c .before .before .before in
     replied-refused (c .refused .result) _ (st .args .out .now) (c .refused .ensures)
     (early-reply (reverse-names (st .args .g) (st .args .k) L (lent (st .args .rs) (st .args .r .now))) (st .args .out .now) _ (early-is (c .before .before)) (c .before .if1 .taken))
 
--- src/lib.rt:33:9
 returns-2 : tie.Need-returns-2
 returns-2 c L =
     let st = c .before .before .before .before .before .before in
@@ -68,7 +57,6 @@ returns-2 c L =
     (position-none _ _ _ _ (axes-are (st .args .rs) (st .args .r .now) (fine e .operand) _ (c .before .before .before .axes-of .ensures)) (position-is (c .before .before)) (omega arith)))
     (λ z. omega arith))
 
--- src/lib.rt:37:9
 returns-3 : tie.Need-returns-3
 returns-3 c L =
     let e2 = c .before .before .before in
@@ -80,14 +68,12 @@ returns-3 c L =
     (reverse-none (st .args .g) (st .args .k) a (named e2 .0)) (reverse-rule (st .args .g) (st .args .k) a (fine e .operand .rule))
     (rw (reverse-lengths (st .args .g) (st .args .k) a) (omega (arith, fine e .operand .count-is, c .before .before .count .ensures))))
 
--- src/lib.rt:39:5
 turn-into-requires : tie.Need-turn-into-requires
 turn-into-requires c κs =
     let e2 = c .before .before .before in
     let e = e2 .before .before .before in
     (fine e .operand .form, (c .before .before .count .ensures, (omega arith, omega (arith, e2 .before .before .axes-of .ensures))))
 
--- src/lib.rt:21:1
 returns-4 : tie.Need-returns-4
 returns-4 c L =
     let e2 = c .before .before .before .before .before .before .before in

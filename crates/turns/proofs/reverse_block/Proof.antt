@@ -3,12 +3,7 @@ use Rattle.turns.proofs.Rows.{line-reversed}
 use borrow.Author.Needs.{needs}
 use Rattle.turns.proofs.reverse_block.Statement.{statement}
 use Rattle.turns.proofs.reverse_block.Tie as tie
-use Rattle.turns.proofs.reverse_block.Reads as reads
-use Rattle.turns.proofs.reverse_block.Lts as lts
-use Rattle.copying.proofs.reverse_run.Reads as reverse-run-reads
-use Rattle.turns.proofs.reverse_rows.Reads as reverse-rows-reads
 
--- src/lib.rt:95:1
 returns : tie.Need-returns
 returns c =
     let st = c .before .before .before .before in

@@ -11,10 +11,6 @@ use Rattle.copying.proofs.Runs.{filled, filled-none, filled-whole, put-copied}
 use Rattle.turns.proofs.Rows.{row-before, reversed-row}
 use Rattle.turns.proofs.reverse_rows.Statement.{statement}
 use Rattle.turns.proofs.reverse_rows.Tie as tie
-use Rattle.turns.proofs.reverse_rows.Reads as reads
-use Rattle.turns.proofs.reverse_rows.Lts as lts
-use Rattle.copying.proofs.copy_row.Reads as copy-row-reads
-use Rattle.copying.proofs.fewer.Reads as fewer-reads
 
 -- What element j of the reversed block is.
 abbrev element : List ℤ → ℕ → ℕ → ℕ → ℤ
@@ -33,54 +29,42 @@ row c = row-before (c .before .loop .i) (c .before .before .args .inner) (omega 
 from-is : (c : tie.After-fewer Inv-loop μ-loop) → c .fewer .result ≡ (c .before .before .loop .i - 1) * c .before .before .before .args .inner
 from-is c = c .fewer .ensures ∙ min-eq-left (omega (arith, row (c .before)))
 
--- src/lib.rt:111:5
 loop-holds : tie.Need-loop-holds Inv-loop μ-loop
 loop-holds c = (omega arith, (omega arith, (refl, filled-none _ _)))
 
 mul-fewer : tie.Need-mul-fewer Inv-loop μ-loop
 mul-fewer c = omega (arith, row c)
 
--- src/lib.rt:114:20
 add-stop : tie.Need-add-stop Inv-loop μ-loop
 add-stop c = omega (arith, from-is c, row (c .before))
 
--- src/lib.rt:115:19
 add-end : tie.Need-add-end Inv-loop μ-loop
 add-end c = omega (arith, from-is c, row (c .before))
 
--- src/lib.rt:116:27
 mul-copy-row : tie.Need-mul-copy-row Inv-loop μ-loop
 mul-copy-row c = omega (arith, from-is c, row (c .before))
 
--- src/lib.rt:116:27
 sub-copy-row : tie.Need-sub-copy-row Inv-loop μ-loop
 sub-copy-row c = omega (arith, from-is c, row (c .before))
 
--- src/lib.rt:116:27
 part-copy-row-start : tie.Need-part-copy-row-start Inv-loop μ-loop
 part-copy-row-start c = omega (arith, from-is c, row (c .before))
 
--- src/lib.rt:116:27
 part-copy-row-end : tie.Need-part-copy-row-end Inv-loop μ-loop
 part-copy-row-end c = omega (arith, from-is c, row (c .before))
 
--- src/lib.rt:116:43
 mul-copy-row-2 : tie.Need-mul-copy-row-2 Inv-loop μ-loop
 mul-copy-row-2 c = omega (arith, from-is (c .before), row (c .before .before))
 
--- src/lib.rt:116:43
 sub-copy-row-2 : tie.Need-sub-copy-row-2 Inv-loop μ-loop
 sub-copy-row-2 c = omega (arith, from-is (c .before), row (c .before .before))
 
--- src/lib.rt:116:43
 part-copy-row-start-2 : tie.Need-part-copy-row-start-2 Inv-loop μ-loop
 part-copy-row-start-2 c = omega (arith, from-is (c .before), row (c .before .before))
 
--- src/lib.rt:116:43
 part-copy-row-end-2 : tie.Need-part-copy-row-end-2 Inv-loop μ-loop
 part-copy-row-end-2 c = omega (arith, from-is (c .before), row (c .before .before))
 
--- src/lib.rt:111:5
 loop-again : tie.Need-loop-again Inv-loop μ-loop
 loop-again c =
     let st = c .before .before .before .before .before .before .before in
@@ -103,7 +87,6 @@ loop-again c =
       ),
     )
 
--- src/lib.rt:105:1
 returns : tie.Need-returns Inv-loop μ-loop
 returns c =
     let st = c .before .before in

@@ -19,15 +19,6 @@ use Rattle.turns.proofs.Axes.{axes-are}
 use Rattle.turns.proofs.Rotation.{rotate-names, rotate-rank, rotate-axis, rotate-length, rotate-none, rotate-rule, rotate-lengths, rotate-out, list-yes, list-no, one-yes, one-no, amount-at}
 use Rattle.turns.proofs.rotate.Statement.{statement}
 use Rattle.turns.proofs.rotate.Tie as tie
-use Rattle.turns.proofs.rotate.Reads as reads
-use Rattle.turns.proofs.rotate.Lts as lts
-use Rattle.answer.proofs.Answer.refused.Reads as refused-reads
-use Rattle.answer.proofs.early_two.Reads as early-two-reads
-use Rattle.shape.proofs.Shape.count.Reads as count-reads
-use Rattle.shape.proofs.Shape.of_lengths.Reads as of-lengths-reads
-use Rattle.signed.proofs.position.Reads as position-reads
-use Rattle.turns.proofs.axes_of.Reads as axes-of-reads
-use Rattle.turns.proofs.turn_into.Reads as turn-into-reads
 
 -- FORM and ORIGIN, and what is known of L and R where neither was met.
 early-is : (c : tie.After-early-two)
@@ -57,14 +48,12 @@ named c =
     let st = c .before .before .before .before .before .before .before in
     position-lt _ _ _ _ (axes-are (st .args .rs) (st .args .r .now) (fine (c .before .before .before .before .before) .right) _ (c .before .before .axes-of .ensures)) (position-is (c .before)) (omega arith)
 
--- src/lib.rt:53:9
 returns : tie.Need-returns
 returns c =
     let st = c .before .before .before in
     replied-refused (c .refused .result) _ (st .args .out .now) (c .refused .ensures)
     (early-reply (rotate-names (st .args .g) (st .args .k) (lent (st .args .ls) (st .args .l .now)) (lent (st .args .rs) (st .args .r .now))) (st .args .out .now) _ (early-is (c .before .before)) (c .before .if1 .taken))
 
--- src/lib.rt:56:9
 returns-2 : tie.Need-returns-2
 returns-2 c =
     let e = c .before .before .before in
@@ -73,7 +62,6 @@ returns-2 c =
     (own-reply (rotate-names (st .args .g) (st .args .k) (lent (st .args .ls) (st .args .l .now)) (lent (st .args .rs) (st .args .r .now))) (st .args .out .now) (fine e .none) 4
     (rotate-rank (st .args .g) (st .args .k) _ _ (list-no _ _ (fine e .left) (omega arith))) (λ z. omega arith))
 
--- src/lib.rt:61:9
 returns-3 : tie.Need-returns-3
 returns-3 c =
     let e2 = c .before .before .before .before in
@@ -85,7 +73,6 @@ returns-3 c =
     (position-none _ _ _ _ (axes-are (st .args .rs) (st .args .r .now) (fine e .right) _ (c .before .before .before .axes-of .ensures)) (position-is (c .before .before)) (omega arith)))
     (λ z. omega arith))
 
--- src/lib.rt:64:9
 returns-4 : tie.Need-returns-4
 returns-4 c =
     let e3 = c .before .before .before in
@@ -97,7 +84,6 @@ returns-4 c =
     (rotate-length (st .args .g) (st .args .k) _ _ (list e2) (named e3 .0) (one-no _ _ (fine e .left) (λ z. c .before .if4 .taken (c .before .before .count .ensures ∙ z))))
     (λ z. omega arith))
 
--- src/lib.rt:68:9
 returns-5 : tie.Need-returns-5
 returns-5 c =
     let e4 = c .before .before .before in
@@ -112,7 +98,6 @@ returns-5 c =
     (rotate-rule (st .args .g) (st .args .k) _ a (fine e .right .rule))
     (rw (rotate-lengths (st .args .g) (st .args .k) (arrayOf (lent (st .args .ls) (st .args .l .now))) a) (omega (arith, fine e .right .count-is, c .before .before .count2 .ensures))))
 
--- src/lib.rt:70:22
 shared-slice-copy-out-turn-into : tie.Need-shared-slice-copy-out-turn-into
 shared-slice-copy-out-turn-into c =
     let e4 = c .before .before in
@@ -120,7 +105,6 @@ shared-slice-copy-out-turn-into c =
     let g = fine e .left in
     omega (arith, g .room, g .count-is, e4 .before .count .ensures)
 
--- src/lib.rt:70:5
 turn-into-requires : tie.Need-turn-into-requires
 turn-into-requires c κs =
     let e5 = c .before .before in
@@ -128,7 +112,6 @@ turn-into-requires c κs =
     let e = e3 .before .before .before .before .before in
     (fine e .right .form, (e5 .before .count2 .ensures, (omega arith, omega (arith, e3 .before .before .axes-of .ensures))))
 
--- src/lib.rt:46:1
 returns-6 : tie.Need-returns-6
 returns-6 c =
     let e5 = c .before .before .before .before .before .before in

@@ -4,11 +4,7 @@ use Rattle.turns.proofs.Rows.{two-runs}
 use borrow.Author.Needs.{needs}
 use Rattle.turns.proofs.rotate_block.Statement.{statement}
 use Rattle.turns.proofs.rotate_block.Tie as tie
-use Rattle.turns.proofs.rotate_block.Reads as reads
-use Rattle.turns.proofs.rotate_block.Lts as lts
-use Rattle.copying.proofs.copy_run.Reads as copy-run-reads
 
--- src/lib.rt:188:1
 returns : tie.Need-returns
 returns c =
     let st = c .before .before .before .before .before .before .before .before in

@@ -4,28 +4,20 @@ use Rattle.turns.proofs.Rows.{block-back, block-cut, cut-le}
 use borrow.Author.Needs.{needs}
 use Rattle.turns.proofs.turn_block.Statement.{statement}
 use Rattle.turns.proofs.turn_block.Tie as tie
-use Rattle.turns.proofs.turn_block.Reads as reads
-use Rattle.turns.proofs.turn_block.Lts as lts
-use Rattle.turns.proofs.reverse_block.Reads as reverse-block-reads
-use Rattle.turns.proofs.rotate_block.Reads as rotate-block-reads
 
--- src/lib.rt:133:25
 mul-rotate-block : tie.Need-mul-rotate-block
 mul-rotate-block c = let a = c .before .args in omega (arith, cut-le (a .n) (a .inner) (a .a) (omega arith))
 
--- src/lib.rt:133:9
 rotate-block-requires : tie.Need-rotate-block-requires
 rotate-block-requires c κs =
     let st = c .before .before in
     (st .pre .1 .0 ∙ sym (st .pre .1 .1), omega (arith, cut-le (st .args .n) (st .args .inner) (st .args .a) (st .pre .0), st .pre .1 .0))
 
--- src/lib.rt:126:1
 returns : tie.Need-returns
 returns c =
     let st = c .before .before .before .before in
     c .before .reverse-block .ensures ∙ block-back (st .args .r .now) (st .args .n) (st .args .inner) (st .args .a) (st .args .back) (c .before .before .before .if1 .taken)
 
--- src/lib.rt:126:1
 returns-2 : tie.Need-returns-2
 returns-2 c =
     let st = c .before .before .before .before in

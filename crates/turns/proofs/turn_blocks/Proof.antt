@@ -6,18 +6,17 @@ use native.Mathlib.Omega.{arith}
 use lib.ListN.{length, getD}
 use lib.IntN.{ℤ, pos}
 use borrow.Author.Needs.{needs}
+use borrow.Author.Tests.{not-true}
 use borrow.Rule.Slice.PartMut.{same-len-mid}
 use Rattle.copying.proofs.Runs.{filled, filled-none}
 use Rattle.shape.proofs.Places.{row-fits}
 use Rattle.copying.proofs.Blocks.{source, put-block}
 use Rattle.turns.specs.Rows.{turnRow}
 use Rattle.copying.proofs.Parts.{part-long}
-use Rattle.turns.proofs.Rows.{turn-row-lt}
+use Rattle.turns.proofs.Rows.{turn-row-lt, cut-le}
+use Rattle.turns.proofs.Short.{cut-turned}
 use Rattle.turns.proofs.turn_blocks.Statement.{statement}
 use Rattle.turns.proofs.turn_blocks.Tie as tie
-use Rattle.turns.proofs.turn_blocks.Reads as reads
-use Rattle.turns.proofs.turn_blocks.Lts as lts
-use Rattle.turns.proofs.turn_block.Reads as turn-block-reads
 
 -- What element j of the turned blocks is.
 abbrev element : Bool → ℕ → List ℤ → ℕ → ℕ → ℕ → ℤ
@@ -31,66 +30,66 @@ abbrev μ-loop : tie.MeasureT-loop
 
 -- The block lies within both.
 room : (c : tie.In-loop Inv-loop μ-loop)
-    → (c .before .loop .at + c .before .before .args .n * c .before .before .args .inner ≤ length (c .before .before .args .r .now))
-    × (c .before .loop .at + c .before .before .args .n * c .before .before .args .inner ≤ length (c .before .before .args .out .now))
+    → (c .before .loop .at + c .before .before .before .args .n * c .before .before .before .args .inner ≤ length (c .before .before .before .args .r .now))
+    × (c .before .loop .at + c .before .before .before .args .n * c .before .before .before .args .inner ≤ length (c .before .before .before .args .out .now))
 room c =
-    let a = c .before .before .args in
+    let a = c .before .before .before .args in
     let o = c .before .loop .o in
     let l : o < a .outer = omega arith in (
       omega (arith, row-fits o (a .outer) (a .n * a .inner) l),
       omega (arith, row-fits o (a .outer) (a .n * a .inner) l),
     )
 
--- src/lib.rt:83:16
 mul-size : tie.Need-mul-size Inv-loop μ-loop
 mul-size c = omega (arith, row-fits 0 (c .args .outer) (c .args .n * c .args .inner) (omega arith))
 
--- src/lib.rt:86:5
+mul-rotate-short : tie.Need-mul-rotate-short Inv-loop μ-loop
+mul-rotate-short c =
+    let a = c .before .before .args in
+    omega (arith, cut-le (a .n) (a .inner) (a .a) (omega arith), row-fits 0 (a .outer) (a .n * a .inner) (omega arith))
+
+rotate-short-requires : tie.Need-rotate-short-requires Inv-loop μ-loop
+rotate-short-requires c κs =
+    let st = c .before .before .before in
+    let a = st .args in
+    (st .pre .0, (cut-le (a .n) (a .inner) (a .a) (st .pre .1 .0), (omega arith, omega arith)))
+
 loop-holds : tie.Need-loop-holds Inv-loop μ-loop
 loop-holds c = (omega arith, (omega arith, (refl, filled-none _ _)))
 
--- src/lib.rt:87:19
 add-end : tie.Need-add-end Inv-loop μ-loop
 add-end c = omega (arith, room c)
 
--- src/lib.rt:88:23
 mul-turn-block : tie.Need-mul-turn-block Inv-loop μ-loop
 mul-turn-block c = omega (arith, room c)
 
--- src/lib.rt:88:23
 part-turn-block-start : tie.Need-part-turn-block-start Inv-loop μ-loop
 part-turn-block-start c = omega (arith, room c)
 
--- src/lib.rt:88:23
 part-turn-block-end : tie.Need-part-turn-block-end Inv-loop μ-loop
 part-turn-block-end c = omega (arith, room c)
 
--- src/lib.rt:88:46
 mul-turn-block-2 : tie.Need-mul-turn-block-2 Inv-loop μ-loop
 mul-turn-block-2 c = omega (arith, room (c .before))
 
--- src/lib.rt:88:46
 part-turn-block-start-2 : tie.Need-part-turn-block-start-2 Inv-loop μ-loop
 part-turn-block-start-2 c = omega (arith, room (c .before))
 
--- src/lib.rt:88:46
 part-turn-block-end-2 : tie.Need-part-turn-block-end-2 Inv-loop μ-loop
 part-turn-block-end-2 c = omega (arith, room (c .before))
 
--- src/lib.rt:88:9
 turn-block-requires : tie.Need-turn-block-requires Inv-loop μ-loop
 turn-block-requires c κs =
-    let a = c .before .before .before .before .args in
+    let a = c .before .before .before .before .before .args in
     let lp = c .before .before .before .loop in
     let m = room (c .before .before) in (
-      c .before .before .before .before .pre .1 .0,
+      c .before .before .before .before .before .pre .1 .0,
       (part-long (a .r .now) (lp .at) (a .n * a .inner) (m .0), part-long (lp .out) (lp .at) (a .n * a .inner) (omega (arith, m .1, lp .inv .1 .1 .0))),
     )
 
--- src/lib.rt:86:5
 loop-again : tie.Need-loop-again Inv-loop μ-loop
 loop-again c =
-    let a = c .before .before .before .before .before .before .args in
+    let a = c .before .before .before .before .before .before .before .args in
     let lp = c .before .before .before .before .before .loop in
     let size = a .n * a .inner in
     let m = room (c .before .before .before .before) in (
@@ -106,10 +105,15 @@ loop-again c =
       ),
     )
 
--- src/lib.rt:75:1
 returns : tie.Need-returns Inv-loop μ-loop
 returns c =
-    let a = c .before .before .args in
+    let st = c .before .before .before .before .before in
+    let a = st .args in
+    c .before .rotate-short .ensures ∙ cut-turned (a .r .now) (a .outer) (a .n) (a .inner) (a .a) (a .back) (not-true (a .back) (c .before .before .before .before .if1 .taken)) (omega arith) (a .out .now)
+
+returns-2 : tie.Need-returns-2 Inv-loop μ-loop
+returns-2 c =
+    let a = c .before .before .before .args in
     let lp = c .before .loop in
     let e : lp .o ≡ a .outer = omega arith in
     let t : lp .at ≡ a .outer * a .n * a .inner = lp .inv .1 .0 ∙ ap (λ k. k * (a .n * a .inner)) e ∙ omega arith in
@@ -122,6 +126,10 @@ turn-blocks-spec =
     Inv-loop
     μ-loop
     mul-size
+    mul-rotate-short
+    rotate-short-requires
+    (λ c. search needs)
+    returns
     loop-holds
     add-end
     mul-turn-block
@@ -137,4 +145,4 @@ turn-blocks-spec =
     (λ c. search needs)
     loop-again
     (λ c. search needs)
-    returns)
+    returns-2)

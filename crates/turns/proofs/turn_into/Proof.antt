@@ -17,11 +17,6 @@ use Rattle.turns.proofs.Into.{into-scalar, into-none, turn-room, turn-s
 use borrow.Author.Needs.{needs}
 use Rattle.turns.proofs.turn_into.Statement.{statement}
 use Rattle.turns.proofs.turn_into.Tie as tie
-use Rattle.turns.proofs.turn_into.Reads as reads
-use Rattle.turns.proofs.turn_into.Lts as lts
-use Rattle.copying.proofs.copy_run.Reads as copy-run-reads
-use Rattle.shape.proofs.Shape.around.Reads as around-reads
-use Rattle.turns.proofs.turn_blocks.Reads as turn-blocks-reads
 
 good : (c : tie.Start) → Lent (c .args .s) (c .args .r .now)
 good c =
@@ -38,18 +33,15 @@ some c = omega (arith, c .before .before .before .pre)
 amount-is : (c : tie.After-amount) → c .amount .result ≡ cond (eqb (c .before .around .result .length) 0) 0 (modulo (c .before .before .before .before .before .args .z) (c .before .around .result .length))
 amount-is c = c .amount .ensures ∙ ap (λ z. cond (eqb (c .before .around .result .length) 0) 0 (modulo z (c .before .around .result .length))) (read32 _ (c .before .before .before .before .before .fits .z))
 
--- src/lib.rt:64:27
 part-copy-run-end : tie.Need-part-copy-run-end
 part-copy-run-end c = let g = good (c .before .before) in omega (arith, g .room, g .count-is)
 
--- src/lib.rt:65:9
 returns : tie.Need-returns
 returns c =
     let st = c .before .before .before .before .before .before in
     into-scalar (st .args .s) (st .args .r .now) (st .args .out .now) (good st) (st .args .k) _ (st .args .total) _ (c .before .before .before .before .if1 .taken) (st .pre .1 .0) (st .pre .1 .1 .0)
     (c .before .copy-run .ensures)
 
--- src/lib.rt:68:9
 returns-2 : tie.Need-returns-2
 returns-2 c =
     let st = c .before .before .before in
@@ -65,7 +57,6 @@ turn-blocks-requires c κs =
     let n = turn-some (st .args .s) (st .args .r .now) (st .args .out .now) g (st .args .k) _ w (axis-in e) (some e) in
     (m .0, (amount-lt (st .args .z) _ _ n (amount-is (c .before)), (omega (arith, m .1, g .room), omega (arith, m .1, g .count-is))))
 
--- src/lib.rt:52:1
 returns-3 : tie.Need-returns-3
 returns-3 c =
     let st = c .before .before .before .before .before .before .before .before in

@@ -2,7 +2,6 @@ use borrow.Author.Needs.{needs}
 use Rattle.answer.proofs.Answer.refused.Statement.{statement}
 use Rattle.answer.proofs.Answer.refused.Tie as tie
 
--- src/lib.rt:17:5
 returns : tie.Need-returns
 returns c = rw (c .scalar .ensures)
 

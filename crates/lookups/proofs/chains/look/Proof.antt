@@ -1,6 +1,10 @@
-use Prim.Native.Nat.{ℕ, _-_}
+use Prim.Native.Nat.{ℕ, _<_, min}
 use native.Mathlib.Omega.{arith}
+use native.Mathlib.Decide.{decLt}
 use mathlib.Core.Path.{_≡_, sym, ap, _∙_}
+use mathlib.Core.Bool.{true}
+use mathlib.Core.List.{List}
+use mathlib.Core.Logic.{⊎-elim}
 use lib.IntN.{ℤ, pos}
 use lib.ListN.{length, getD}
 use mir.Syntax.{w32}
@@ -8,85 +12,87 @@ use mir.Val.{toZ, ofZ}
 use borrow.Author.Needs.{needs, sfits-of}
 use Rattle.meaning.specs.Terms.{eqZ, firstAt}
 use Rattle.signed.proofs.Reading.{read32}
-use Rattle.lookups.proofs.Chaining.{Come, come-first, come-on, come-here, come-past}
+use Rattle.lookups.specs.Chains.{chainOf}
+use Rattle.lookups.proofs.Chaining.{Come, come-first, come-here, come-past}
+use Rattle.lookups.proofs.Finding.{first-le}
 use Rattle.lookups.proofs.chains.look.Statement.{statement}
 use Rattle.lookups.proofs.chains.look.Tie as tie
 
-abbrev Inv-loop : tie.InvT-loop
-Inv-loop l heads links x n h p₀ left₀ p left = Come l (toZ w32 x) p
-
-abbrev μ-loop : tie.MeasureT-loop
-μ-loop l heads links x n h p₀ left₀ p left = n - p
-
--- What x is read as, and the test as one of it and the element.
-abbrev sought : tie.Start Inv-loop μ-loop → ℤ
+-- What x is read as.
+abbrev sought : tie.Start → ℤ
 sought st = toZ w32 (ofZ w32 (st .args .x))
 
-same-is : (c : tie.After-same Inv-loop μ-loop)
-    → c .same .result ≡ eqZ (sought (c .before .before .before .before .before .before .before)) (getD (c .before .before .before .before .before .before .before .args .l .now) (c .before .before .before .loop .p) (pos 0))
+-- The position, as that of x itself.
+found : (st : tie.Start) (n : ℕ) → n ≡ firstAt (sought st) (st .args .l .now) → n ≡ firstAt (st .args .x) (st .args .l .now)
+found st n e = e ∙ ap (λ z. firstAt z (st .args .l .now)) (read32 (st .args .x) (st .fits .x))
+
+-- The first position of the chain.
+head-is : (c : tie.After-wide) → c .wide .result ≡ getD (c .before .before .before .before .args .heads .now) (chainOf (sought (c .before .before .before .before))) 0
+head-is c = c .wide .ensures .0 ∙ ap (λ h. getD (c .before .before .before .before .args .heads .now) h 0) (c .before .before .chain .ensures .0)
+
+came : (c : tie.After-wide) → Come (c .before .before .before .before .args .l .now) (sought (c .before .before .before .before)) (c .wide .result)
+came c =
+    let st = c .before .before .before .before in
+    rw (head-is c) (come-first (st .args .l .now) (sought st) (st .args .heads .now) (st .args .links .now) (st .pre .1))
+
+-- The test, as one of x and the element.
+same-is : (c : tie.After-same)
+    → c .same .result ≡ eqZ (sought (c .before .before .before .before .before .before .before)) (getD (c .before .before .before .before .before .before .before .args .l .now) (c .before .before .fewer .result) (pos 0))
 same-is c =
     c .same .ensures ∙ ap (eqZ (sought (c .before .before .before .before .before .before .before))) (read32 _ (sfits-of (c .before .same-arg .given)))
 
--- The position, as that of x itself.
-found : (st : tie.Start Inv-loop μ-loop) (n : ℕ) → n ≡ firstAt (sought st) (st .args .l .now) → n ≡ firstAt (st .args .x) (st .args .l .now)
-found st n e = e ∙ ap (λ z. firstAt z (st .args .l .now)) (read32 (st .args .x) (st .fits .x))
+-- Where no chain is to be followed, the list holds x at the chain's first position or nowhere.
+module _ (l : List ℤ) (x : ℤ) (p : ℕ) (c : Come l x p) where
+  known : (p < length l → eqZ x (getD l p (pos 0)) ≡ true) → min p (length l) ≡ firstAt x l
+  known e = by (decLt p (length l))
+    where
+      by : Dec (p < length l) → min p (length l) ≡ firstAt x l
+      by (yes h) = omega (arith, come-here l x p c h (e h))
+      by (no h) = omega (arith, come-past l x p c (omega arith))
 
-loop-holds : tie.Need-loop-holds Inv-loop μ-loop
-loop-holds c =
-    let st = c .before .before .before in
-    rw (c .wide .ensures ∙ ap (λ h. getD (st .args .heads .now) h 0) (c .before .before .chain .ensures .0))
-    (come-first (st .args .l .now) (sought st) (st .args .heads .now) (st .args .links .now) (st .pre .1))
+returns : tie.Need-returns
+returns c = omega (arith, first-le (c .before .args .x) (c .before .args .l .now))
 
-returns : tie.Need-returns Inv-loop μ-loop
-returns c =
-    let lp = c .before .before .before .before in
-    let st = lp .before .before .before .before in
-    found st (lp .loop .p) (come-here (st .args .l .now) (sought st) (lp .loop .p) (lp .loop .inv) (omega arith) (sym (same-is (c .before)) ∙ c .if1 .taken))
+add-if3 : tie.Need-add-if3
+add-if3 c = ⊎-elim (λ t. omega arith) (λ t. omega arith) (c .before .if2 .came)
 
-returns-2 : tie.Need-returns-2 Inv-loop μ-loop
-returns-2 c = let st = c .before .before .before .before .before .before .before .before .before .before in found st (c .position-from .result) (omega (arith, c .position-from .ensures))
+follow-requires : tie.Need-follow-requires
+follow-requires c κs =
+    let w = c .before .before .before .before .before .before in
+    let st = w .before .before .before .before in
+    (st .pre .0, (st .args .heads .now, (st .pre .1, head-is w)))
 
-loop-less : tie.Need-loop-less Inv-loop μ-loop
-loop-less c =
-    let lp = c .before .before .before .before .before .before .before in
-    let st = lp .before .before .before .before in
-    omega (arith, c .wide2 .ensures, st .pre .1 .link (lp .loop .p) (omega arith) (omega arith) .after)
+returns-2 : tie.Need-returns-2
+returns-2 c = found (c .before .before .before .before .before .before .before .before .before .before .before) _ (c .follow .ensures)
 
-loop-again : tie.Need-loop-again Inv-loop μ-loop
-loop-again c =
-    let lp = c .before .before .before .before .before .before .before in
-    let st = lp .before .before .before .before in
-    let e = c .before .before .before in
-    rw (c .wide2 .ensures)
-    (come-on (st .args .l .now) (sought st) (lp .loop .p) (lp .loop .inv) (st .args .heads .now) (st .args .links .now) (st .pre .1) (omega arith) (sym (same-is (e .before)) ∙ e .if1 .left))
-
-returns-3 : tie.Need-returns-3 Inv-loop μ-loop
+returns-3 : tie.Need-returns-3
 returns-3 c =
-    let lp = c .before in
-    let st = lp .before .before .before .before in
-    found st (length (st .args .l .now)) (come-past (st .args .l .now) (sought st) (lp .loop .p) (lp .loop .inv) (omega arith))
+    let k = c .before .before .before in
+    let s = k .before in
+    let w = s .before .before .before in
+    let st = w .before .before .before .before in
+    let n = length (st .args .l .now) in
+    let holds : w .wide .result < n → eqZ (sought st) (getD (st .args .l .now) (w .wide .result) (pos 0)) ≡ true =
+    λ h. let q : s .before .before .fewer .result ≡ w .wide .result = omega (arith, s .before .before .fewer .ensures) in
+    ⊎-elim (λ t. rw q at (sym (same-is s) ∙ t .0 .taken)) (λ t. absurd (omega arith)) (k .if2 .came) in
+    found st (c .fewer2 .result) (c .fewer2 .ensures ∙ known (st .args .l .now) (sought st) (w .wide .result) (came w) holds)
 
 pub look-spec : {M : Type 1} → statement M
 look-spec =
     tie.close
     (tie.spec
-    Inv-loop
-    μ-loop
-    (λ c κs. search needs)
-    (λ c. search needs)
-    (λ c. search needs)
-    (λ c κs. search needs)
-    loop-holds
-    (λ c. search needs)
-    (λ c. search needs)
-    (λ c κs. search needs)
     returns
     (λ c κs. search needs)
-    returns-2
-    (λ c. search needs)
     (λ c. search needs)
     (λ c. search needs)
     (λ c κs. search needs)
-    loop-less
-    loop-again
+    (λ c. search needs)
+    (λ c κs. search needs)
+    (λ c. search needs)
+    (λ c. search needs)
+    (λ c κs. search needs)
+    add-if3
+    follow-requires
+    returns-2
+    (λ c κs. search needs)
     returns-3)

@@ -31,23 +31,18 @@ room c =
     let lp = c .before .before .before .loop in
     omega (arith, kept-room (lp .inv) (omega arith) (omega arith) (one c))
 
--- src/rows.rt:22:5
 loop-holds : tie.Need-loop-holds Inv-loop μ-loop
 loop-holds c = kept-none _ _ 1 _
 
--- src/rows.rt:24:13
 mul-t13 : tie.Need-mul-t13 Inv-loop μ-loop
 mul-t13 c = omega (arith, room (c .before))
 
--- src/rows.rt:24:13
 slice-set-from-out : tie.Need-slice-set-from-out Inv-loop μ-loop
 slice-set-from-out c = omega (arith, room (c .before))
 
--- src/rows.rt:25:13
 add-to : tie.Need-add-to Inv-loop μ-loop
 add-to c = omega (arith, room (c .before))
 
--- src/rows.rt:22:5
 loop-again : tie.Need-loop-again Inv-loop μ-loop
 loop-again c =
     let st = c .before .before .before .before in
@@ -60,7 +55,6 @@ loop-again c =
     (λ w. rw (w .1, w .2) (kept-other (lp .inv) (omega arith) (omega arith) (other (record { before = c .before; if1 = w .0 }))))
     (c .if1 .came)
 
--- src/rows.rt:12:1
 returns : tie.Need-returns Inv-loop μ-loop
 returns c = let st = c .before .before in kept-all (c .before .loop .inv) (omega arith) (omega arith)
 

@@ -35,35 +35,27 @@ room c =
     let a = c .before .before .before .before .before .args in
     kept-room (lp .inv .1) (omega arith) (omega arith) (sym (test (c .before)) ∙ c .if1 .taken)
 
--- src/rows.rt:43:5
 loop-holds : tie.Need-loop-holds Inv-loop μ-loop
 loop-holds c = (omega arith, kept-none _ _ _ _)
 
--- src/rows.rt:44:20
 add-stop : tie.Need-add-stop Inv-loop μ-loop
 add-stop c = omega (arith, inside c)
 
--- src/rows.rt:46:23
 add-end : tie.Need-add-end Inv-loop μ-loop
 add-end c = omega (arith, room c)
 
--- src/rows.rt:47:31
 mul-copy-run : tie.Need-mul-copy-run Inv-loop μ-loop
 mul-copy-run c = omega (arith, inside (c .before .before .before))
 
--- src/rows.rt:47:31
 part-copy-run-end : tie.Need-part-copy-run-end Inv-loop μ-loop
 part-copy-run-end c = omega (arith, inside (c .before .before .before))
 
--- src/rows.rt:47:47
 mul-copy-run-2 : tie.Need-mul-copy-run-2 Inv-loop μ-loop
 mul-copy-run-2 c = omega (arith, room (c .before))
 
--- src/rows.rt:47:47
 part-copy-run-end-2 : tie.Need-part-copy-run-end-2 Inv-loop μ-loop
 part-copy-run-end-2 c = let lp = c .before .before .before .before .before .loop in omega (arith, room (c .before), lp .inv .1 .written .long)
 
--- src/rows.rt:43:5
 loop-again : tie.Need-loop-again Inv-loop μ-loop
 loop-again c =
     let st = c .before .before .before .before .before in
@@ -80,11 +72,9 @@ loop-again c =
           (c .if1 .came),
     )
 
--- src/rows.rt:32:1
 same-length : tie.Need-same-length Inv-loop μ-loop
 same-length c = c .before .loop .inv .1 .written .long
 
--- src/rows.rt:32:1
 returns : tie.Need-returns Inv-loop μ-loop
 returns c = kept-all (c .before .loop .inv .1) (omega arith) (omega arith)
 

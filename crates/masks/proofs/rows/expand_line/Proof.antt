@@ -31,23 +31,18 @@ inside c =
     let lp = c .before .before .before .loop in
     omega (arith, opened-inside (lp .inv) (omega arith) (omega arith) (one c) (omega arith))
 
--- src/rows.rt:86:5
 loop-holds : tie.Need-loop-holds Inv-loop μ-loop
 loop-holds c = opened-none _ _ 1 _
 
--- src/rows.rt:88:22
 mul-out : tie.Need-mul-out Inv-loop μ-loop
 mul-out c = omega (arith, inside c)
 
--- src/rows.rt:88:22
 shared-slice-copy-out-out : tie.Need-shared-slice-copy-out-out Inv-loop μ-loop
 shared-slice-copy-out-out c = inside c
 
--- src/rows.rt:89:13
 add-from : tie.Need-add-from Inv-loop μ-loop
 add-from c = omega (arith, inside (c .before))
 
--- src/rows.rt:86:5
 loop-again : tie.Need-loop-again Inv-loop μ-loop
 loop-again c =
     let st = c .before .before .before .before in
@@ -62,11 +57,9 @@ loop-again c =
     (opened-zero (lp .inv) (omega arith) (omega arith) _ (other (record { before = c .before; if1 = w .0 })) refl))
     (c .if1 .came)
 
--- src/rows.rt:75:1
 same-length : tie.Need-same-length Inv-loop μ-loop
 same-length c = c .before .loop .inv .written .long
 
--- src/rows.rt:75:1
 returns : tie.Need-returns Inv-loop μ-loop
 returns c = opened-all (c .before .loop .inv) (omega arith) (omega arith)
 

@@ -33,43 +33,33 @@ inside c =
     let a = c .before .before .before .before .before .args in
     opened-inside (lp .inv) (omega arith) (omega arith) (sym (test (c .before)) ∙ c .if1 .taken) (omega arith)
 
--- src/rows.rt:110:5
 loop-holds : tie.Need-loop-holds Inv-loop μ-loop
 loop-holds c = opened-none _ _ _ _
 
--- src/rows.rt:111:19
 add-end : tie.Need-add-end Inv-loop μ-loop
 add-end c = omega (arith, room c)
 
--- src/rows.rt:113:24
 add-stop : tie.Need-add-stop Inv-loop μ-loop
 add-stop c = omega (arith, inside c)
 
--- src/rows.rt:114:31
 mul-copy-run : tie.Need-mul-copy-run Inv-loop μ-loop
 mul-copy-run c = omega (arith, inside c)
 
--- src/rows.rt:114:31
 part-copy-run-end : tie.Need-part-copy-run-end Inv-loop μ-loop
 part-copy-run-end c = omega (arith, inside c)
 
--- src/rows.rt:114:47
 mul-copy-run-2 : tie.Need-mul-copy-run-2 Inv-loop μ-loop
 mul-copy-run-2 c = omega (arith, room (c .before .before .before .before))
 
--- src/rows.rt:114:47
 part-copy-run-end-2 : tie.Need-part-copy-run-end-2 Inv-loop μ-loop
 part-copy-run-end-2 c = let lp = c .before .before .before .before .before .loop in omega (arith, room (c .before .before .before .before), lp .inv .written .long)
 
--- src/rows.rt:117:34
 mul-fill-run : tie.Need-mul-fill-run Inv-loop μ-loop
 mul-fill-run c = omega (arith, room (c .before .before .before))
 
--- src/rows.rt:117:34
 part-fill-run-end : tie.Need-part-fill-run-end Inv-loop μ-loop
 part-fill-run-end c = let lp = c .before .before .before .before .loop in omega (arith, room (c .before .before .before), lp .inv .written .long)
 
--- src/rows.rt:110:5
 loop-again : tie.Need-loop-again Inv-loop μ-loop
 loop-again c =
     let st = c .before .before .before .before .before in
@@ -84,11 +74,9 @@ loop-again c =
     (opened-zeros (lp .inv) (omega arith) (omega arith) (sym (test (c .before)) ∙ w .0 .left) _ (w .2 .ensures)))
     (c .if1 .came)
 
--- src/rows.rt:98:1
 same-length : tie.Need-same-length Inv-loop μ-loop
 same-length c = c .before .loop .inv .written .long
 
--- src/rows.rt:98:1
 returns : tie.Need-returns Inv-loop μ-loop
 returns c = opened-all (c .before .loop .inv) (omega arith) (omega arith)
 

@@ -21,7 +21,6 @@ room c =
     let a = c .before .before .before .args in
     repeated-room (lp .inv) (omega arith) (omega arith)
 
--- src/rows.rt:62:9
 returns : tie.Need-returns Inv-loop μ-loop
 returns c =
     let st = c .before .before .before .before .before in
@@ -29,23 +28,18 @@ returns c =
     ∙ repeated-one (st .args .r .now) (st .args .m) (st .args .inner) (st .args .out .now) _ (c .before .before .before .before .if1 .taken) (omega arith)
     (read32 (getD (st .args .r .now) 0 (pos 0)) (sfits-of (c .before .before .before .fill-run-arg .given)))
 
--- src/rows.rt:66:5
 loop-holds : tie.Need-loop-holds Inv-loop μ-loop
 loop-holds c = repeated-none _ _ _ _
 
--- src/rows.rt:67:19
 add-end : tie.Need-add-end Inv-loop μ-loop
 add-end c = omega (arith, room c)
 
--- src/rows.rt:68:30
 mul-copy-run : tie.Need-mul-copy-run Inv-loop μ-loop
 mul-copy-run c = omega (arith, room c)
 
--- src/rows.rt:68:30
 part-copy-run-end : tie.Need-part-copy-run-end Inv-loop μ-loop
 part-copy-run-end c = let lp = c .before .loop in omega (arith, room c, lp .inv .written .long)
 
--- src/rows.rt:66:5
 loop-again : tie.Need-loop-again Inv-loop μ-loop
 loop-again c =
     let st = c .before .before .before .before .before .before in
@@ -53,11 +47,9 @@ loop-again c =
     let a = st .args in
     repeated-row (lp .inv) (omega arith) (omega arith) (omega arith) _ (c .before .copy-run .ensures)
 
--- src/rows.rt:56:1
 same-length-2 : tie.Need-same-length-2 Inv-loop μ-loop
 same-length-2 c = c .before .loop .inv .written .long
 
--- src/rows.rt:56:1
 returns-2 : tie.Need-returns-2 Inv-loop μ-loop
 returns-2 c = repeated-all (c .before .loop .inv) (omega arith) (omega arith)
 

@@ -29,11 +29,9 @@ one c = test-one _ (sfits-of (c .before .if12 .given)) (c .if1 .taken)
 other : (c : tie.Else1 Inv-loop μ-loop) → eqZ (getD (c .before .before .before .before .args .l .now) (c .before .before .before .loop .i) (pos 0)) (pos 1) ≡ false
 other c = test-other _ (sfits-of (c .before .if12 .given)) (c .if1 .left)
 
--- src/rows.rt:134:5
 loop-holds : tie.Need-loop-holds Inv-loop μ-loop
 loop-holds c = (omega arith, written-none _ 1 _)
 
--- src/rows.rt:134:5
 loop-again : tie.Need-loop-again Inv-loop μ-loop
 loop-again c =
     let st = c .before .before .before .before in
@@ -46,11 +44,9 @@ loop-again c =
           (c .if1 .came),
     )
 
--- src/rows.rt:126:1
 same-length : tie.Need-same-length Inv-loop μ-loop
 same-length c = c .before .loop .inv .1 .long
 
--- src/rows.rt:126:1
 returns : tie.Need-returns Inv-loop μ-loop
 returns c =
     let st = c .before .before in

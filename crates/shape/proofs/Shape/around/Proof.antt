@@ -4,19 +4,13 @@ use Rattle.shape.proofs.Surround.{around-high, around-past, around-is}
 use borrow.Author.Needs.{needs}
 use Rattle.shape.proofs.Shape.around.Statement.{statement}
 use Rattle.shape.proofs.Shape.around.Tie as tie
-use Rattle.shape.proofs.Shape.around.Reads as reads
-use Rattle.shape.proofs.Shape.around.Lts as lts
-use Rattle.shape.proofs.held_count.Reads as held-count-reads
 
--- src/lib.rt:91:13
 returns : tie.Need-returns
 returns c = around-high (c .before .before .args .self) (c .before .before .args .k) (omega arith)
 
--- src/lib.rt:98:13
 returns-2 : tie.Need-returns-2
 returns-2 c = around-past (c .before .before .before .args .self) (c .before .before .before .args .k) (omega arith) (omega arith)
 
--- src/lib.rt:85:5
 returns-3 : tie.Need-returns-3
 returns-3 c =
     let st = c .before .before .before .before .before in

@@ -8,9 +8,6 @@ use Rattle.shape.proofs.Made.{made-is, with-length-high, with-length-pa
 use lib.Seq.{take-set-lt}
 use Rattle.shape.proofs.Shape.with_length.Statement.{statement}
 use Rattle.shape.proofs.Shape.with_length.Tie as tie
-use Rattle.shape.proofs.Shape.with_length.Reads as reads
-use Rattle.shape.proofs.Shape.with_length.Lts as lts
-use Rattle.shape.proofs.Shape.of_lengths.Reads as of-lengths-reads
 
 returns : tie.Need-returns
 returns c = let a = c .before .before .before .args in c .scalar .ensures ∙ with-length-high (a .self) (a .k) (a .n) (omega arith)

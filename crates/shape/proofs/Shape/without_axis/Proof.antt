@@ -8,9 +8,6 @@ use Rattle.shape.proofs.Made.{made-is, without-axis-high, without-axis-
 use Rattle.shape.proofs.Shifted.{shifted, shifted-none, shifted-more, shifted-all}
 use Rattle.shape.proofs.Shape.without_axis.Statement.{statement}
 use Rattle.shape.proofs.Shape.without_axis.Tie as tie
-use Rattle.shape.proofs.Shape.without_axis.Reads as reads
-use Rattle.shape.proofs.Shape.without_axis.Lts as lts
-use Rattle.shape.proofs.Shape.of_lengths.Reads as of-lengths-reads
 
 abbrev Inv-loop : tie.InvT-loop
 Inv-loop k last lens₀ i₀ lens i = (k ≤ i) × ((i ≤ last) × (lens ≡ shifted k i lens₀))
