@@ -18,7 +18,6 @@ use Rattle.meaning.specs.Array.{tab}
 use Rattle.meaning.proofs.Tab.{length-tab, getD-tab, tab-ext, tab-part}
 use Rattle.copying.specs.Runs.{copied}
 use Rattle.copying.proofs.Runs.{filled, filled-whole, put-list, copied-whole}
-pub use Rattle.copying.proofs.Parts.{part-room, filled-start as filled-zero}
 use Rattle.transposes.specs.Strides.{dot, spaced, walked, Walk}
 
 pub spaced-filled : (n w : ℕ) (r : List ℤ) (at : ℕ) (out out₀ : List ℤ) → n ≡ length out₀

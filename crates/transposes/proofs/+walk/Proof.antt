@@ -7,7 +7,8 @@ use denote.Ref.{now}
 use borrow.Author.Needs.{needs}
 use Rattle.shape.specs.Shape.{count}
 use Rattle.copying.proofs.Runs.{filled, length-filled}
-use Rattle.transposes.proofs.Walking.{others, others-fewer, part-room, reached, Rows, rows, walked-one, walked-line, walked-more, walked-all, filled-zero, reach-one, reach-line}
+use Rattle.copying.proofs.Parts.{part-room, filled-start}
+use Rattle.transposes.proofs.Walking.{others, others-fewer, reached, Rows, rows, walked-one, walked-line, walked-more, walked-all, reach-one, reach-line}
 use borrow.Fn.Kinds.{In}
 use borrow.Fn.PlainCycle.{Measures, is, falls, and}
 use Rattle.transposes.proofs.walk.Reads as walk
@@ -99,7 +100,7 @@ walk-div-size : (t : ℕ) → walk-lts.Need-div-size (claims t) (walk-at t) walk
 walk-div-size t c = known t (c .before .before) .first
 
 walk-loop-holds : (t : ℕ) → walk-lts.Need-loop-holds (claims t) (walk-at t) walk.Post walk-Inv-loop walk-μ-loop
-walk-loop-holds t c = (omega arith, (refl, filled-zero _ _ _))
+walk-loop-holds t c = (omega arith, (refl, filled-start _ _ _))
 
 walk-mul-from : (t : ℕ) → walk-lts.Need-mul-from (claims t) (walk-at t) walk.Post walk-Inv-loop walk-μ-loop
 walk-mul-from t c = omega (arith, turn t c .1)
