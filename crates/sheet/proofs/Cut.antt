@@ -13,7 +13,7 @@ use Rattle.sheet_line.specs.Text.{newline}
 use Rattle.sheet_answer.specs.Sheet.{sheetAnswer}
 use Rattle.sheet.specs.declared.Held.{Held}
 use Rattle.sheet.specs.Lines.{next, Lines, after, linesFrom}
-use Rattle.sheet.specs.Steps.{Appended, Answered, Holds, Took}
+use Rattle.sheet.specs.Waiting.{Appended, Answered, Holds, Took}
 use Rattle.sheet.proofs.Search.{Free}
 use Rattle.sheet.proofs.Waits.{none-written, answer-waits, append-more}
 

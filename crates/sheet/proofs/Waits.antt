@@ -13,7 +13,7 @@ use Rattle.sheet_answer.specs.Sheet.{sheetAnswer, heldAnswer}
 use Rattle.sheet_answer.proofs.Joined.{long-answer, not-held, held-whole}
 use Rattle.sheet.specs.declared.Held.{Held}
 use Rattle.sheet.specs.Lines.{next}
-use Rattle.sheet.specs.Steps.{Appended, Answered, Holds}
+use Rattle.sheet.specs.Waiting.{Appended, Answered, Holds}
 
 -- Bytes that were written to the front of a part of a list.
 take-both : (xs bytes ys zs : List ℕ) (n : ℕ) → n ≡ length xs + length bytes → take n (xs ++ ((bytes ++ ys) ++ zs)) ≡ xs ++ bytes

@@ -11,7 +11,7 @@ ghost use Rattle.sheet_line.specs.Text.{newline};
 ghost use Rattle.sheet_line.specs.Call.{maxLine, front};
 ghost use Rattle.sheet_answer.specs.Sheet.{sheetAnswer, heldAnswer, Buffers};
 ghost use Rattle.sheet.specs.Lines.{linesFrom};
-ghost use Rattle.sheet.specs.Steps.{Appended, Answered, Holds, Took};
+ghost use Rattle.sheet.specs.Waiting.{Appended, Answered, Holds, Took};
 
 // What is held between chunks: the length of the line so far and whether it was too long, its number, and how much text waits to be written.
 struct Held {
