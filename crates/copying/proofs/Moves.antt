@@ -19,13 +19,11 @@ module _ {A : Type 0} (s d : List A) (i : ℕ) where
       ap₂ (λ r v. set r (i + m) v) (stored-is z m (omega arith) (omega arith)) (sym (getD-drop i s m z))
       ∙ paste-suc d i (drop i s) m z (omega arith) (rw length-drop (omega arith))
 
-  -- Eight elements that were read first; the code stores the first at i and not at i + 0.
-  pub stored-8 : {a₀ a₁ a₂ a₃ a₄ a₅ a₆ a₇ : A} (z : A) → i + 8 ≤ length s → i + 8 ≤ length d
+  -- Four elements that were read first; the code stores the first at i and not at i + 0.
+  pub stored-4 : {a₀ a₁ a₂ a₃ : A} (z : A) → i + 4 ≤ length s → i + 4 ≤ length d
       → a₀ ≡ getD s i z → a₁ ≡ getD s (i + 1) z → a₂ ≡ getD s (i + 2) z → a₃ ≡ getD s (i + 3) z
-      → a₄ ≡ getD s (i + 4) z → a₅ ≡ getD s (i + 5) z → a₆ ≡ getD s (i + 6) z → a₇ ≡ getD s (i + 7) z
-      → set (set (set (set (set (set (set (set d i a₀) (i + 1) a₁) (i + 2) a₂) (i + 3) a₃) (i + 4) a₄) (i + 5) a₅) (i + 6) a₆) (i + 7) a₇
-      ≡ paste d i (drop i s) 8
-  stored-8 z h k e₀ e₁ e₂ e₃ e₄ e₅ e₆ e₇ = rw (e₀, e₁, e₂, e₃, e₄, e₅, e₆, e₇) (rw add-zero at (stored-is z 8 h k))
+      → set (set (set (set d i a₀) (i + 1) a₁) (i + 2) a₂) (i + 3) a₃ ≡ paste d i (drop i s) 4
+  stored-4 z h k e₀ e₁ e₂ e₃ = rw (e₀, e₁, e₂, e₃) (rw add-zero at (stored-is z 4 h k))
 
 -- The first i of s over those of d₀.
 module _ {A : Type 0} (s d d₀ : List A) (i : ℕ) (h : i ≤ length s) (e : d ≡ take i s ++ drop i d₀) where

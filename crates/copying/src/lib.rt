@@ -24,27 +24,19 @@ pub fn copy_run(src: &[i32], out: &mut [i32])
     }
 }
 
-// Eight elements, all read before any is written.
-fn move_8(src: &[i32], out: &mut [i32], i: usize)
-    requires { ⌜ (i + 8 ≤ length (now src)) × (i + 8 ≤ length (now out)) ⌝ }
-    ensures { λ _. ⌜ now (out .exit) ≡ take i (now (out .entry)) ++ take 8 (drop i (now (src .entry))) ++ drop (i + 8) (now (out .entry)) ⌝ }
+// Four elements, all read before any is written, so that they are moved as one.
+fn move_4(src: &[i32], out: &mut [i32], i: usize)
+    requires { ⌜ (i + 4 ≤ length (now src)) × (i + 4 ≤ length (now out)) ⌝ }
+    ensures { λ _. ⌜ now (out .exit) ≡ take i (now (out .entry)) ++ take 4 (drop i (now (src .entry))) ++ drop (i + 4) (now (out .entry)) ⌝ }
 {
     let a0 = src[i];
     let a1 = src[i + 1];
     let a2 = src[i + 2];
     let a3 = src[i + 3];
-    let a4 = src[i + 4];
-    let a5 = src[i + 5];
-    let a6 = src[i + 6];
-    let a7 = src[i + 7];
     out[i] = a0;
     out[i + 1] = a1;
     out[i + 2] = a2;
     out[i + 3] = a3;
-    out[i + 4] = a4;
-    out[i + 5] = a5;
-    out[i + 6] = a6;
-    out[i + 7] = a7;
 }
 
 // Eight at a time, while that many of the first n are left: how many are copied.
@@ -54,7 +46,8 @@ fn copy_eights(src: &[i32], out: &mut [i32], n: usize) -> usize
 {
     let mut done = 0;
     while 8 <= n - done {
-        move_8(src, out, done);
+        move_4(src, out, done);
+        move_4(src, out, done + 4);
         done += 8;
     }
     done

@@ -1,6 +1,7 @@
-use Prim.Native.Nat.{_-_, _≤_}
+use Prim.Native.Nat.{_+_, _-_, _≤_}
+use native.Mathlib.Nat.{add-assoc}
 use native.Mathlib.Omega.{arith}
-use mathlib.Core.Path.{_≡_, _∙_}
+use mathlib.Core.Path.{_≡_, ap, _∙_}
 use mathlib.Core.List.{_++_}
 use lib.ListN.{length, take, drop}
 use borrow.Author.Needs.{needs}
@@ -16,12 +17,16 @@ abbrev μ-loop : tie.MeasureT-loop
 
 loop-again : tie.Need-loop-again Inv-loop μ-loop
 loop-again c =
-    let lp = c .before .before .before .before in
-    let st = lp .before in (
+    let first = c .before .before .before .before in
+    let lp = first .before .before .before in
+    let src = lp .before .args .src .now in
+    let out₀ = lp .before .args .out .now in
+    let half = front-more src (lp .loop .out) out₀ (lp .loop .done) (omega arith) (lp .loop .inv .1 .1) 4 _ (first .move-4 .ensures) in (
       omega arith,
       (
-        c .before .move-8 .kept .1 .0 ∙ lp .loop .inv .1 .0,
-        front-more (st .args .src .now) (lp .loop .out) (st .args .out .now) (lp .loop .done) (omega arith) (lp .loop .inv .1 .1) 8 _ (c .before .move-8 .ensures),
+        c .before .move-42 .kept .1 .0 ∙ first .move-4 .kept .1 .0 ∙ lp .loop .inv .1 .0,
+        front-more src _ out₀ (lp .loop .done + 4) (omega arith) half 4 _ (c .before .move-42 .ensures)
+            ∙ ap (λ j. take j src ++ drop j out₀) (add-assoc (lp .loop .done) 4 4),
       ),
     )
 
@@ -32,6 +37,8 @@ copy-eights-spec =
     Inv-loop
     μ-loop
     (λ c. search needs)
+    (λ c. search needs)
+    (λ c κs. search needs)
     (λ c. search needs)
     (λ c κs. search needs)
     (λ c. search needs)
