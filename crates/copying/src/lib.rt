@@ -3,7 +3,9 @@ ghost use mathlib.Core.Path.{_≡_};
 ghost use mathlib.Core.List.{_++_};
 ghost use Prim.Native.Nat.{min, _+_, _≤_};
 ghost use lib.ListN.{length, replicate, take, drop};
+ghost use Rattle.shape.specs.Shape.{maxCount};
 ghost use Rattle.copying.specs.Runs.{copied, reversed};
+use shape::Shape;
 
 // The lesser of two lengths.
 pub fn fewer(a: usize, b: usize) -> usize
@@ -12,8 +14,36 @@ pub fn fewer(a: usize, b: usize) -> usize
     if a < b { a } else { b }
 }
 
+// Runs from this length on are copied by way of a buffer.
+const LONG: usize = 32;
+
 // As many elements as both have; the rest of `out` stays.
 pub fn copy_run(src: &[i32], out: &mut [i32])
+    ensures { λ _. ⌜ now (out .exit) ≡ copied (now (src .entry)) (now (out .entry)) ⌝ }
+{
+    let n = fewer(src.len(), out.len());
+    if LONG <= n {
+        if n <= Shape::MAX_COUNT {
+            copy_long(&src[0..n], out);
+            return;
+        }
+    }
+    copy_each(src, out);
+}
+
+// The compiler knows that nothing else overlaps this buffer. So it makes one move of both copies, the C library's, and no buffer is left.
+fn copy_long(src: &[i32], out: &mut [i32])
+    requires { ⌜ length (now src) ≤ maxCount ⌝ }
+    ensures { λ _. ⌜ now (out .exit) ≡ copied (now (src .entry)) (now (out .entry)) ⌝ }
+{
+    let n = src.len();
+    let mut held = [0; Shape::MAX_COUNT];
+    copy_each(src, &mut held);
+    copy_each(&held[0..n], out);
+}
+
+// One after another.
+fn copy_each(src: &[i32], out: &mut [i32])
     ensures { λ _. ⌜ now (out .exit) ≡ copied (now (src .entry)) (now (out .entry)) ⌝ }
 {
     let n = fewer(src.len(), out.len());

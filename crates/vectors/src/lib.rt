@@ -108,9 +108,12 @@ fn count_up(first: usize, n: usize, out: &mut [i32])
     requires { ⌜ (first ≤ 1) × ((n ≤ maxCount) × (n ≤ length (now out))) ⌝ }
     ensures { λ _. ⌜ now (out .exit) ≡ filled (λ i. pos (first + i)) n (now (out .entry)) ⌝ }
 {
+    // The number is counted up beside the place: computed from it, each would be narrowed by itself.
+    let mut x = first as i32;
     let mut i = 0;
     while i < n {
-        out[i] = (first + i) as i32;
+        out[i] = x;
+        x += 1;
         i += 1;
     }
 }
@@ -212,11 +215,11 @@ fn cycle_run(src: &[i32], n: usize, out: &mut [i32])
 {
     let m = src.len();
     let mut i = 0;
-    while m <= n - i {
+    while m < n - i {
         let end = i + m;
         copying::copy_row(&src[0..m], &mut out[i..end]);
         i = end;
     }
     let rest = n - i;
-    copying::copy_row(&src[0..rest], &mut out[i..n]);
+    copying::copy_run(&src[0..rest], &mut out[i..n]);
 }

@@ -33,7 +33,7 @@ returns c =
     let lp = c .before .before .before .before .before in
     let n = lp .before .args .n in
     cycle-put (lp .before .args .src .now) (lp .loop .out) (lp .before .args .out .now) _ (lp .loop .i) (n - lp .loop .i) n (lp .loop .inv .1 .1 .0) (omega arith) (lp .loop .inv .1 .1 .1)
-    (omega arith) (omega arith) (c .before .copy-row2 .ensures)
+    (omega arith) (omega arith) (c .before .copy-run .ensures)
 
 pub cycle-run-spec : {M : Type 1} → statement M
 cycle-run-spec =
