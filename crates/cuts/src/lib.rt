@@ -242,6 +242,9 @@ fn keeps_end(dropping: bool, z: i32) -> bool
     if dropping { !negative } else { negative }
 }
 
+// Rows from this length on have their zeros written one by one. Those of shorter rows are written all at once, under the runs too.
+const LONG_ROW: usize = 128;
+
 // Fills `out` with what the table's windows leave of `r` from `at` on: the last window is one run, the last two are rows, one before them a
 // part for each position.
 fn cut(table: &[usize], at: usize, r: &[i32], out: &mut [i32])
@@ -249,8 +252,10 @@ fn cut(table: &[usize], at: usize, r: &[i32], out: &mut [i32])
     ensures { λ _. ⌜ now (out .exit) ≡ tab (length (now (out .entry))) (cutAt (now (table .entry)) (now (r .entry)) at) ⌝ }
 {
     if table.len() == WIDTH + WIDTH {
-        cut_rows(table, at, r, out);
-        return;
+        if table[4] < LONG_ROW {
+            cut_rows(table, at, r, out);
+            return;
+        }
     }
     let block = table[4];
     let step = table[3];

@@ -54,13 +54,13 @@ long t c =
     let s = c .before .before .before .before .before .before .before .before .before .before .before .before in
     cut-long _ (s .args .r .now) (s .args .at) _ (known t s) _ (c .before .before .before .before .clear-outside .ensures) (c .loop .i) (c .loop .out) (c .loop .inv .0) (c .loop .inv .1)
 
-more : (t : ℕ) → (c : cut-lts.Else2 (claims t) (cut-at t) cut.Post cut-Inv-loop cut-μ-loop) → 5 < length (c .before .before .before .before .before .before .before .before .before .before .before .args .table .now)
+more : (t : ℕ) → (c : cut-lts.Else3 (claims t) (cut-at t) cut.Post cut-Inv-loop cut-μ-loop) → 5 < length (c .before .before .before .before .before .before .before .before .before .before .before .args .table .now)
 more t c =
     let five = known t (c .before .before .before .before .before .before .before .before .before .before .before) .five in
-    lt-of-le-ne five (λ e. c .if2 .left (sym e))
+    lt-of-le-ne five (λ e. c .if3 .left (sym e))
 
 cut-cut-rows-requires : (t : ℕ) → cut-lts.Need-cut-rows-requires (claims t) (cut-at t) cut.Post cut-Inv-loop cut-μ-loop
-cut-cut-rows-requires t c κs = (c .before .if1 .taken, c .before .before .before .pre .1)
+cut-cut-rows-requires t c κs = (c .before .before .before .if1 .taken, c .before .before .before .before .before .pre .1)
 
 cut-same-length : (t : ℕ) → cut-lts.Need-same-length (claims t) (cut-at t) cut.Post cut-Inv-loop cut-μ-loop
 cut-same-length t c = ap length (c .before .cut-rows .ensures) ∙ length-tab _ _
@@ -128,7 +128,7 @@ cut-part-copy-run-end-2 t c = omega (arith, known t (c .before .before .before .
 cut-returns-2 : (t : ℕ) → cut-lts.Need-returns-2 (claims t) (cut-at t) cut.Post cut-Inv-loop cut-μ-loop
 cut-returns-2 t c =
     let s = c .before .before .before .before .before .before .before .before .before .before .before .before .before .before .before in
-    cut-last (s .args .table .now) (s .args .r .now) (s .args .at) _ (known t s) _ (c .before .before .before .before .before .before .before .clear-outside .ensures) (c .before .before .before .before .if2 .taken) _ _ _ refl refl (c .before .copy-run .ensures)
+    cut-last (s .args .table .now) (s .args .r .now) (s .args .at) _ (known t s) _ (c .before .before .before .before .before .before .before .clear-outside .ensures) (c .before .before .before .before .if3 .taken) _ _ _ refl refl (c .before .copy-run .ensures)
 
 cut-loop-holds : (t : ℕ) → cut-lts.Need-loop-holds (claims t) (cut-at t) cut.Post cut-Inv-loop cut-μ-loop
 cut-loop-holds t c =
@@ -203,6 +203,7 @@ pub +cut-spec : {M : Type 1} → statement M
     cut.Post
     cut-Inv-loop
     cut-μ-loop
+    (λ c. search needs)
     (λ c. search needs)
     (cut-cut-rows-requires t)
     (cut-same-length t)
