@@ -1,13 +1,15 @@
--- A row written after the rows before it.
+-- Rows written after the rows before them.
 use mathlib.Core.Path.{_≡_, refl, sym, ap, _∙_}
 use mathlib.Core.List.{List, _++_, append-nil}
 use mathlib.Core.Bool.{Bool, true, false}
-use Prim.Native.Nat.{ℕ, _+_, _*_, _-_, _≤_, _<_}
+use Prim.Native.Nat.{ℕ, _+_, _*_, _-_, _/_, _%_, _≤_, _<_}
+use native.Mathlib.Nat.{mod-lt, div-add-mod'}
 use native.Mathlib.Omega.{arith}
 use lib.ListN.{length, getD, take, drop, set, replicate, drop-of-length-le}
 use lib.Arith.{digits-div, digits-mod}
 use lib.IntN.{ℤ, pos}
 use borrow.Rule.Slice.PartMut.{putMid}
+use Rattle.shape.proofs.Places.{row-in}
 use Rattle.meaning.specs.Array.{tab}
 use Rattle.copying.specs.Runs.{copied}
 use Rattle.copying.proofs.Runs.{filled, filled-one, put-copied, put-filled}
@@ -24,19 +26,46 @@ module _ (t : ℕ → Bool) (φ : ℕ → ℕ) (c : ℕ) (r : List ℤ) (q : ℕ
   pub row-zero : (x : ℕ) → t q ≡ false → x < c → rowed t φ c r (q * c + x) ≡ pos 0
   row-zero x e h = rw (digits-div q h, e)
 
-  module _ (out out₀ last : List ℤ) (to : ℕ) (at : to ≡ q * c) (o : out ≡ filled (rowed t φ c r) to out₀) (room : to + c ≤ length out₀) where
-    -- Row q is row p of r.
-    pub put-row : (p from : ℕ) → t q ≡ true → φ q ≡ p → from ≡ p * c → from + c ≤ length r
-        → last ≡ copied (take (from + c - from) (drop from r)) (take (to + c - to) (drop to out))
-        → putMid to (to + c - to) out last ≡ filled (rowed t φ c r) (to + c) out₀
-    put-row p from e f at′ inside w =
-        put-copied (rowed t φ c r) to c (to + c) out out₀ last o refl room r from (from + c) (pos 0) refl inside
-        (λ x l. rw (at, at′) (row-at p x e f l)) w
+  -- Row q is row p of r.
+  pub put-row : (out out₀ last : List ℤ) (to : ℕ) → to ≡ q * c → out ≡ filled (rowed t φ c r) to out₀ → to + c ≤ length out₀
+      → (p from : ℕ) → t q ≡ true → φ q ≡ p → from ≡ p * c → from + c ≤ length r
+      → last ≡ copied (take (from + c - from) (drop from r)) (take (to + c - to) (drop to out))
+      → putMid to (to + c - to) out last ≡ filled (rowed t φ c r) (to + c) out₀
+  put-row out out₀ last to at o room p from e f at′ inside w =
+      put-copied (rowed t φ c r) to c (to + c) out out₀ last o refl room r from (from + c) (pos 0) refl inside
+      (λ x l. rw (at, at′) (row-at p x e f l)) w
 
-    -- Row q is zeros.
-    pub put-zeros : t q ≡ false → last ≡ replicate (length (take (to + c - to) (drop to out))) (pos 0)
-        → putMid to (to + c - to) out last ≡ filled (rowed t φ c r) (to + c) out₀
-    put-zeros e w = put-filled (rowed t φ c r) to c (to + c) out out₀ last o refl room (pos 0) (λ x l. rw at (row-zero x e l)) w
+-- n rows from row q on.
+module _ (t : ℕ → Bool) (φ : ℕ → ℕ) (c : ℕ) (r : List ℤ) (q n : ℕ) where
+  rows-at : (p x : ℕ) → ((j : ℕ) → j < n → t (q + j) ≡ true) → ((j : ℕ) → j < n → φ (q + j) ≡ p + j) → x < n * c
+      → rowed t φ c r (q * c + x) ≡ getD r (p * c + x) (pos 0)
+  rows-at p x e f h =
+      let row = row-in n c x h in
+      let here : q * c + x ≡ (q + x / c) * c + x % c = omega (arith, div-add-mod' x c) in
+      let there : (p + x / c) * c + x % c ≡ p * c + x = omega (arith, div-add-mod' x c) in
+      ap (rowed t φ c r) here
+      ∙ row-at t φ c r (q + x / c) (p + x / c) (x % c) (e (x / c) (row .1)) (f (x / c) (row .1)) (mod-lt x (row .0))
+      ∙ ap (λ y. getD r y (pos 0)) there
+
+  rows-zero : (x : ℕ) → ((j : ℕ) → j < n → t (q + j) ≡ false) → x < n * c → rowed t φ c r (q * c + x) ≡ pos 0
+  rows-zero x e h =
+      let row = row-in n c x h in
+      let here : q * c + x ≡ (q + x / c) * c + x % c = omega (arith, div-add-mod' x c) in
+      ap (rowed t φ c r) here ∙ row-zero t φ c r (q + x / c) (x % c) (e (x / c) (row .1)) (mod-lt x (row .0))
+
+  module _ (out out₀ last : List ℤ) (to e : ℕ) (at : to ≡ q * c) (o : out ≡ filled (rowed t φ c r) to out₀) (end : e ≡ to + n * c) (room : e ≤ length out₀) where
+    -- They are rows of r from row p on.
+    pub put-rows : (p from stop : ℕ) → ((j : ℕ) → j < n → t (q + j) ≡ true) → ((j : ℕ) → j < n → φ (q + j) ≡ p + j)
+        → from ≡ p * c → stop ≡ from + n * c → stop ≤ length r
+        → last ≡ copied (take (stop - from) (drop from r)) (take (e - to) (drop to out))
+        → putMid to (e - to) out last ≡ filled (rowed t φ c r) (to + n * c) out₀
+    put-rows p from stop g f at′ ends inside w =
+        put-copied (rowed t φ c r) to (n * c) e out out₀ last o end room r from stop (pos 0) ends inside (λ x l. rw (at, at′) (rows-at p x g f l)) w
+
+    -- They are zeros.
+    pub put-zeros : ((j : ℕ) → j < n → t (q + j) ≡ false) → last ≡ replicate (length (take (e - to) (drop to out))) (pos 0)
+        → putMid to (e - to) out last ≡ filled (rowed t φ c r) (to + n * c) out₀
+    put-zeros g w = put-filled (rowed t φ c r) to (n * c) e out out₀ last o end room (pos 0) (λ x l. rw at (rows-zero x g l)) w
 
 -- The same where a row is one element.
 module _ (t : ℕ → Bool) (φ : ℕ → ℕ) (r out out₀ : List ℤ) (q : ℕ) (o : out ≡ filled (rowed t φ 1 r) q out₀) (room : q < length out₀) (v : ℤ) where

@@ -1,4 +1,5 @@
 pub mod Ones
+pub mod Stretches
 pub mod Filling
 pub mod Written
 pub mod Kept

@@ -6,7 +6,7 @@ use Prim.Native.Nat.{ℕ, zero, suc, _+_, _≤_, _<_}
 use native.Mathlib.Nat.{add-zero}
 use native.Mathlib.Numerals.{add-one}
 use native.Mathlib.Omega.{arith}
-use lib.ListN.{length, getD, take, drop, replicate, length-append, length-take}
+use lib.ListN.{length, getD, take, drop, replicate, length-append, length-take, take-append-drop}
 use lib.Seq.{take-suc, split-at, take-all, getD-at, length-take-le}
 use lib.IntN.{ℤ, pos}
 use lib.Dec.{lit<}
@@ -58,6 +58,12 @@ before-le l i = omega (arith, ones-le 0 (take i l), length-take i l)
 
 pub before-all : (l : List ℤ) (i : ℕ) → length l ≤ i → before i l ≡ length (ones l)
 before-all l i h = ap (λ x. length (ones x)) (take-all i l h)
+
+pub before-most : (l : List ℤ) (i : ℕ) → before i l ≤ length (ones l)
+before-most l i =
+    let all : length (ones l) ≡ before i l + length (onesFrom (0 + length (take i l)) (drop i l)) =
+    ap (λ x. length (ones x)) (sym (take-append-drop i l)) ∙ ap length (ones-append 0 (take i l) (drop i l)) ∙ length-append (ones (take i l)) _ in
+    omega arith
 
 module _ (l : List ℤ) (i : ℕ) (h : i < length l) where
   -- Up to and with position i.

@@ -1,9 +1,9 @@
 -- The loop of expand over the mask of a block: the positions that were passed are filled.
-use mathlib.Core.Path.{_≡_, refl, sym}
+use mathlib.Core.Path.{_≡_, refl, sym, ap, _∙_, subst}
 use mathlib.Core.List.{List}
 use mathlib.Core.Bool.{Bool, true, false}
 use Prim.Native.Nat.{ℕ, _+_, _*_, _-_, _≤_, _<_}
-use native.Mathlib.Nat.{zero-mul}
+use native.Mathlib.Nat.{mul-le-mul-right, zero-mul}
 use native.Mathlib.Omega.{arith}
 use lib.ListN.{length, getD, take, drop, set, replicate}
 use lib.IntN.{ℤ, pos}
@@ -12,10 +12,11 @@ use Rattle.meaning.specs.Array.{tab}
 use Rattle.meaning.specs.Terms.{eqZ, onesFrom, ones}
 use Rattle.copying.specs.Runs.{copied}
 use Rattle.copying.proofs.Runs.{filled}
-use Rattle.masks.specs.Rows.{rowed}
-use Rattle.masks.proofs.Ones.{before, before-one, before-other, one-below}
-use Rattle.masks.proofs.Filling.{put-row, put-zeros, put-one, put-zero}
-use Rattle.masks.proofs.Written.{run-inside, Written, written-none, written-whole, written-room, written-more}
+use Rattle.masks.specs.Rows.{rowed, Stretch}
+use Rattle.masks.proofs.Ones.{before, before-most, before-one, before-other, one-below}
+use Rattle.masks.proofs.Stretches.{ones-add, ones-pass, others-pass, rows-size}
+use Rattle.masks.proofs.Filling.{put-rows, put-zeros, put-one, put-zero}
+use Rattle.masks.proofs.Written.{run-inside, Written, written-none, written-whole, written-room, written-more, written-run}
 
 abbrev pub oneAt : List ℤ → ℕ → Bool
 oneAt l i = eqZ (getD l i (pos 0)) (pos 1)
@@ -48,20 +49,55 @@ module _ {l r : List ℤ} {c : ℕ} {out₀ out : List ℤ} {from to i : ℕ} (k
     opened-past : oneAt l i ≡ false → (next : List ℤ) → next ≡ filled (opened l c r) (to + c) out₀ → Opened l r c out₀ next from (to + c) (i + 1)
     opened-past e next f = record { within = omega arith; source = rw (before-other l i h e) (k .source); written = written-more (k .written) opened-room f }
 
-    pub opened-zeros : oneAt l i ≡ false → (last : List ℤ) → last ≡ replicate (length (take (to + c - to) (drop to out))) (pos 0)
-        → Opened l r c out₀ (putMid to (to + c - to) out last) from (to + c) (i + 1)
-    opened-zeros e last w =
-        opened-past e _ (put-zeros (oneAt l) (λ j. before j l) c r i out out₀ last to (k .written .at) (k .written .filling) opened-room e w)
+    pub opened-inside : oneAt l i ≡ true → length r ≡ length (ones l) * c → from + c ≤ length r
+    opened-inside e all = run-inside c from (before i l) (length (ones l)) (length r) (k .source) (one-below l i h e) (omega arith)
 
-    module _ (e : oneAt l i ≡ true) (all : length r ≡ length (ones l) * c) where
-      pub opened-inside : from + c ≤ length r
-      opened-inside = run-inside c from (before i l) (length (ones l)) (length r) (k .source) (one-below l i h e) (omega arith)
+-- A stretch of positions: rows of zeros, or rows of r.
+module _ {l r : List ℤ} {c : ℕ} {out₀ out : List ℤ} {from i e : ℕ} (k : Opened l r c out₀ out from (i * c) i) (room : length out₀ ≡ length l * c) where
+  rows-end : i ≤ e → e * c ≡ i * c + (e - i) * c
+  rows-end h = omega (arith, rows-size i e c h, mul-le-mul-right {m = i} {n = e} c h)
 
-      pub opened-row : (last : List ℤ) → last ≡ copied (take (from + c - from) (drop from r)) (take (to + c - to) (drop to out))
-          → Opened l r c out₀ (putMid to (to + c - to) out last) (from + c) (to + c) (i + 1)
-      opened-row last w =
-          opened-next e _
-          (put-row (oneAt l) (λ j. before j l) c r i out out₀ last to (k .written .at) (k .written .filling) opened-room (before i l) from e refl (k .source) opened-inside w)
+  rows-room : e ≤ length l → e * c ≤ length out₀
+  rows-room h = omega (arith, mul-le-mul-right {m = e} {n = length l} c h)
+
+  rows-more : {next : List ℤ} → i ≤ e → e ≤ length l → next ≡ filled (opened l c r) (i * c + (e - i) * c) out₀ → Written (opened l c r) c out₀ next (e * c) e
+  rows-more {next = next} h h′ f =
+      let all : i + (e - i) ≡ e = omega arith in
+      subst (λ x. Written (opened l c r) c out₀ next (e * c) x) all (written-run (k .written) next (e - i) (e * c) (rows-end h) (rows-room h′) f)
+
+  pub opened-gap : Stretch false l i e → (last : List ℤ) → last ≡ replicate (length (take (e * c - i * c) (drop (i * c) out))) (pos 0)
+      → Opened l r c out₀ (putMid (i * c) (e * c - i * c) out last) from (e * c) e
+  opened-gap s last w =
+      record {
+        within = s .within;
+        source = k .source ∙ ap (λ x. x * c) (sym (others-pass s));
+        written =
+            rows-more (s .starts) (s .within)
+            (put-zeros (oneAt l) (λ j. before j l) c r i (e - i) out out₀ last (i * c) (e * c) refl (k .written .filling) (rows-end (s .starts)) (rows-room (s .within))
+            (λ j h. s .alike (i + j) (omega arith) (omega arith)) w);
+      }
+
+  pub opened-run : Stretch true l i e → from + (e * c - i * c) ≤ length r → (last : List ℤ)
+      → last ≡ copied (take (from + (e * c - i * c) - from) (drop from r)) (take (e * c - i * c) (drop (i * c) out))
+      → Opened l r c out₀ (putMid (i * c) (e * c - i * c) out last) (from + (e * c - i * c)) (e * c) e
+  opened-run s inside last w =
+      record {
+        within = s .within;
+        source = rw (ones-pass s, rows-size i e c (s .starts)) (omega (arith, k .source));
+        written =
+            rows-more (s .starts) (s .within)
+            (put-rows (oneAt l) (λ j. before j l) c r i (e - i) out out₀ last (i * c) (e * c) refl (k .written .filling) (rows-end (s .starts)) (rows-room (s .within))
+            (before i l) from (from + (e * c - i * c)) (λ j h. s .alike (i + j) (omega arith) (omega arith)) (λ j h. ones-add s j (omega arith)) (k .source)
+            (ap (λ x. from + x) (rows-size i e c (s .starts))) inside w);
+      }
+
+-- The rows of r for a stretch of ones after a gap.
+pub opened-rows : {l r : List ℤ} {c : ℕ} {out₀ out : List ℤ} {from to i first next : ℕ} → Opened l r c out₀ out from to i
+    → Stretch false l i first → Stretch true l first next → length r ≡ length (ones l) * c → from + (next * c - first * c) ≤ length r
+opened-rows {l = l} {c = c} {i = i} {first = first} {next = next} k a b all =
+    let most = mul-le-mul-right {m = before next l} {n = length (ones l)} c (before-most l next) in
+    let here : before next l * c ≡ (before i l + (next - first)) * c = ap (λ x. x * c) (ones-pass b ∙ ap (λ x. x + (next - first)) (others-pass a)) in
+    omega (arith, k .source, rows-size first next c (b .starts), most, here)
 
 -- Where a row is one element.
 module _ {l r out₀ out : List ℤ} {from i : ℕ} (k : Opened l r 1 out₀ out from i i) (room : length out₀ ≡ length l * 1) (h : i < length l) (v : ℤ) where

@@ -2,7 +2,7 @@
 use mathlib.Core.Path.{_≡_}
 use Prim.Native.Nat.{ℕ, _+_, _*_, _/_, _%_, _≤_, _<_}
 use mathlib.Core.List.{List}
-use mathlib.Core.Bool.{Bool, true, cond, _||_}
+use mathlib.Core.Bool.{Bool, true, cond, not, _||_}
 use lib.ListN.{length, take, getD, set, replicate}
 use lib.Dec.{eqb}
 use lib.IntN.{ℤ, pos}
@@ -34,6 +34,13 @@ taken expands l n i = cond expands (length (ones (take i l))) (cond (eqb n 1) 0 
 -- Element j of rows of c elements: row i is row φ i of r where t i, else zeros.
 abbrev pub rowed : (ℕ → Bool) → (ℕ → ℕ) → ℕ → List ℤ → ℕ → ℤ
 rowed t φ c r j = cond (t (j / c)) (getD r (φ (j / c) * c + j % c) (pos 0)) (pos 0)
+
+-- The positions of a mask from i up to e are ones, or none is one, as b says; e is not such a position.
+pub record Stretch (b : Bool) (l : List ℤ) (i e : ℕ) : Type 0 where
+  pub starts : i ≤ e
+  pub within : e ≤ length l
+  pub alike : (j : ℕ) → i ≤ j → j < e → eqZ (getD l j (pos 0)) (pos 1) ≡ b
+  pub ends : e < length l → eqZ (getD l e (pos 0)) (pos 1) ≡ not b
 
 -- A block of R with n rows goes to m rows.
 pub record Block (expands : Bool) (l : List ℤ) (n m c from to : ℕ) : Type 0 where

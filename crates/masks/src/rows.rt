@@ -7,7 +7,7 @@ ghost use lib.IntN.{pos};
 ghost use Rattle.meaning.specs.Array.{tab};
 ghost use Rattle.meaning.specs.Terms.{eqZ, ones};
 ghost use Rattle.copying.proofs.Runs.{filled};
-ghost use Rattle.masks.specs.Rows.{rowed};
+ghost use Rattle.masks.specs.Rows.{rowed, Stretch};
 
 // The elements at ones.
 pub fn compress_line(l: &[i32], r: &[i32], out: &mut [i32])
@@ -27,25 +27,38 @@ pub fn compress_line(l: &[i32], r: &[i32], out: &mut [i32])
     }
 }
 
-// The rows at ones.
+// The first position from i on that is a one and should not, or is none and should; the mask's length if there is no such position.
+fn past(one: bool, l: &[i32], i: usize) -> usize
+    requires { ⌜ i ≤ length (now l) ⌝ }
+    ensures { λ e. ⌜ Stretch one (now (l .entry)) i e ⌝ }
+{
+    let mut e = i;
+    while e < l.len() {
+        if signed::is_one(l[e]) != one {
+            return e;
+        }
+        e += 1;
+    }
+    e
+}
+
+// The rows at ones: those at neighbours are one run.
 pub fn compress_rows(l: &[i32], r: &[i32], inner: usize, out: &mut [i32])
     requires { ⌜ (length (now r) ≡ length (now l) * inner) × (length (now out) ≡ length (ones (now l)) * inner) ⌝ }
     ensures { λ _.
         ⌜ now (out .exit)
         ≡ tab (length (ones (now (l .entry))) * inner) (rowed (λ i. true) (λ i. getD (ones (now (l .entry))) i 0) inner (now (r .entry))) ⌝ }
 {
-    let mut from = 0;
     let mut to = 0;
     let mut i = 0;
-    while i < l.len() {
-        let stop = from + inner;
-        if signed::is_one(l[i]) {
-            let end = to + inner;
-            copying::copy_run(&r[from..stop], &mut out[to..end]);
-            to = end;
-        }
-        from = stop;
-        i += 1;
+    while to < out.len() {
+        let first = past(false, l, i);
+        i = past(true, l, first);
+        let from = first * inner;
+        let stop = i * inner;
+        let end = to + (stop - from);
+        copying::copy_run(&r[from..stop], &mut out[to..end]);
+        to = end;
     }
 }
 
@@ -89,7 +102,7 @@ pub fn expand_line(l: &[i32], r: &[i32], out: &mut [i32])
     }
 }
 
-// The rows in order at ones, zeros elsewhere.
+// The rows in order at ones, zeros elsewhere: neighbours are one run.
 pub fn expand_rows(l: &[i32], r: &[i32], inner: usize, out: &mut [i32])
     requires { ⌜ (length (now r) ≡ length (ones (now l)) * inner) × (length (now out) ≡ length (now l) * inner) ⌝ }
     ensures { λ _.
@@ -98,19 +111,18 @@ pub fn expand_rows(l: &[i32], r: &[i32], inner: usize, out: &mut [i32])
         (rowed (λ i. eqZ (getD (now (l .entry)) i (pos 0)) (pos 1)) (λ i. length (ones (take i (now (l .entry))))) inner (now (r .entry))) ⌝ }
 {
     let mut from = 0;
-    let mut to = 0;
     let mut i = 0;
     while i < l.len() {
-        let end = to + inner;
-        if signed::is_one(l[i]) {
-            let stop = from + inner;
-            copying::copy_run(&r[from..stop], &mut out[to..end]);
-            from = stop;
-        } else {
-            copying::fill_run(0, &mut out[to..end]);
-        }
-        to = end;
-        i += 1;
+        let first = past(false, l, i);
+        let next = past(true, l, first);
+        let gap = i * inner;
+        let start = first * inner;
+        let end = next * inner;
+        let stop = from + (end - start);
+        copying::fill_run(0, &mut out[gap..start]);
+        copying::copy_run(&r[from..stop], &mut out[start..end]);
+        from = stop;
+        i = next;
     }
 }
 

@@ -1,81 +1,54 @@
-use borrow.Author.Needs.{needs, sfits-of}
+use borrow.Author.Needs.{needs}
+use native.Mathlib.Nat.{zero-mul}
 use native.Mathlib.Omega.{arith}
-use Prim.Native.Nat.{_+_, _-_, _≤_}
-use mathlib.Core.Path.{_≡_, sym, ap, _∙_}
-use mathlib.Core.Logic.{⊎-elim}
-use lib.IntN.{pos}
-use lib.ListN.{length, getD}
-use Rattle.meaning.specs.Terms.{eqZ}
-use Rattle.signed.proofs.Reading.{read32}
-use Rattle.masks.proofs.Opened.{Opened, opened-none, opened-all, opened-row, opened-zeros, opened-room, opened-inside}
+use Prim.Native.Nat.{_+_, _-_, _*_, _≤_}
+use lib.ListN.{length}
+use Rattle.masks.proofs.Stretches.{rows-within, stretch-more}
+use Rattle.masks.proofs.Opened.{Opened, opened-none, opened-all, opened-gap, opened-run, opened-rows}
 use Rattle.masks.proofs.rows.expand_rows.Statement.{statement}
 use Rattle.masks.proofs.rows.expand_rows.Tie as tie
 
 abbrev Inv-loop : tie.InvT-loop
-Inv-loop l r inner out₀ from₀ to₀ i₀ out from to i = Opened l r inner out₀ out from to i
+Inv-loop l r inner out₀ from₀ i₀ out from i = Opened l r inner out₀ out from (i * inner) i
 
 abbrev μ-loop : tie.MeasureT-loop
-μ-loop l r inner out₀ from₀ to₀ i₀ out from to i = length l - i
+μ-loop l r inner out₀ from₀ i₀ out from i = length l - i
 
--- The mask's element.
-test : (c : tie.After-is-one Inv-loop μ-loop) → c .is-one .result ≡ eqZ (getD (c .before .before .before .before .args .l .now) (c .before .before .before .loop .i) (pos 0)) (pos 1)
-test c = c .is-one .ensures ∙ ap (λ z. eqZ z (pos 1)) (read32 (getD (c .before .before .before .before .args .l .now) (c .before .before .before .loop .i) (pos 0)) (sfits-of (c .before .is-one-arg .given)))
+-- The places of the zeros and of the rows, and the rows that are read.
+gap : (c : tie.After-past2 Inv-loop μ-loop)
+    → (c .before .before .before .loop .i * c .before .before .before .before .args .inner ≤ c .before .past .result * c .before .before .before .before .args .inner)
+    × (c .before .past .result * c .before .before .before .before .args .inner ≤ length (c .before .before .before .before .args .out .now))
+gap c = rows-within _ _ (c .before .past .ensures) (omega arith)
 
--- The row that is written, and the one that is read.
-room : (c : tie.In-loop Inv-loop μ-loop) → c .before .loop .to + c .before .before .args .inner ≤ length (c .before .before .args .out .now)
-room c =
-    let lp = c .before .loop in
-    opened-room (lp .inv) (omega arith) (omega arith)
+rows : (c : tie.After-past2 Inv-loop μ-loop)
+    → (c .before .past .result * c .before .before .before .before .args .inner ≤ c .past2 .result * c .before .before .before .before .args .inner)
+    × (c .past2 .result * c .before .before .before .before .args .inner ≤ length (c .before .before .before .before .args .out .now))
+rows c = rows-within _ _ (c .past2 .ensures) (omega arith)
 
-inside : (c : tie.Then1 Inv-loop μ-loop) → c .before .before .before .before .loop .from + c .before .before .before .before .before .args .inner ≤ length (c .before .before .before .before .before .args .r .now)
-inside c =
-    let lp = c .before .before .before .before .loop in
-    let a = c .before .before .before .before .before .args in
-    opened-inside (lp .inv) (omega arith) (omega arith) (sym (test (c .before)) ∙ c .if1 .taken) (omega arith)
+inside : (c : tie.After-past2 Inv-loop μ-loop)
+    → c .before .before .before .loop .from + (c .past2 .result * c .before .before .before .before .args .inner - c .before .past .result * c .before .before .before .before .args .inner)
+    ≤ length (c .before .before .before .before .args .r .now)
+inside c = opened-rows (c .before .before .before .loop .inv) (c .before .past .ensures) (c .past2 .ensures) (omega arith)
 
 loop-holds : tie.Need-loop-holds Inv-loop μ-loop
-loop-holds c = opened-none _ _ _ _
-
-add-end : tie.Need-add-end Inv-loop μ-loop
-add-end c = omega (arith, room c)
-
-add-stop : tie.Need-add-stop Inv-loop μ-loop
-add-stop c = omega (arith, inside c)
-
-mul-copy-run : tie.Need-mul-copy-run Inv-loop μ-loop
-mul-copy-run c = omega (arith, inside c)
-
-part-copy-run-end : tie.Need-part-copy-run-end Inv-loop μ-loop
-part-copy-run-end c = omega (arith, inside c)
-
-mul-copy-run-2 : tie.Need-mul-copy-run-2 Inv-loop μ-loop
-mul-copy-run-2 c = omega (arith, room (c .before .before .before .before))
+loop-holds c = rw (zero-mul (c .args .inner)) (opened-none _ _ _ _)
 
 part-copy-run-end-2 : tie.Need-part-copy-run-end-2 Inv-loop μ-loop
-part-copy-run-end-2 c = let lp = c .before .before .before .before .before .loop in omega (arith, room (c .before .before .before .before), lp .inv .written .long)
+part-copy-run-end-2 c =
+    let two = c .before .before .before .before in
+    let zeros = opened-gap (two .before .before .before .loop .inv) (omega arith) (two .before .past .ensures) _ (c .before .before .fill-run .ensures) in
+    omega (arith, rows two, zeros .written .long)
 
-mul-fill-run : tie.Need-mul-fill-run Inv-loop μ-loop
-mul-fill-run c = omega (arith, room (c .before .before .before))
-
-part-fill-run-end : tie.Need-part-fill-run-end Inv-loop μ-loop
-part-fill-run-end c = let lp = c .before .before .before .before .loop in omega (arith, room (c .before .before .before), lp .inv .written .long)
+loop-less : tie.Need-loop-less Inv-loop μ-loop
+loop-less c =
+    let two = c .before .before .before .before .before .before .before in
+    omega (arith, stretch-more (two .before .past .ensures) (two .past2 .ensures) (omega arith))
 
 loop-again : tie.Need-loop-again Inv-loop μ-loop
 loop-again c =
-    let st = c .before .before .before .before .before in
-    let lp = c .before .before .before .before .loop in
-    let a = st .args in
-    ⊎-elim
-    (λ w.
-    rw (w .5, w .6)
-    (opened-row (lp .inv) (omega arith) (omega arith) (sym (test (c .before)) ∙ w .0 .taken) (omega arith) _ (w .3 .ensures)))
-    (λ w.
-    rw (w .4, w .5)
-    (opened-zeros (lp .inv) (omega arith) (omega arith) (sym (test (c .before)) ∙ w .0 .left) _ (w .2 .ensures)))
-    (c .if1 .came)
-
-same-length : tie.Need-same-length Inv-loop μ-loop
-same-length c = c .before .loop .inv .written .long
+    let two = c .before .before .before .before .before .before .before in
+    let zeros = opened-gap (two .before .before .before .loop .inv) (omega arith) (two .before .past .ensures) _ (c .before .before .before .before .before .fill-run .ensures) in
+    opened-run zeros (omega arith) (two .past2 .ensures) (inside two) _ (c .before .copy-run .ensures)
 
 returns : tie.Need-returns Inv-loop μ-loop
 returns c = opened-all (c .before .loop .inv) (omega arith) (omega arith)
@@ -87,27 +60,28 @@ expand-rows-spec =
     Inv-loop
     μ-loop
     loop-holds
-    add-end
-    (λ c. search needs)
-    (λ c. search needs)
+    (λ c κs. c .before .loop .inv .within)
+    (λ c κs. c .past .ensures .within)
+    (λ c. omega (arith, gap c))
+    (λ c. omega (arith, gap c))
+    (λ c. omega (arith, rows c))
+    (λ c. omega (arith, rows c))
+    (λ c. omega (arith, inside c))
+    (λ c. omega (arith, gap c))
+    (λ c. omega (arith, gap c))
+    (λ c. omega (arith, gap c))
+    (λ c. omega (arith, gap c, c .before .before .before .loop .inv .written .long))
     (λ c κs. search needs)
-    add-stop
-    mul-copy-run
-    (λ c. search needs)
-    (λ c. search needs)
-    part-copy-run-end
-    mul-copy-run-2
-    (λ c. search needs)
-    (λ c. search needs)
+    (λ c. omega (arith, inside (c .before .before .before)))
+    (λ c. omega (arith, inside (c .before .before .before)))
+    (λ c. omega (arith, inside (c .before .before .before)))
+    (λ c. omega (arith, inside (c .before .before .before)))
+    (λ c. omega (arith, rows (c .before .before .before .before)))
+    (λ c. omega (arith, rows (c .before .before .before .before)))
+    (λ c. omega (arith, rows (c .before .before .before .before)))
     part-copy-run-end-2
     (λ c κs. search needs)
-    mul-fill-run
-    (λ c. search needs)
-    (λ c. search needs)
-    part-fill-run-end
-    (λ c κs. search needs)
-    (λ c. search needs)
-    (λ c. search needs)
+    loop-less
     loop-again
-    same-length
+    (λ c. c .before .loop .inv .written .long)
     returns)
