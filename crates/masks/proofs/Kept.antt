@@ -54,12 +54,17 @@ module _ {l r : List ℤ} {c : ℕ} {out₀ out : List ℤ} {to i : ℕ} (k : Ke
       ∙ ap (λ x. filled (kept l c r) x out₀) (let e : to ≡ length (ones l) * c = omega (arith, k .written .at, most) in e)
       ∙ filled-whole (kept l c r) (length (ones l) * c) out₀ room
 
-  pub kept-left : to < length out₀ → i < length l
-  kept-left h =
+  -- A one is left while the buffer is not full.
+  pub kept-first : {first : ℕ} → to < length out₀ → Stretch false l i first → first < length l
+  kept-first {first = first} h s =
       ⊎-elim
-      (λ q. absurd (let all = before-all l i (omega arith) in let full : before i l * c ≡ length (ones l) * c = ap (λ x. x * c) all in omega (arith, k .written .at)))
+      (λ q.
+      absurd
+      (let all : before i l ≡ length (ones l) = sym (others-pass s) ∙ before-all l first (omega arith) in
+      let full : before i l * c ≡ length (ones l) * c = ap (λ x. x * c) all in
+      omega (arith, k .written .at)))
       (λ q. q)
-      (eq-or-lt-of-le (k .within))
+      (eq-or-lt-of-le (s .within))
 
   -- Positions without a one, and then neighbouring ones.
   module _ {first next : ℕ} (a : Stretch false l i first) (b : Stretch true l first next) where

@@ -69,6 +69,14 @@ stretch-more {l = l} {i = i} {first = first} {next = next} a b h = ⊎-elim (λ 
         let other : eqZ (getD l next (pos 0)) (pos 1) ≡ false = b .ends (omega arith) in
         no-way (sym other ∙ ap (λ x. eqZ (getD l x (pos 0)) (pos 1)) (let e : next ≡ first = omega arith in e) ∙ one)
 
+-- The position at which others end is the first of the ones.
+pub from-first : {l : List ℤ} {i first next : ℕ} → Stretch false l i first → first < length l → Stretch true l (first + 1) next → Stretch true l first next
+from-first {l = l} {first = first} {next = next} a h b =
+    record { starts = omega (arith, b .starts); within = b .within; alike = all; ends = b .ends }
+  where
+    all : (j : ℕ) → first ≤ j → j < next → eqZ (getD l j (pos 0)) (pos 1) ≡ true
+    all j k m = ⊎-elim (λ q. ap (λ x. eqZ (getD l x (pos 0)) (pos 1)) (sym q) ∙ a .ends h) (λ q. b .alike j (omega arith) m) (eq-or-lt-of-le k)
+
 -- The elements of the rows at a stretch, c a row.
 pub rows-size : (i e c : ℕ) → i ≤ e → e * c - i * c ≡ (e - i) * c
 rows-size i e c h = let whole : (i + (e - i)) * c ≡ e * c = ap (λ x. x * c) (let k : i + (e - i) ≡ e = omega arith in k) in omega arith

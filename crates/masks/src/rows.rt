@@ -53,7 +53,7 @@ pub fn compress_rows(l: &[i32], r: &[i32], inner: usize, out: &mut [i32])
     let mut i = 0;
     while to < out.len() {
         let first = past(false, l, i);
-        i = past(true, l, first);
+        i = past(true, l, first + 1);
         let from = first * inner;
         let stop = i * inner;
         let end = to + (stop - from);

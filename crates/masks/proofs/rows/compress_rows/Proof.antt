@@ -1,9 +1,11 @@
 use borrow.Author.Needs.{needs}
 use native.Mathlib.Omega.{arith}
-use Prim.Native.Nat.{_+_, _-_, _*_, _≤_}
+use Prim.Native.Nat.{_+_, _-_, _*_, _≤_, _<_}
+use mathlib.Core.Bool.{true}
 use lib.ListN.{length}
-use Rattle.masks.proofs.Stretches.{rows-within, stretch-more}
-use Rattle.masks.proofs.Kept.{Kept, kept-none, kept-full, kept-left, run-room, kept-run}
+use Rattle.masks.specs.Rows.{Stretch}
+use Rattle.masks.proofs.Stretches.{from-first, rows-within}
+use Rattle.masks.proofs.Kept.{Kept, kept-none, kept-full, kept-first, run-room, kept-run}
 use Rattle.masks.proofs.rows.compress_rows.Statement.{statement}
 use Rattle.masks.proofs.rows.compress_rows.Tie as tie
 
@@ -13,27 +15,33 @@ Inv-loop l r inner out₀ to₀ i₀ out to i = Kept l r inner out₀ out to i
 abbrev μ-loop : tie.MeasureT-loop
 μ-loop l r inner out₀ to₀ i₀ out to i = length l - i
 
+-- A one is left, and the ones from there on.
+left : (c : tie.After-past Inv-loop μ-loop) → c .past .result < length (c .before .before .before .args .l .now)
+left c = let lp = c .before .before .loop in kept-first (lp .inv) (omega arith) (omega (arith, lp .inv .written .long)) (c .past .ensures)
+
+run : (c : tie.After-past2 Inv-loop μ-loop) → Stretch true (c .before .before .before .before .args .l .now) (c .before .past .result) (c .past2 .result)
+run c = from-first (c .before .past .ensures) (left (c .before)) (c .past2 .ensures)
+
 -- The rows that are read, and the place of those that are written.
 rows : (c : tie.After-past2 Inv-loop μ-loop)
     → (c .before .past .result * c .before .before .before .before .args .inner ≤ c .past2 .result * c .before .before .before .before .args .inner)
     × (c .past2 .result * c .before .before .before .before .args .inner ≤ length (c .before .before .before .before .args .r .now))
-rows c = rows-within _ _ (c .past2 .ensures) (omega arith)
+rows c = rows-within _ _ (run c) (omega arith)
 
 room : (c : tie.After-past2 Inv-loop μ-loop)
     → c .before .before .before .loop .to + (c .past2 .result * c .before .before .before .before .args .inner - c .before .past .result * c .before .before .before .before .args .inner)
     ≤ length (c .before .before .before .before .args .out .now)
-room c = run-room (c .before .before .before .loop .inv) (omega arith) (c .before .past .ensures) (c .past2 .ensures)
+room c = run-room (c .before .before .before .loop .inv) (omega arith) (c .before .past .ensures) (run c)
 
 loop-less : tie.Need-loop-less Inv-loop μ-loop
 loop-less c =
     let two = c .before .before .before .before in
-    let lp = two .before .before .before .loop in
-    omega (arith, stretch-more (two .before .past .ensures) (two .past2 .ensures) (kept-left (lp .inv) (omega arith) (omega (arith, lp .inv .written .long))))
+    omega (arith, two .before .past .ensures .starts, left (two .before), two .past2 .ensures .starts)
 
 loop-again : tie.Need-loop-again Inv-loop μ-loop
 loop-again c =
     let two = c .before .before .before .before in
-    kept-run (two .before .before .before .loop .inv) (omega arith) (two .before .past .ensures) (two .past2 .ensures) (rows two .1) _ (c .before .copy-run .ensures)
+    kept-run (two .before .before .before .loop .inv) (omega arith) (two .before .past .ensures) (run two) (rows two .1) _ (c .before .copy-run .ensures)
 
 returns : tie.Need-returns Inv-loop μ-loop
 returns c = let lp = c .before .loop in kept-full (lp .inv) (omega arith) (omega (arith, lp .inv .written .long))
@@ -46,7 +54,8 @@ compress-rows-spec =
     μ-loop
     (λ c. kept-none _ _ _ _)
     (λ c κs. c .before .loop .inv .within)
-    (λ c κs. c .past .ensures .within)
+    (λ c. omega (arith, left c))
+    (λ c κs. omega (arith, left c))
     (λ c. omega (arith, rows c))
     (λ c. omega (arith, rows c))
     (λ c. omega (arith, rows c))
