@@ -68,18 +68,19 @@ module _ (t : ℕ → Bool) (φ : ℕ → ℕ) (c : ℕ) (r : List ℤ) (q n : �
     put-zeros g w = put-filled (rowed t φ c r) to (n * c) e out out₀ last o end room (pos 0) (λ x l. rw at (rows-zero x g l)) w
 
 -- The same where a row is one element.
-module _ (t : ℕ → Bool) (φ : ℕ → ℕ) (r out out₀ : List ℤ) (q : ℕ) (o : out ≡ filled (rowed t φ 1 r) q out₀) (room : q < length out₀) (v : ℤ) where
-  one-row : q ≡ q * 1 + 0
-  one-row = omega arith
+module _ (t : ℕ → Bool) (φ : ℕ → ℕ) (r : List ℤ) (q : ℕ) where
+  pub one-is : (p : ℕ) → t q ≡ true → φ q ≡ p → rowed t φ 1 r q ≡ getD r p (pos 0)
+  one-is p e f =
+      ap (rowed t φ 1 r) (let h : q ≡ q * 1 + 0 = omega arith in h)
+      ∙ row-at t φ 1 r q p 0 e f (omega arith)
+      ∙ ap (λ x. getD r x (pos 0)) (let h : p * 1 + 0 ≡ p = omega arith in h)
 
-  pub put-one : (p : ℕ) → t q ≡ true → φ q ≡ p → v ≡ getD r p (pos 0) → set out q v ≡ filled (rowed t φ 1 r) (q + 1) out₀
-  put-one p e f w =
-      ap (λ x. set x q v) o
-      ∙ filled-one (rowed t φ 1 r) (pos 0) v q out₀ room
-      (w ∙ ap (λ x. getD r x (pos 0)) (let h : p ≡ p * 1 + 0 = omega arith in h)
-      ∙ sym (row-at t φ 1 r q p 0 e f (omega arith)) ∙ ap (rowed t φ 1 r) (sym one-row))
+  one-zero : t q ≡ false → rowed t φ 1 r q ≡ pos 0
+  one-zero e = ap (rowed t φ 1 r) (let h : q ≡ q * 1 + 0 = omega arith in h) ∙ row-zero t φ 1 r q 0 e (omega arith)
 
-  pub put-zero : t q ≡ false → v ≡ pos 0 → set out q v ≡ filled (rowed t φ 1 r) (q + 1) out₀
-  put-zero e w =
-      ap (λ x. set x q v) o
-      ∙ filled-one (rowed t φ 1 r) (pos 0) v q out₀ room (w ∙ sym (row-zero t φ 1 r q 0 e (omega arith)) ∙ ap (rowed t φ 1 r) (sym one-row))
+  module _ (out out₀ : List ℤ) (o : out ≡ filled (rowed t φ 1 r) q out₀) (room : q < length out₀) (v : ℤ) where
+    pub put-one : (p : ℕ) → t q ≡ true → φ q ≡ p → v ≡ getD r p (pos 0) → set out q v ≡ filled (rowed t φ 1 r) (q + 1) out₀
+    put-one p e f w = ap (λ x. set x q v) o ∙ filled-one (rowed t φ 1 r) (pos 0) v q out₀ room (w ∙ sym (one-is p e f))
+
+    pub put-zero : t q ≡ false → v ≡ pos 0 → set out q v ≡ filled (rowed t φ 1 r) (q + 1) out₀
+    put-zero e w = ap (λ x. set x q v) o ∙ filled-one (rowed t φ 1 r) (pos 0) v q out₀ room (w ∙ sym (one-zero e))

@@ -6,18 +6,19 @@ use mathlib.Core.Logic.{⊎-elim}
 use Prim.Native.Nat.{ℕ, _+_, _*_, _-_, _≤_, _<_}
 use native.Mathlib.Nat.{eq-or-lt-of-le, mul-le-mul-right}
 use native.Mathlib.Omega.{arith}
-use lib.ListN.{length, getD, take, drop, set}
+use lib.ListN.{length, getD, take, drop, set, length-set}
+use lib.Seq.{getD-set-same, getD-set-other}
 use lib.IntN.{ℤ, pos}
 use borrow.Rule.Slice.PartMut.{putMid}
 use Rattle.meaning.specs.Array.{tab}
 use Rattle.meaning.specs.Terms.{eqZ, onesFrom, ones}
 use Rattle.copying.specs.Runs.{copied}
-use Rattle.copying.proofs.Runs.{filled}
+use Rattle.copying.proofs.Runs.{filled, tab-is}
 use Rattle.masks.specs.Rows.{rowed, Stretch}
-use Rattle.masks.proofs.Ones.{before, before-all, before-most, before-one, before-other, one-at, one-below}
-use Rattle.masks.proofs.Filling.{filled-whole, put-rows, put-one}
+use Rattle.masks.proofs.Ones.{before, before-none, before-all, before-most, before-one, before-other, one-at}
+use Rattle.masks.proofs.Filling.{filled-whole, put-rows, one-is}
 use Rattle.masks.proofs.Stretches.{ones-add, ones-pass, others-pass, rows-size}
-use Rattle.masks.proofs.Written.{Written, written-none, written-whole, written-room, written-more, written-run}
+use Rattle.masks.proofs.Written.{Written, written-none, written-run}
 
 abbrev pub kept : List ℤ → ℕ → List ℤ → ℕ → ℤ
 kept l c r = rowed (λ i. true) (λ i. getD (ones l) i 0) c r
@@ -31,21 +32,6 @@ unfolding onesFrom
 kept-none l r c out₀ = record { within = omega arith; written = written-none (kept l c r) c out₀ }
 
 module _ {l r : List ℤ} {c : ℕ} {out₀ out : List ℤ} {to i : ℕ} (k : Kept l r c out₀ out to i) (room : length out₀ ≡ length (ones l) * c) where
-  pub kept-all : length l ≤ i → out ≡ tab (length (ones l) * c) (kept l c r)
-  kept-all h = written-whole (k .written) (length (ones l)) (before-all l i h) room
-
-  module _ (h : i < length l) where
-    pub kept-other : eqZ (getD l i (pos 0)) (pos 1) ≡ false → Kept l r c out₀ out to (i + 1)
-    kept-other e = record { within = omega arith; written = rw (before-other l i h e) (k .written) }
-
-    module _ (e : eqZ (getD l i (pos 0)) (pos 1) ≡ true) where
-      pub kept-room : to + c ≤ length out₀
-      kept-room = written-room (k .written) (length (ones l)) (one-below l i h e) (omega arith)
-
-      -- One row more.
-      kept-more : (next : List ℤ) → next ≡ filled (kept l c r) (to + c) out₀ → Kept l r c out₀ next (to + c) (i + 1)
-      kept-more next f = record { within = omega arith; written = rw (before-one l i h e) (written-more (k .written) kept-room f) }
-
   -- The last row stands where the buffer ends.
   pub kept-full : length out₀ ≤ to → out ≡ tab (length (ones l) * c) (kept l c r)
   kept-full h =
@@ -98,11 +84,42 @@ module _ {l r : List ℤ} {c : ℕ} {out₀ out : List ℤ} {to i : ℕ} (k : Ke
               refl (omega (arith, size, mul-le-mul-right {m = first} {n = next} c (b .starts))) inside w));
         }
 
--- Where a row is one element.
-pub kept-one : {l r out₀ out : List ℤ} {to i : ℕ} (k : Kept l r 1 out₀ out to i) → length out₀ ≡ length (ones l) * 1 → i < length l
-    → eqZ (getD l i (pos 0)) (pos 1) ≡ true → (v : ℤ) → v ≡ getD r i (pos 0) → Kept l r 1 out₀ (set out to v) (to + 1) (i + 1)
-kept-one {l = l} {r = r} {out₀ = out₀} {out = out} {to = to} {i = i} k room h e v w =
-    let q : to ≡ before i l = omega (arith, k .written .at) in
-    let more : to + 1 ≤ length out₀ = kept-room k room h e in
-    kept-more k room h e _
-    (put-one (λ j. true) (λ j. getD (ones l) j 0) r out out₀ to (k .written .filling) (omega arith) v i refl (ap (λ x. getD (ones l) x 0) q ∙ one-at l i h e) w)
+-- Where a row is one element: the place after those that are kept may hold anything.
+pub record Front (l r out₀ out : List ℤ) (to i : ℕ) : Type 0 where
+  pub within : i ≤ length l
+  pub at : to ≡ before i l
+  pub long : length out ≡ length out₀
+  pub front : (j : ℕ) → j < to → kept l 1 r j ≡ getD out j (pos 0)
+
+pub front-none : (l r out₀ : List ℤ) → Front l r out₀ out₀ 0 0
+front-none l r out₀ = record { within = omega arith; at = before-none l; long = refl; front = λ j h. absurd (omega arith) }
+
+module _ {l r out₀ out : List ℤ} {to i : ℕ} (k : Front l r out₀ out to i) (room : length out₀ ≡ length (ones l) * 1) where
+  pub front-all : length out₀ ≤ to → out ≡ tab (length (ones l) * 1) (kept l 1 r)
+  front-all h = tab-is out (pos 0) (length (ones l) * 1) (kept l 1 r) (k .long ∙ room) (λ j q. k .front j (omega arith))
+
+  module _ (h : to < length out₀) where
+    pub front-left : i < length l
+    front-left = ⊎-elim (λ q. absurd (omega (arith, k .at, before-all l i (omega arith)))) (λ q. q) (eq-or-lt-of-le (k .within))
+
+    module _ (v : ℤ) where
+      set-long : length (set out to v) ≡ length out₀
+      set-long = length-set out to v ∙ k .long
+
+      set-front : (j : ℕ) → j < to → kept l 1 r j ≡ getD (set out to v) j (pos 0)
+      set-front j q = k .front j q ∙ sym (getD-set-other out to j v (pos 0) (λ e. absurd (omega arith)))
+
+      pub front-other : eqZ (getD l i (pos 0)) (pos 1) ≡ false → Front l r out₀ (set out to v) to (i + 1)
+      front-other e = record { within = omega (arith, front-left); at = k .at ∙ sym (before-other l i front-left e); long = set-long; front = set-front }
+
+      pub front-one : eqZ (getD l i (pos 0)) (pos 1) ≡ true → v ≡ getD r i (pos 0) → Front l r out₀ (set out to v) (to + 1) (i + 1)
+      front-one e w =
+          record { within = omega (arith, front-left); at = ap (λ x. x + 1) (k .at) ∙ sym (before-one l i front-left e); long = set-long; front = all }
+        where
+          here : kept l 1 r to ≡ getD (set out to v) to (pos 0)
+          here =
+              one-is (λ j. true) (λ j. getD (ones l) j 0) r to i refl (ap (λ x. getD (ones l) x 0) (k .at) ∙ one-at l i front-left e)
+              ∙ sym w ∙ sym (getD-set-same out to v (pos 0) (omega (arith, k .long)))
+
+          all : (j : ℕ) → j < to + 1 → kept l 1 r j ≡ getD (set out to v) j (pos 0)
+          all j q = ⊎-elim (λ m. ap (kept l 1 r) m ∙ here ∙ ap (λ x. getD (set out to v) x (pos 0)) (sym m)) (λ m. set-front j m) (eq-or-lt-of-le (let n : j ≤ to = omega arith in n))

@@ -103,7 +103,7 @@ opened-rows {l = l} {c = c} {i = i} {first = first} {next = next} k a b all =
 module _ {l r out₀ out : List ℤ} {from i : ℕ} (k : Opened l r 1 out₀ out from i i) (room : length out₀ ≡ length l * 1) (h : i < length l) (v : ℤ) where
   pub opened-one : oneAt l i ≡ true → v ≡ getD r from (pos 0) → Opened l r 1 out₀ (set out i v) (from + 1) (i + 1) (i + 1)
   opened-one e w =
-      opened-next k room h e _ (put-one (oneAt l) (λ j. before j l) r out out₀ i (k .written .filling) (omega arith) v from e (omega (arith, k .source)) w)
+      opened-next k room h e _ (put-one (oneAt l) (λ j. before j l) r i out out₀ (k .written .filling) (omega arith) v from e (omega (arith, k .source)) w)
 
   pub opened-zero : oneAt l i ≡ false → v ≡ pos 0 → Opened l r 1 out₀ (set out i v) from (i + 1) (i + 1)
-  opened-zero e w = opened-past k room h e _ (put-zero (oneAt l) (λ j. before j l) r out out₀ i (k .written .filling) (omega arith) v e w)
+  opened-zero e w = opened-past k room h e _ (put-zero (oneAt l) (λ j. before j l) r i out out₀ (k .written .filling) (omega arith) v e w)

@@ -9,7 +9,7 @@ ghost use Rattle.meaning.specs.Terms.{eqZ, ones};
 ghost use Rattle.copying.proofs.Runs.{filled};
 ghost use Rattle.masks.specs.Rows.{rowed, Stretch};
 
-// The elements at ones.
+// The elements at ones. Every element is written, and the next over it if it is not kept: a branch for each would be guessed wrong.
 pub fn compress_line(l: &[i32], r: &[i32], out: &mut [i32])
     requires { ⌜ (length (now r) ≡ length (now l) * 1) × (length (now out) ≡ length (ones (now l)) * 1) ⌝ }
     ensures { λ _.
@@ -18,9 +18,9 @@ pub fn compress_line(l: &[i32], r: &[i32], out: &mut [i32])
 {
     let mut to = 0;
     let mut i = 0;
-    while i < l.len() {
+    while to < out.len() {
+        out[to] = r[i];
         if l[i] == 1 {
-            out[to] = r[i];
             to += 1;
         }
         i += 1;
