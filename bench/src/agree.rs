@@ -28,6 +28,27 @@ pub fn on_case(case: &Case) -> usize {
     answer.shape.lens[..answer.shape.rank].iter().product()
 }
 
+/// Less than the longest run: no run is held on the stack on its way, whatever the code says. A thread that needs more is killed.
+pub const SMALL_STACK: usize = 48 * 1024;
+
+/// Every call on a small stack but those of index of and member, which keep their chains there.
+pub fn on_a_small_stack(cases: &[Case]) {
+    let mut out = vec![0; MAX_COUNT];
+    let mut calls = || {
+        for case in cases.iter().filter(|case| case.call.number != 29 && case.call.number != 30) {
+            assert_eq!(kernel::answer(&case.call, &mut out).number, 0);
+        }
+    };
+    std::thread::scope(|scope| {
+        let thread = std::thread::Builder::new().stack_size(SMALL_STACK);
+        thread
+            .spawn_scoped(scope, &mut calls)
+            .expect("a thread can be started")
+            .join()
+            .expect("every call is answered");
+    });
+}
+
 /// Small random calls, of which most are refused, for each reason that there is.
 pub fn on_random_calls(calls: usize) {
     let mut random = Random::new();

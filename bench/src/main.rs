@@ -36,9 +36,11 @@ fn main() {
     let cases = cases::all();
     agree::on_random_calls(RANDOM_CALLS);
     let counts: Vec<usize> = cases.iter().map(agree::on_case).collect();
+    agree::on_a_small_stack(&cases);
     let mut words = std::env::args().skip(1);
     let Some(plot) = words.next() else {
-        println!("{RANDOM_CALLS} random calls and {} cases answered alike", cases.len());
+        let stack = agree::SMALL_STACK / 1024;
+        println!("{RANDOM_CALLS} random calls and {} cases answered alike, on a stack of {stack} KB where no chains are kept", cases.len());
         return;
     };
     let numpy = words.next().map_or(String::new(), |path| std::fs::read_to_string(path).expect("NumPy's times"));
