@@ -45,8 +45,8 @@ fn wide(p: u16) -> usize
     p as usize
 }
 
-// The first position that holds x, the length where none does. An empty chain and one that begins with x take the same branch: a branch for an
-// empty chain alone is guessed wrong for nearly every second random value.
+// The first position that holds x, the length where none does. The one branch is for a chain with a second position whose first does not hold x:
+// a branch for an empty chain, or for what its first position holds, is guessed wrong for many random values.
 pub fn look(l: &[i32], heads: &[u16; CHAINS], links: &[u16; Shape::MAX_COUNT], x: i32) -> usize
     requires { ⌜ (length (now l) ≤ maxCount) × Linked (now l) (now heads) (now links) 0 ⌝ }
     ensures { λ n. ⌜ n ≡ firstAt x (now (l .entry)) ⌝ }
@@ -58,11 +58,14 @@ pub fn look(l: &[i32], heads: &[u16; CHAINS], links: &[u16; Shape::MAX_COUNT], x
     let h = chain(x);
     let p = wide(heads[h]);
     let q = copying::fewer(p, n - 1);
-    let skip = if signed::same(x, l[q]) { n } else { 0 };
-    if p + skip < n {
+    let next = wide(links[q]);
+    let found = signed::same(x, l[q]);
+    let skip = if found { n } else { 0 };
+    let at = if found { q } else { n };
+    if next + skip < n {
         return follow(l, links, x, p);
     }
-    copying::fewer(p, n)
+    at
 }
 
 // The same, from the first position of x's chain on. Where the chain is long the list is searched instead.

@@ -1,8 +1,8 @@
-use Prim.Native.Nat.{ℕ, _<_, min}
+use Prim.Native.Nat.{ℕ, _-_, _≤_, _<_, min}
 use native.Mathlib.Omega.{arith}
 use native.Mathlib.Decide.{decLt}
 use mathlib.Core.Path.{_≡_, sym, ap, _∙_}
-use mathlib.Core.Bool.{true}
+use mathlib.Core.Bool.{true, false}
 use mathlib.Core.List.{List}
 use mathlib.Core.Logic.{⊎-elim}
 use lib.IntN.{ℤ, pos}
@@ -10,11 +10,12 @@ use lib.ListN.{length, getD}
 use mir.Syntax.{w32}
 use mir.Val.{toZ, ofZ}
 use borrow.Author.Needs.{needs, sfits-of}
+use Rattle.shape.proofs.Bools.{no-way}
 use Rattle.meaning.specs.Terms.{eqZ, firstAt}
 use Rattle.signed.proofs.Reading.{read32}
-use Rattle.lookups.specs.Chains.{chainOf}
-use Rattle.lookups.proofs.Chaining.{Come, come-first, come-here, come-past}
-use Rattle.lookups.proofs.Finding.{first-le}
+use Rattle.lookups.specs.Chains.{chainOf, Linked}
+use Rattle.lookups.proofs.Chaining.{Come, come-first, come-here, come-on, come-past}
+use Rattle.lookups.proofs.Finding.{first-le, first-least}
 use Rattle.lookups.proofs.chains.look.Statement.{statement}
 use Rattle.lookups.proofs.chains.look.Tie as tie
 
@@ -37,45 +38,56 @@ came c =
 
 -- The test, as one of x and the element.
 same-is : (c : tie.After-same)
-    → c .same .result ≡ eqZ (sought (c .before .before .before .before .before .before .before)) (getD (c .before .before .before .before .before .before .before .args .l .now) (c .before .before .fewer .result) (pos 0))
+    → c .same .result
+    ≡ eqZ (sought (c .before .before .before .before .before .before .before .before .before)) (getD (c .before .before .before .before .before .before .before .before .before .args .l .now) (c .before .before .before .before .fewer .result) (pos 0))
 same-is c =
-    c .same .ensures ∙ ap (eqZ (sought (c .before .before .before .before .before .before .before))) (read32 _ (sfits-of (c .before .same-arg .given)))
+    c .same .ensures ∙ ap (eqZ (sought (c .before .before .before .before .before .before .before .before .before))) (read32 _ (sfits-of (c .before .same-arg .given)))
 
--- Where no chain is to be followed, the list holds x at the chain's first position or nowhere.
-module _ (l : List ℤ) (x : ℤ) (p : ℕ) (c : Come l x p) where
-  known : (p < length l → eqZ x (getD l p (pos 0)) ≡ true) → min p (length l) ≡ firstAt x l
-  known e = by (decLt p (length l))
+-- The chain's first position p, and q, which is p or the list's last.
+module _ (l : List ℤ) (x : ℤ) (p q : ℕ) (c : Come l x p) (near : q ≡ min p (length l - 1)) (some : 0 < length l) where
+  here : eqZ x (getD l q (pos 0)) ≡ true → q ≡ firstAt x l
+  here e = let h = first-least x l q (omega arith) e in omega (arith, c .before (omega arith))
+
+  nowhere : (heads links : List ℕ) → Linked l heads links 0 → eqZ x (getD l q (pos 0)) ≡ false → length l ≤ getD links q 0 → length l ≡ firstAt x l
+  nowhere heads links t e h = by (decLt p (length l))
     where
-      by : Dec (p < length l) → min p (length l) ≡ firstAt x l
-      by (yes h) = omega (arith, come-here l x p c h (e h))
-      by (no h) = omega (arith, come-past l x p c (omega arith))
+      by : Dec (p < length l) → length l ≡ firstAt x l
+      by (yes b) = let at : q ≡ p = omega arith in come-past l x (getD links p 0) (come-on l x p c heads links t b (rw at at e)) (rw at at h)
+      by (no b) = come-past l x p c (omega arith)
 
 returns : tie.Need-returns
 returns c = omega (arith, first-le (c .before .args .x) (c .before .args .l .now))
 
-add-if3 : tie.Need-add-if3
-add-if3 c = ⊎-elim (λ t. omega arith) (λ t. omega arith) (c .before .if2 .came)
+add-if4 : tie.Need-add-if4
+add-if4 c = ⊎-elim (λ t. omega (arith, c .before .before .before .before .before .wide2 .ensures)) (λ t. omega (arith, c .before .before .before .before .before .wide2 .ensures)) (c .before .before .if2 .came)
 
 follow-requires : tie.Need-follow-requires
 follow-requires c κs =
-    let w = c .before .before .before .before .before .before in
+    let w = c .before .before .before .before .before .before .before .before .before in
     let st = w .before .before .before .before in
     (st .pre .0, (st .args .heads .now, (st .pre .1, head-is w)))
 
 returns-2 : tie.Need-returns-2
-returns-2 c = found (c .before .before .before .before .before .before .before .before .before .before .before) _ (c .follow .ensures)
+returns-2 c = found (c .before .before .before .before .before .before .before .before .before .before .before .before .before .before) _ (c .follow .ensures)
 
 returns-3 : tie.Need-returns-3
 returns-3 c =
-    let k = c .before .before .before in
-    let s = k .before in
-    let w = s .before .before .before in
+    let k = c .before .before in
+    let s = k .before .before in
+    let w = s .before .before .before .before .before in
     let st = w .before .before .before .before in
     let n = length (st .args .l .now) in
-    let holds : w .wide .result < n → eqZ (sought st) (getD (st .args .l .now) (w .wide .result) (pos 0)) ≡ true =
-    λ h. let q : s .before .before .fewer .result ≡ w .wide .result = omega (arith, s .before .before .fewer .ensures) in
-    ⊎-elim (λ t. rw q at (sym (same-is s) ∙ t .0 .taken)) (λ t. absurd (omega arith)) (k .if2 .came) in
-    found st (c .fewer2 .result) (c .fewer2 .ensures ∙ known (st .args .l .now) (sought st) (w .wide .result) (came w) holds)
+    let q = s .before .before .before .before .fewer .result in
+    let near : q ≡ min (w .wide .result) (n - 1) = s .before .before .before .before .fewer .ensures in
+    found st _
+    (⊎-elim
+    (λ t. t .1 ∙ here (st .args .l .now) (sought st) (w .wide .result) q (came w) near (omega arith) (sym (same-is s) ∙ t .0 .taken))
+    (λ t.
+    let past : n ≤ s .before .before .wide2 .result = ⊎-elim (λ u. no-way (sym (t .0 .left) ∙ u .0 .taken)) (λ u. omega (arith, u .1)) (k .before .if2 .came) in
+    t .1
+    ∙ nowhere (st .args .l .now) (sought st) (w .wide .result) q (came w) near (omega arith) (st .args .heads .now) (st .args .links .now) (st .pre .1) (sym (same-is s) ∙ t .0 .left)
+    (omega (arith, past, s .before .before .wide2 .ensures .0)))
+    (k .if3 .came))
 
 pub look-spec : {M : Type 1} → statement M
 look-spec =
@@ -91,8 +103,10 @@ look-spec =
     (λ c. search needs)
     (λ c. search needs)
     (λ c κs. search needs)
-    add-if3
+    (λ c. search needs)
+    (λ c. search needs)
+    (λ c κs. search needs)
+    add-if4
     follow-requires
     returns-2
-    (λ c κs. search needs)
     returns-3)
