@@ -3,6 +3,7 @@
 use crate::buffer::Buffer;
 use crate::cases::{Case, Random};
 use crate::kernel::{self, Answer, Call, Operand, Shape, MAX_COUNT, MAX_RANK};
+use crate::large;
 use crate::plain;
 
 /// The common answer to a call with room for so many elements.
@@ -65,6 +66,26 @@ pub fn on_random_calls(calls: usize) {
         met[common(&call, room).number] += 1;
     }
     assert!(met.iter().all(|&times| times > 0), "an answer that no random call met: {met:?}");
+}
+
+/// Large random calls, each into a buffer with room for any result and into one that is filled by its own. Every primitive is accepted by some.
+pub fn on_large_calls(calls: usize) {
+    let mut random = Random::new();
+    let mut accepted = [0; 32];
+    for _ in 0..calls {
+        let call = large::call(&mut random);
+        let answer = common(&call, MAX_COUNT);
+        if answer.number == 0 {
+            accepted[call.number as usize] += 1;
+            let count: usize = answer.shape.lens[..answer.shape.rank].iter().product();
+            common(&call, count);
+            assert!(count == 0 || common(&call, count - 1).number == 10);
+        }
+    }
+    assert!(
+        (11..=15).chain(21..=31).all(|number| accepted[number] > calls / 100),
+        "a primitive that hardly any large call met: {accepted:?}"
+    );
 }
 
 /// Of rank 0 to 3 and lengths 0 to 3 with as many elements, and now and then of bad form.

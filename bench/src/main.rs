@@ -4,6 +4,7 @@ mod agree;
 mod buffer;
 mod cases;
 mod kernel;
+mod large;
 mod plain;
 mod plot;
 mod table;
@@ -20,6 +21,7 @@ const CASE: Duration = Duration::from_millis(100);
 /// Rounds over all cases, so that a slow moment of the machine spoils no case.
 const ROUNDS: usize = 4;
 const RANDOM_CALLS: usize = 200_000;
+const LARGE_CALLS: usize = 5_000;
 
 /// Nanoseconds a call, the best of many. NumPy's come from bench/numpy_times.py, if at all.
 pub struct Times {
@@ -35,12 +37,13 @@ pub struct Times {
 fn main() {
     let cases = cases::all();
     agree::on_random_calls(RANDOM_CALLS);
+    agree::on_large_calls(LARGE_CALLS);
     let counts: Vec<usize> = cases.iter().map(agree::on_case).collect();
     agree::on_a_small_stack(&cases);
     let mut words = std::env::args().skip(1);
     let Some(plot) = words.next() else {
         let stack = agree::SMALL_STACK / 1024;
-        println!("{RANDOM_CALLS} random calls and {} cases answered alike, on a stack of {stack} KB where no chains are kept", cases.len());
+        println!("{RANDOM_CALLS} small and {LARGE_CALLS} large random calls and {} cases answered alike, on a stack of {stack} KB where no chains are kept", cases.len());
         return;
     };
     let numpy = words.next().map_or(String::new(), |path| std::fs::read_to_string(path).expect("NumPy's times"));

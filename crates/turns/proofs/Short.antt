@@ -1,9 +1,9 @@
--- Short blocks, each cut and its two parts exchanged: one run over all of them, and then the end of each.
+-- Blocks, each cut and its two parts exchanged, by groups: one run over all blocks of a group, and then the end of each.
 use mathlib.Core.Path.{_≡_, refl, sym, ap, _∙_}
 use mathlib.Core.List.{List, _++_}
 use mathlib.Core.Bool.{Bool, false}
-use Prim.Native.Nat.{ℕ, zero, suc, _+_, _*_, _-_, _/_, _%_, _≤_, _<_}
-use native.Mathlib.Nat.{mod-eq-of-lt, mod-lt, add-mod-right, div-add-mod', div-lt-iff-lt-mul, mul-zero, not-suc-le-zero, zero-add}
+use Prim.Native.Nat.{ℕ, _+_, _*_, _-_, _/_, _%_, _≤_, _<_}
+use native.Mathlib.Nat.{mod-eq-of-lt, mod-lt, add-mod-right, div-add-mod', zero-add}
 use native.Mathlib.Omega.{arith}
 use lib.Arith.{digits-lt, digits-div, digits-mod}
 use borrow.Rule.Slice.PartMut.{putMid, midOf, put-same, mid-len}
@@ -17,7 +17,7 @@ use Rattle.copying.proofs.Runs.{filled, filled-none, length-filled, put-list, p
 use Rattle.copying.proofs.Blocks.{source, source-in}
 use Rattle.turns.specs.Rows.{turnRow}
 use Rattle.shape.proofs.Places.{row-fits, row-in}
-use Rattle.copying.proofs.Parts.{part-long}
+use Rattle.copying.proofs.Parts.{part-long, part-filled}
 use Rattle.turns.proofs.Rows.{turn-row-lt, block-cut}
 
 -- Where element i of a block comes from.
@@ -46,6 +46,10 @@ cutBlocks r size cut j = getD r (j / size * size + (j % size + cut) % size) (pos
 abbrev pub movedUp : List ℤ → ℕ → ℕ → ℤ
 movedUp r cut j = getD r (cut + j) (pos 0)
 
+-- Element i of block o.
+in-block : (r : List ℤ) (size cut o i : ℕ) → i < size → cutBlocks r size cut (o * size + i) ≡ getD r (o * size + (i + cut) % size) (pos 0)
+in-block r size cut o i l = rw (digits-div o l, digits-mod o l)
+
 module _ (r : List ℤ) (outer size cut : ℕ) (some : 0 < outer) (h : cut ≤ size) (fits : outer * size ≤ length r) where
   abbrev turned : ℕ → ℤ
   turned = cutBlocks r size cut
@@ -56,20 +60,17 @@ module _ (r : List ℤ) (outer size cut : ℕ) (some : 0 < outer) (h : cut ≤ s
   pub cut-fits : cut ≤ outer * size
   cut-fits = omega (arith, row-fits 0 outer size some)
 
-  in-block : (o i : ℕ) → i < size → turned (o * size + i) ≡ getD r (o * size + (i + cut) % size) (pos 0)
-  in-block o i l = rw (digits-div o l, digits-mod o l)
-
   before-cut : (o i : ℕ) → i < size - cut → turned (o * size + i) ≡ moved (o * size + i)
   before-cut o i l =
       let e : (i + cut) % size ≡ i + cut = mod-eq-of-lt (omega arith) in
       let s : o * size + (i + cut) ≡ cut + (o * size + i) = omega arith in
-      in-block o i (omega arith) ∙ ap (λ k. getD r k (pos 0)) (ap (λ k. o * size + k) e ∙ s)
+      in-block r size cut o i (omega arith) ∙ ap (λ k. getD r k (pos 0)) (ap (λ k. o * size + k) e ∙ s)
 
   after-cut : (o i : ℕ) → i < cut → turned (o * size + (size - cut + i)) ≡ getD r (o * size + i) (pos 0)
   after-cut o i l =
       let s : size - cut + i + cut ≡ i + size = omega arith in
       let e : (size - cut + i + cut) % size ≡ i = ap (λ k. k % size) s ∙ add-mod-right i size ∙ mod-eq-of-lt (omega arith) in
-      in-block o (size - cut + i) (omega arith) ∙ ap (λ k. getD r (o * size + k) (pos 0)) e
+      in-block r size cut o (size - cut + i) (omega arith) ∙ ap (λ k. getD r (o * size + k) (pos 0)) e
 
   module _ (out₀ : List ℤ) (room : outer * size ≤ length out₀) where
     pub first-run : (last : List ℤ) → last ≡ copied (take (outer * size - cut) (drop cut r)) (take (outer * size - cut - 0) out₀)
@@ -117,6 +118,25 @@ module _ (r : List ℤ) (outer size cut : ℕ) (some : 0 < outer) (h : cut ≤ s
           ∙ ap (drop cut) (drop-at (tab seam moved) (drop seam out₀) seam (length-tab seam moved)) ∙ drop-drop cut seam out₀ ∙ ap (λ k. drop k out₀) e in
           f ∙ ap (λ k. filled turned k out₁) a ∙ ap (λ ys. tab (outer * size) turned ++ ys) after
 
+-- A group of blocks more, the first of them block o: they are the blocks of the part of r from there on.
+module _ (r : List ℤ) (size cut o some at : ℕ) (a : at ≡ o * size) where
+  group-at : (i : ℕ) → i < some * size → cutBlocks r size cut (at + i) ≡ cutBlocks (take (at + some * size - at) (drop at r)) size cut i
+  group-at i h =
+      let w = row-in some size i h in
+      let x : ℕ = (i % size + cut) % size in
+      let e : at + i ≡ (o + i / size) * size + i % size = omega (arith, div-add-mod' i size) in
+      let s : (o + i / size) * size + x ≡ at + (i / size * size + x) = omega arith in
+      ap (cutBlocks r size cut) e
+      ∙ in-block r size cut (o + i / size) (i % size) (mod-lt i (w .0))
+      ∙ ap (λ k. getD r k (pos 0)) s
+      ∙ sym (getD-part r at (at + some * size - at) (i / size * size + x) (pos 0) (omega (arith, digits-lt (w .1) (mod-lt (i % size + cut) (w .0)))))
+
+  pub group-step : (out out₀ last : List ℤ) → out ≡ filled (cutBlocks r size cut) at out₀ → at + some * size ≤ length out
+      → last ≡ filled (cutBlocks (take (at + some * size - at) (drop at r)) size cut) (some * size) (take (at + some * size - at) (drop at out))
+      → putMid at (at + some * size - at) out last ≡ filled (cutBlocks r size cut) (at + some * size) out₀
+  group-step out out₀ last f room q =
+      part-filled (cutBlocks r size cut) _ at (some * size) (at + some * size) out out₀ last _ f refl (part-long out at (some * size) room) q group-at
+
 -- Blocks of n rows, each cut at a rows, are turned blocks.
 module _ (r : List ℤ) (outer n c a : ℕ) (back : Bool) (e : back ≡ false) (fits : outer * (n * c) ≤ length r) where
   abbrev size : ℕ
@@ -138,15 +158,11 @@ module _ (r : List ℤ) (outer n c a : ℕ) (back : Bool) (e : back ≡ false) (
       ∙ getD-tab size (λ j. getD part (rows j) (pos 0)) i (pos 0) h
       ∙ getD-part r (o * size) (o * size + size - o * size) (rows i) (pos 0) (omega (arith, turned-in back a n c i h))
 
-  some : (x y j : ℕ) → j < x * y → 0 < y
-  some x zero j h = absurd (not-suc-le-zero (rw mul-zero at h))
-  some x (suc y) j h = omega arith
-
   same-element : (j : ℕ) → j < outer * (n * c) → cutBlocks r (n * c) (a * c) j ≡ getD r (source n n c (turnRow back a n) j) (pos 0)
   same-element j h =
-      let p : 0 < size = some outer size j h in
-      let i : j % size < size = mod-lt j p in
-      one-block (j / size) (j % size) (div-lt-iff-lt-mul p .1 h) i
+      let w = row-in outer size j h in
+      let i : j % size < size = mod-lt j (w .0) in
+      one-block (j / size) (j % size) (w .1) i
       ∙ ap (λ k. getD r k (pos 0)) (sym (turned-source back a n c (j % size) i (j / size)) ∙ ap (source n n c (turnRow back a n)) (div-add-mod' j size))
 
   pub cut-turned : (out : List ℤ)

@@ -95,8 +95,8 @@ fn turn_into(back: bool, z: i32, s: Shape, k: usize, total: usize, r: &[i32], ou
     turn_blocks(back, r, w.outer, w.length, w.inner, a, out);
 }
 
-// Blocks shorter than this are rotated all in one. From here on two runs a block take no longer.
-const SHORT: usize = 128;
+// A cut shorter than this costs less to copy twice than a second run for each block. From here on two runs a block take no longer.
+const SHORT: usize = 64;
 
 // Turns the n rows of each block, `inner` elements a row.
 fn turn_blocks(
@@ -114,8 +114,9 @@ fn turn_blocks(
 {
     let size = n * inner;
     if !back {
-        if size < SHORT {
-            rotate_short(r, outer, size, a * inner, out);
+        let cut = a * inner;
+        if cut < SHORT {
+            rotate_groups(r, outer, size, cut, out);
             return;
         }
     }
@@ -129,8 +130,40 @@ fn turn_blocks(
     }
 }
 
-// Blocks that are short: one run over all of them, and then the end of each.
-fn rotate_short(r: &[i32], outer: usize, size: usize, cut: usize, out: &mut [i32])
+// Elements of a group of blocks, few enough that both buffers' parts stay in the first-level cache until the blocks' ends are written.
+const GROUP: usize = 1024;
+
+// How many blocks a group has. A block may be larger than a group, or empty.
+fn blocks_in_group(size: usize) -> usize
+    ensures { λ n. ⌜ 0 < n ⌝ }
+{
+    if size == 0 {
+        return 1;
+    }
+    let n = GROUP / size;
+    if n == 0 { 1 } else { n }
+}
+
+// By groups of blocks, the last of which may be smaller.
+fn rotate_groups(r: &[i32], outer: usize, size: usize, cut: usize, out: &mut [i32])
+    requires { ⌜ (0 < outer) × ((cut ≤ size) × ((outer * size ≤ length (now r)) × (outer * size ≤ length (now out)))) ⌝ }
+    ensures { λ _.
+        ⌜ now (out .exit) ≡ filled (λ j. getD (now (r .entry)) (j / size * size + (j % size + cut) % size) (pos 0)) (outer * size) (now (out .entry)) ⌝ }
+{
+    let group = blocks_in_group(size);
+    let mut at = 0;
+    let mut o = 0;
+    while o < outer {
+        let some = copying::fewer(group, outer - o);
+        let end = at + some * size;
+        rotate_group(&r[at..end], some, size, cut, &mut out[at..end]);
+        at = end;
+        o += some;
+    }
+}
+
+// A group of blocks: one run over all of them, and then the end of each.
+fn rotate_group(r: &[i32], outer: usize, size: usize, cut: usize, out: &mut [i32])
     requires { ⌜ (0 < outer) × ((cut ≤ size) × ((outer * size ≤ length (now r)) × (outer * size ≤ length (now out)))) ⌝ }
     ensures { λ _.
         ⌜ now (out .exit) ≡ filled (λ j. getD (now (r .entry)) (j / size * size + (j % size + cut) % size) (pos 0)) (outer * size) (now (out .entry)) ⌝ }

@@ -43,13 +43,13 @@ room c =
 mul-size : tie.Need-mul-size Inv-loop μ-loop
 mul-size c = omega (arith, row-fits 0 (c .args .outer) (c .args .n * c .args .inner) (omega arith))
 
-mul-rotate-short : tie.Need-mul-rotate-short Inv-loop μ-loop
-mul-rotate-short c =
-    let a = c .before .before .args in
+mul-cut : tie.Need-mul-cut Inv-loop μ-loop
+mul-cut c =
+    let a = c .before .args in
     omega (arith, cut-le (a .n) (a .inner) (a .a) (omega arith), row-fits 0 (a .outer) (a .n * a .inner) (omega arith))
 
-rotate-short-requires : tie.Need-rotate-short-requires Inv-loop μ-loop
-rotate-short-requires c κs =
+rotate-groups-requires : tie.Need-rotate-groups-requires Inv-loop μ-loop
+rotate-groups-requires c κs =
     let st = c .before .before .before in
     let a = st .args in
     (st .pre .0, (cut-le (a .n) (a .inner) (a .a) (st .pre .1 .0), (omega arith, omega arith)))
@@ -109,7 +109,7 @@ returns : tie.Need-returns Inv-loop μ-loop
 returns c =
     let st = c .before .before .before .before .before in
     let a = st .args in
-    c .before .rotate-short .ensures ∙ cut-turned (a .r .now) (a .outer) (a .n) (a .inner) (a .a) (a .back) (not-true (a .back) (c .before .before .before .before .if1 .taken)) (omega arith) (a .out .now)
+    c .before .rotate-groups .ensures ∙ cut-turned (a .r .now) (a .outer) (a .n) (a .inner) (a .a) (a .back) (not-true (a .back) (c .before .before .before .before .if1 .taken)) (omega arith) (a .out .now)
 
 returns-2 : tie.Need-returns-2 Inv-loop μ-loop
 returns-2 c =
@@ -126,8 +126,8 @@ turn-blocks-spec =
     Inv-loop
     μ-loop
     mul-size
-    mul-rotate-short
-    rotate-short-requires
+    mul-cut
+    rotate-groups-requires
     (λ c. search needs)
     returns
     loop-holds

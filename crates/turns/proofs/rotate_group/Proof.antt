@@ -7,8 +7,8 @@ use borrow.Rule.Slice.PartMut.{putMid, same-len-mid}
 use Rattle.copying.proofs.Runs.{filled, filled-none}
 use Rattle.shape.proofs.Places.{row-fits}
 use Rattle.turns.proofs.Short.{cutBlocks, movedUp, cut-fits, first-run, short-step, short-all}
-use Rattle.turns.proofs.rotate_short.Statement.{statement}
-use Rattle.turns.proofs.rotate_short.Tie as tie
+use Rattle.turns.proofs.rotate_group.Statement.{statement}
+use Rattle.turns.proofs.rotate_group.Tie as tie
 
 abbrev Inv-loop : tie.InvT-loop
 Inv-loop r outer size cut out₀ total seam at₀ o₀ out at o = (o ≤ outer) × ((at ≡ o * size) × ((length out ≡ length out₀) × (out ≡ filled (cutBlocks r size cut) at out₀)))
@@ -98,8 +98,8 @@ returns c =
     short-all (a .r .now) (a .outer) (a .size) (a .cut) (st .pre .0) (st .pre .1 .0) (st .pre .1 .1 .0) (a .out .now) (st .pre .1 .1 .1) _ (first (lp .before))
     (lp .loop .at) (lp .loop .out) (lp .loop .inv .1 .0 ∙ ap (λ k. k * a .size) e) (lp .loop .inv .1 .1 .1)
 
-pub rotate-short-spec : {M : Type 1} → statement M
-rotate-short-spec =
+pub rotate-group-spec : {M : Type 1} → statement M
+rotate-group-spec =
     tie.close
     (tie.spec
     Inv-loop
