@@ -109,9 +109,9 @@ fn along(lengths: &[usize], axis: usize, cases: &mut Vec<Case>) {
     none[axis] = (n / 3) as i32;
     push("24 drop", "a third", (n - n / 3) * inner, list(none), array(lengths));
 
-    for amount in [1, (n / 3).max(2)] {
-        let l = scalar(amount as i32);
-        push("25 rotate", &format!("by {amount}"), amount.min(n - amount) * inner, l, array(lengths));
+    for amount in [1, (n / 3).max(2) as i32, -1] {
+        let cut = amount.unsigned_abs() as usize;
+        push("25 rotate", &format!("by {amount}"), cut.min(n - cut) * inner, scalar(amount), array(lengths));
     }
     for (what, bits) in [("all ones", ones(n)), ("alternating", alternating(n)), ("random", random_bits(n))] {
         let kept = bits.iter().filter(|&&bit| bit == 1).count();

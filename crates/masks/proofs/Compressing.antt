@@ -24,6 +24,7 @@ use Rattle.answer.proofs.Lent.{Lent, lent-good}
 use Rattle.masks.specs.Uses.{resultWidth, Compressed}
 use Rattle.masks.specs.Rows.{maskOf, keptAt}
 use Rattle.masks.proofs.Ones.{mask-single, ones-same, kept-all, kept-no}
+use Rattle.masks.proofs.Whole.{run-out, same-inside, same-elements}
 
 module _ (l : List ℤ) (s : Shape) (k m total : ℕ) (r : List ℤ) (room : ℕ) (a : Compressed l s k m total r room) (long : length (s .lens) ≡ maxRank)
     (h : length l ≡ 1) where
@@ -51,22 +52,13 @@ module _ (l : List ℤ) (s : Shape) (k m total : ℕ) (r : List ℤ) (room : ℕ
       by true t = omega (arith, eqb-true n 1 t)
       by false t = ap (λ x. getD (ones x) i 0) (mask-single l n h) ∙ ones-same 0 n i (getD l 0 (pos 0)) e q ∙ zero-add i
 
-  all-kept : eqZ (getD l 0 (pos 0)) (pos 1) ≡ true → set (counted s) k m ≡ counted s
-  all-kept e =
-      ap (set (counted s) k) (wide ∙ sym (kept-all l n h e)) ∙ set-getD (counted s) k 0
+  -- All is kept.
+  module _ (e : eqZ (getD l 0 (pos 0)) (pos 1) ≡ true) where
+    all-inside : total ≤ length r
+    all-inside = same-inside s r k m total (λ i. true) (keptAt l n) good (a .operand .has) (a .operand .whole) (wide ∙ sym (kept-all l n h e)) (λ i q. (refl, kept-same e i q))
 
-  all-total : eqZ (getD l 0 (pos 0)) (pos 1) ≡ true → total ≡ count (counted s)
-  all-total e = sym (a .operand .whole) ∙ ap count (all-kept e)
-
-  all-elements : eqZ (getD l 0 (pos 0)) (pos 1) ≡ true → keptElements ≡ take total r
-  unfolding along
-  all-elements e =
-      ap (λ x. build x (along (arrayOf (lent s r)) k (keptAt l n)) .elements) (all-kept e)
-      ∙ ap (λ (x : Array). x .elements)
-      (build-ext (counted s) _ (at (arrayOf (lent s r)))
-      (λ p q. ap (at (arrayOf (lent s r))) (ap (set p k) (kept-same e (getD p k 0) (in-at (counted s) p k q kl)) ∙ set-getD p k 0))
-      ∙ build-at (arrayOf (lent s r)) (good .whole))
-      ∙ ap (λ x. take x r) (sym (all-total e))
+    all-elements : keptElements ≡ take total r
+    all-elements = same-elements s r k m total (λ i. true) (keptAt l n) good (a .operand .has) (a .operand .whole) (wide ∙ sym (kept-all l n h e)) (λ i q. (refl, kept-same e i q))
 
   no-total : eqZ (getD l 0 (pos 0)) (pos 1) ≡ false → total ≡ 0
   no-total e =
@@ -80,7 +72,7 @@ module _ (l : List ℤ) (s : Shape) (k m total : ℕ) (r : List ℤ) (room : ℕ
   single-inside = by (eqZ (getD l 0 (pos 0)) (pos 1)) refl
     where
       by : (b : Bool) → eqZ (getD l 0 (pos 0)) (pos 1) ≡ b → total ≤ length r
-      by true e = omega (arith, all-total e, good .room)
+      by true e = all-inside e
       by false e = omega (arith, no-total e)
 
   single-elements : keptElements ≡ take total r
@@ -92,7 +84,4 @@ module _ (l : List ℤ) (s : Shape) (k m total : ℕ) (r : List ℤ) (room : ℕ
 
   pub single-out : (out last : List ℤ) → length out ≡ room → last ≡ copied (take (total - 0) r) out → last ≡ keptElements ++ drop total out
   single-out out last q w =
-      let run : length (take total r) ≡ total = length-take-le total r single-inside in
-      w ∙ ap (λ x. copied (take x r) out) (sub-zero total)
-      ∙ copied-fits (take total r) out (omega (arith, a .operand .space))
-      ∙ ap₂ (λ x y. x ++ drop y out) (sym single-elements) run
+      run-out r total single-inside out last (omega (arith, a .operand .space)) w ∙ ap (λ x. x ++ drop total out) (sym single-elements)

@@ -15,7 +15,7 @@ use Rattle.meaning.specs.Terms.{eqZ, onesFrom, ones}
 use Rattle.copying.specs.Runs.{copied}
 use Rattle.copying.proofs.Runs.{filled, tab-is}
 use Rattle.masks.specs.Rows.{rowed, Stretch}
-use Rattle.masks.proofs.Ones.{before, before-none, before-all, before-most, before-one, before-other, one-at}
+use Rattle.masks.proofs.Ones.{before, before-none, before-few, before-all, before-most, before-one, before-other, one-at}
 use Rattle.masks.proofs.Filling.{filled-whole, put-rows, one-is}
 use Rattle.masks.proofs.Stretches.{ones-add, ones-pass, others-pass, rows-size}
 use Rattle.masks.proofs.Written.{Written, written-none, written-run}
@@ -84,42 +84,50 @@ module _ {l r : List ℤ} {c : ℕ} {out₀ out : List ℤ} {to i : ℕ} (k : Ke
               refl (omega (arith, size, mul-le-mul-right {m = first} {n = next} c (b .starts))) inside w));
         }
 
--- Where a row is one element: the place after those that are kept may hold anything.
-pub record Front (l r out₀ out : List ℤ) (to i : ℕ) : Type 0 where
+-- Every element is written, and the next over it if its position is no one: the place after those at ones may hold anything.
+pub record Front {A : Type 0} (l : List ℤ) (g : ℕ → A) (d : A) (out₀ out : List A) (to i : ℕ) : Type 0 where
   pub within : i ≤ length l
   pub at : to ≡ before i l
   pub long : length out ≡ length out₀
-  pub front : (j : ℕ) → j < to → kept l 1 r j ≡ getD out j (pos 0)
+  pub front : (j : ℕ) → j < to → g j ≡ getD out j d
 
-pub front-none : (l r out₀ : List ℤ) → Front l r out₀ out₀ 0 0
-front-none l r out₀ = record { within = omega arith; at = before-none l; long = refl; front = λ j h. absurd (omega arith) }
+pub front-none : {A : Type 0} (l : List ℤ) (g : ℕ → A) (d : A) (out₀ : List A) → Front l g d out₀ out₀ 0 0
+front-none l g d out₀ = record { within = omega arith; at = before-none l; long = refl; front = λ j h. absurd (omega arith) }
 
-module _ {l r out₀ out : List ℤ} {to i : ℕ} (k : Front l r out₀ out to i) (room : length out₀ ≡ length (ones l) * 1) where
-  pub front-all : length out₀ ≤ to → out ≡ tab (length (ones l) * 1) (kept l 1 r)
-  front-all h = tab-is out (pos 0) (length (ones l) * 1) (kept l 1 r) (k .long ∙ room) (λ j q. k .front j (omega arith))
+module _ {A : Type 0} {l : List ℤ} {g : ℕ → A} {d : A} {out₀ out : List A} {to i : ℕ} (k : Front l g d out₀ out to i) where
+  -- No more ones are passed than positions.
+  pub front-le : to ≤ i
+  front-le = omega (arith, k .at, before-few l i)
 
-  module _ (h : to < length out₀) where
-    pub front-left : i < length l
-    front-left = ⊎-elim (λ q. absurd (omega (arith, k .at, before-all l i (omega arith)))) (λ q. q) (eq-or-lt-of-le (k .within))
+  module _ (more : i < length l) (room : to < length out₀) (v : A) where
+    set-long : length (set out to v) ≡ length out₀
+    set-long = length-set out to v ∙ k .long
 
-    module _ (v : ℤ) where
-      set-long : length (set out to v) ≡ length out₀
-      set-long = length-set out to v ∙ k .long
+    set-front : (j : ℕ) → j < to → g j ≡ getD (set out to v) j d
+    set-front j q = k .front j q ∙ sym (getD-set-other out to j v d (λ e. absurd (omega arith)))
 
-      set-front : (j : ℕ) → j < to → kept l 1 r j ≡ getD (set out to v) j (pos 0)
-      set-front j q = k .front j q ∙ sym (getD-set-other out to j v (pos 0) (λ e. absurd (omega arith)))
+    pub front-other : eqZ (getD l i (pos 0)) (pos 1) ≡ false → Front l g d out₀ (set out to v) to (i + 1)
+    front-other e = record { within = omega arith; at = k .at ∙ sym (before-other l i more e); long = set-long; front = set-front }
 
-      pub front-other : eqZ (getD l i (pos 0)) (pos 1) ≡ false → Front l r out₀ (set out to v) to (i + 1)
-      front-other e = record { within = omega (arith, front-left); at = k .at ∙ sym (before-other l i front-left e); long = set-long; front = set-front }
+    pub front-one : eqZ (getD l i (pos 0)) (pos 1) ≡ true → g (before i l) ≡ v → Front l g d out₀ (set out to v) (to + 1) (i + 1)
+    front-one e w =
+        record { within = omega arith; at = ap (λ x. x + 1) (k .at) ∙ sym (before-one l i more e); long = set-long; front = all }
+      where
+        here : g to ≡ getD (set out to v) to d
+        here = ap g (k .at) ∙ w ∙ sym (getD-set-same out to v d (omega (arith, k .long)))
 
-      pub front-one : eqZ (getD l i (pos 0)) (pos 1) ≡ true → v ≡ getD r i (pos 0) → Front l r out₀ (set out to v) (to + 1) (i + 1)
-      front-one e w =
-          record { within = omega (arith, front-left); at = ap (λ x. x + 1) (k .at) ∙ sym (before-one l i front-left e); long = set-long; front = all }
-        where
-          here : kept l 1 r to ≡ getD (set out to v) to (pos 0)
-          here =
-              one-is (λ j. true) (λ j. getD (ones l) j 0) r to i refl (ap (λ x. getD (ones l) x 0) (k .at) ∙ one-at l i front-left e)
-              ∙ sym w ∙ sym (getD-set-same out to v (pos 0) (omega (arith, k .long)))
+        all : (j : ℕ) → j < to + 1 → g j ≡ getD (set out to v) j d
+        all j q = ⊎-elim (λ m. ap g m ∙ here ∙ ap (λ x. getD (set out to v) x d) (sym m)) (λ m. set-front j m) (eq-or-lt-of-le (let n : j ≤ to = omega arith in n))
 
-          all : (j : ℕ) → j < to + 1 → kept l 1 r j ≡ getD (set out to v) j (pos 0)
-          all j q = ⊎-elim (λ m. ap (kept l 1 r) m ∙ here ∙ ap (λ x. getD (set out to v) x (pos 0)) (sym m)) (λ m. set-front j m) (eq-or-lt-of-le (let n : j ≤ to = omega arith in n))
+-- A one is left while fewer are passed than there are.
+pub front-left : {A : Type 0} {l : List ℤ} {g : ℕ → A} {d : A} {out₀ out : List A} {to i : ℕ} (k : Front l g d out₀ out to i) → to < length (ones l) → i < length l
+front-left {l = l} {i = i} k h = ⊎-elim (λ q. absurd (omega (arith, k .at, before-all l i (omega arith)))) (λ q. q) (eq-or-lt-of-le (k .within))
+
+-- The elements of a line.
+module _ (l r : List ℤ) where
+  pub line-all : {out₀ out : List ℤ} {to i : ℕ} (k : Front l (kept l 1 r) (pos 0) out₀ out to i) → length out₀ ≡ length (ones l) * 1 → length out₀ ≤ to
+      → out ≡ tab (length (ones l) * 1) (kept l 1 r)
+  line-all {out = out} k room h = tab-is out (pos 0) (length (ones l) * 1) (kept l 1 r) (k .long ∙ room) (λ j q. k .front j (omega arith))
+
+  pub line-one : (i : ℕ) → i < length l → eqZ (getD l i (pos 0)) (pos 1) ≡ true → kept l 1 r (before i l) ≡ getD r i (pos 0)
+  line-one i h e = one-is (λ j. true) (λ j. getD (ones l) j 0) r (before i l) i refl (one-at l i h e)

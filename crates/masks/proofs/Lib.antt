@@ -4,10 +4,12 @@ pub mod Filling
 pub mod Written
 pub mod Kept
 pub mod Opened
-pub mod Repeated
+pub mod Scattered
+pub mod Chosen
 pub mod Uses
 pub mod Placing
 pub mod Results
+pub mod Whole
 pub mod Lined
 pub mod Compressing
 pub mod Expanding

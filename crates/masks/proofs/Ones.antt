@@ -6,7 +6,7 @@ use Prim.Native.Nat.{ℕ, zero, suc, _+_, _≤_, _<_}
 use native.Mathlib.Nat.{add-zero}
 use native.Mathlib.Numerals.{add-one}
 use native.Mathlib.Omega.{arith}
-use lib.ListN.{length, getD, take, drop, replicate, length-append, length-take, take-append-drop}
+use lib.ListN.{length, getD, take, drop, replicate, length-append, length-take, length-drop, take-append-drop}
 use lib.Seq.{take-suc, split-at, take-all, getD-at, length-take-le}
 use lib.IntN.{ℤ, pos}
 use lib.Dec.{lit<}
@@ -56,14 +56,19 @@ before-none l = refl
 pub before-le : (l : List ℤ) (i : ℕ) → before i l ≤ length l
 before-le l i = omega (arith, ones-le 0 (take i l), length-take i l)
 
+pub before-few : (l : List ℤ) (i : ℕ) → before i l ≤ i
+before-few l i = omega (arith, ones-le 0 (take i l), length-take i l)
+
 pub before-all : (l : List ℤ) (i : ℕ) → length l ≤ i → before i l ≡ length (ones l)
 before-all l i h = ap (λ x. length (ones x)) (take-all i l h)
 
+-- The ones before position i, and those from there on.
+before-after : (l : List ℤ) (i : ℕ) → length (ones l) ≡ before i l + length (onesFrom (0 + length (take i l)) (drop i l))
+before-after l i =
+    ap (λ x. length (ones x)) (sym (take-append-drop i l)) ∙ ap length (ones-append 0 (take i l) (drop i l)) ∙ length-append (ones (take i l)) _
+
 pub before-most : (l : List ℤ) (i : ℕ) → before i l ≤ length (ones l)
-before-most l i =
-    let all : length (ones l) ≡ before i l + length (onesFrom (0 + length (take i l)) (drop i l)) =
-    ap (λ x. length (ones x)) (sym (take-append-drop i l)) ∙ ap length (ones-append 0 (take i l) (drop i l)) ∙ length-append (ones (take i l)) _ in
-    omega arith
+before-most l i = omega (arith, before-after l i)
 
 module _ (l : List ℤ) (i : ℕ) (h : i < length l) where
   -- Up to and with position i.
@@ -92,6 +97,22 @@ module _ (l : List ℤ) (i : ℕ) (h : i < length l) where
 
   pub one-below : eqZ (getD l i (pos 0)) (pos 1) ≡ true → before i l < length (ones l)
   one-below e = omega (arith, ap length (ones-split e), length-append (ones (take i l)) (i ∷ onesFrom (suc i) (drop (suc i) l)))
+
+-- A mask of ones alone.
+module _ (l : List ℤ) (full : length (ones l) ≡ length l) where
+  pub full-before : (i : ℕ) → i ≤ length l → before i l ≡ i
+  full-before i h =
+      omega (arith, before-after l i, before-few l i, ones-le (0 + length (take i l)) (drop i l), length-drop i l)
+
+  pub full-one : (i : ℕ) → i < length l → eqZ (getD l i (pos 0)) (pos 1) ≡ true
+  full-one i h = by _ refl
+    where
+      by : (b : Bool) → eqZ (getD l i (pos 0)) (pos 1) ≡ b → b ≡ true
+      by true e = refl
+      by false e = absurd (omega (arith, before-other l i h e, full-before i (omega arith), full-before (i + 1) (omega arith)))
+
+  pub full-at : (i : ℕ) → i < length l → getD (ones l) i 0 ≡ i
+  full-at i h = ap (λ x. getD (ones l) x 0) (sym (full-before i (omega arith))) ∙ one-at l i h (full-one i h)
 
 -- Each of the ones is a position.
 pub ones-lt : (k : ℕ) (l : List ℤ) (j : ℕ) → j < length (onesFrom k l) → getD (onesFrom k l) j 0 < k + length l

@@ -42,7 +42,7 @@ module _ {l r : List ℤ} {c : ℕ} {out₀ out : List ℤ} {from to i : ℕ} (k
     opened-room = written-room (k .written) (length l) h (omega arith)
 
     -- One row more, of r or of zeros.
-    opened-next : oneAt l i ≡ true → (next : List ℤ) → next ≡ filled (opened l c r) (to + c) out₀ → Opened l r c out₀ next (from + c) (to + c) (i + 1)
+    pub opened-next : oneAt l i ≡ true → (next : List ℤ) → next ≡ filled (opened l c r) (to + c) out₀ → Opened l r c out₀ next (from + c) (to + c) (i + 1)
     opened-next e next f =
         record { within = omega arith; source = rw (before-one l i h e) (omega (arith, k .source)); written = written-more (k .written) opened-room f }
 

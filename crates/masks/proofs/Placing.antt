@@ -53,3 +53,12 @@ module _ {e : Bool} {l r : List ℤ} {outer n m c : ℕ} {out₀ out : List ℤ}
           written-more (k .written) passed-room
           (put-block (takes e l) (taken e l n) n m c r o (λ i q. taken-lt e l n i (b .fitting) (omega (arith, b .wide))) out out₀ last from to (k .written .filling) (k .written .at) (k .source-at) w);
     }
+
+-- Blocks that are called with what they are: the use x, and rows of d elements.
+module _ {e x : Bool} {c d : ℕ} (u : e ≡ x) (s : c ≡ d) where
+  pub blocks-by : {l : List ℤ} {outer n m from to : ℕ} → Blocks e l outer n m c from to → Blocks x l outer n m d from to
+  blocks-by b = rw (u, s) at b
+
+  pub placed-by : (l r : List ℤ) (outer n m : ℕ) (out : List ℤ)
+      → filled (placed (takes x l) (taken x l n) n m d r) (outer * (m * d)) out ≡ filled (placed (takes e l) (taken e l n) n m c r) (outer * (m * c)) out
+  placed-by l r outer n m out = rw (u, s)

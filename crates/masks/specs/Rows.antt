@@ -2,7 +2,7 @@
 use mathlib.Core.Path.{_≡_}
 use Prim.Native.Nat.{ℕ, _+_, _*_, _/_, _%_, _≤_, _<_}
 use mathlib.Core.List.{List}
-use mathlib.Core.Bool.{Bool, true, cond, not, _||_}
+use mathlib.Core.Bool.{Bool, true, false, cond, not, _||_}
 use lib.ListN.{length, take, getD, set, replicate}
 use lib.Dec.{eqb}
 use lib.IntN.{ℤ, pos}
@@ -34,6 +34,20 @@ taken expands l n i = cond expands (length (ones (take i l))) (cond (eqb n 1) 0 
 -- Element j of rows of c elements: row i is row φ i of r where t i, else zeros.
 abbrev pub rowed : (ℕ → Bool) → (ℕ → ℕ) → ℕ → List ℤ → ℕ → ℤ
 rowed t φ c r j = cond (t (j / c)) (getD r (φ (j / c) * c + j % c) (pos 0)) (pos 0)
+
+-- The longest mask whose ones are noted.
+abbrev pub few : ℕ
+few = 64
+
+-- The positions of a mask's ones stand in front of a list.
+abbrev pub Noted : List ℤ → List ℕ → Type 0
+Noted l at = (q : ℕ) → q < length (ones l) → getD at q 0 ≡ getD (ones l) q 0
+
+-- What is known where a mask goes by its noted ones: it is short, and compresses no axis of length 1.
+pub record ByNotes (expands : Bool) (l : List ℤ) (at : List ℕ) (n : ℕ) : Type 0 where
+  pub short : length l ≤ few
+  pub notes : Noted l at
+  pub other : expands ≡ false → n ≡ 1 → ⊥
 
 -- The positions of a mask from i up to e are ones, or none is one, as b says; e is not such a position.
 pub record Stretch (b : Bool) (l : List ℤ) (i e : ℕ) : Type 0 where

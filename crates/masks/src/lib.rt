@@ -14,7 +14,7 @@ ghost use Rattle.meaning.specs.Terms.{along, every, isBit, eqZ, ones};
 ghost use Rattle.meaning.specs.Reply.{reply};
 ghost use Rattle.copying.proofs.Runs.{filled};
 ghost use Rattle.answer.specs.Answer.{lent, own, Replied};
-ghost use Rattle.masks.specs.Rows.{maskOf, takes, taken, rowed, placed, Block, Blocks, Along, keptAt, openedAt};
+ghost use Rattle.masks.specs.Rows.{few, ByNotes, maskOf, takes, taken, rowed, placed, Block, Blocks, Along, keptAt, openedAt};
 ghost use Rattle.masks.specs.Vector.{vectorShape};
 ghost use Rattle.masks.specs.Uses.{numbered, masking, compressTest, expandTest, resultWidth, maskElement, Masked, Compressed, Expanded};
 use answer::Answer;
@@ -141,8 +141,44 @@ fn width_of(expands: bool, l: &[i32], n: usize) -> usize
     kept_count(l, n)
 }
 
-// One block of n rows to m rows.
-fn block(expands: bool, l: &[i32], r: &[i32], n: usize, m: usize, inner: usize, out: &mut [i32])
+// One block of n rows to m rows, by the noted positions of the mask's ones or by the mask itself.
+fn block(
+    expands: bool,
+    noted: bool,
+    l: &[i32],
+    at: &[u16; rows::FEW],
+    r: &[i32],
+    n: usize,
+    m: usize,
+    inner: usize,
+    out: &mut [i32],
+)
+    requires { ⌜ (0 < inner) × (Block expands (now l) n m inner (length (now r)) (length (now out)) × (noted ≡ true → ByNotes expands (now l) (now at) n)) ⌝ }
+    ensures { λ _.
+        ⌜ now (out .exit)
+        ≡ tab (m * inner) (rowed (takes expands (now (l .entry))) (taken expands (now (l .entry)) n) inner (now (r .entry))) ⌝ }
+{
+    if noted {
+        if expands {
+            rows::opened_rows(l, at, r, inner, out);
+        } else {
+            rows::kept_rows(at, r, m, inner, out);
+        }
+    } else {
+        masked_block(expands, l, r, n, m, inner, out);
+    }
+}
+
+// By the mask itself.
+fn masked_block(
+    expands: bool,
+    l: &[i32],
+    r: &[i32],
+    n: usize,
+    m: usize,
+    inner: usize,
+    out: &mut [i32],
+)
     requires { ⌜ (0 < inner) × Block expands (now l) n m inner (length (now r)) (length (now out)) ⌝ }
     ensures { λ _.
         ⌜ now (out .exit)
@@ -170,6 +206,92 @@ fn block(expands: bool, l: &[i32], r: &[i32], n: usize, m: usize, inner: usize, 
 // Each of the blocks that stand one after another.
 fn blocks(
     expands: bool,
+    noted: bool,
+    l: &[i32],
+    at: &[u16; rows::FEW],
+    r: &[i32],
+    outer: usize,
+    n: usize,
+    m: usize,
+    inner: usize,
+    out: &mut [i32],
+)
+    requires { ⌜ Blocks expands (now l) outer n m inner (length (now r)) (length (now out)) × (noted ≡ true → ByNotes expands (now l) (now at) n) ⌝ }
+    ensures { λ _.
+        ⌜ now (out .exit)
+        ≡ filled (placed (takes expands (now (l .entry))) (taken expands (now (l .entry)) n) n m inner (now (r .entry))) (outer * (m * inner)) (now (out .entry)) ⌝ }
+{
+    let size = n * inner;
+    let part = m * inner;
+    let mut from = 0;
+    let mut to = 0;
+    let mut o = 0;
+    while o < outer {
+        let stop = from + size;
+        let end = to + part;
+        block(
+            expands,
+            noted,
+            l,
+            at,
+            &r[from..stop],
+            n,
+            m,
+            inner,
+            &mut out[to..end],
+        );
+        from = stop;
+        to = end;
+        o += 1;
+    }
+}
+
+// A block of up to so many elements stays in the first-level cache until the rows are written over its zeros.
+const NEAR: usize = 2048;
+
+// Whether the ones are noted, for a mask of c places on an axis of length n, where a block of the result has `part` elements.
+fn notes_pay(expands: bool, c: usize, n: usize, part: usize) -> bool
+    ensures { λ b. ⌜ (b ≡ true → (c ≤ few) × (expands ≡ false → n ≡ 1 → ⊥)) ⌝ }
+{
+    if rows::FEW < c {
+        return false;
+    }
+    if expands { part <= NEAR } else { n != 1 }
+}
+
+// The blocks by noted ones. They are called with what they are, so that each kind is compiled to a loop of its own.
+fn noted_blocks(
+    expands: bool,
+    l: &[i32],
+    r: &[i32],
+    outer: usize,
+    n: usize,
+    m: usize,
+    inner: usize,
+    out: &mut [i32],
+)
+    requires { ⌜ Blocks expands (now l) outer n m inner (length (now r)) (length (now out)) × ((length (now l) ≤ few) × (expands ≡ false → n ≡ 1 → ⊥)) ⌝ }
+    ensures { λ _.
+        ⌜ now (out .exit)
+        ≡ filled (placed (takes expands (now (l .entry))) (taken expands (now (l .entry)) n) n m inner (now (r .entry))) (outer * (m * inner)) (now (out .entry)) ⌝ }
+{
+    let at = rows::noted(l);
+    if inner == 1 {
+        if expands {
+            blocks(true, true, l, &at, r, outer, n, m, 1, out);
+        } else {
+            blocks(false, true, l, &at, r, outer, n, m, 1, out);
+        }
+    } else if expands {
+        blocks(true, true, l, &at, r, outer, n, m, inner, out);
+    } else {
+        blocks(false, true, l, &at, r, outer, n, m, inner, out);
+    }
+}
+
+// The blocks by the mask itself, in the same way.
+fn masked_blocks(
+    expands: bool,
     l: &[i32],
     r: &[i32],
     outer: usize,
@@ -183,22 +305,19 @@ fn blocks(
         ⌜ now (out .exit)
         ≡ filled (placed (takes expands (now (l .entry))) (taken expands (now (l .entry)) n) n m inner (now (r .entry))) (outer * (m * inner)) (now (out .entry)) ⌝ }
 {
-    let size = n * inner;
-    let part = m * inner;
-    let mut from = 0;
-    let mut to = 0;
-    let mut o = 0;
-    while o < outer {
-        let stop = from + size;
-        let end = to + part;
-        block(expands, l, &r[from..stop], n, m, inner, &mut out[to..end]);
-        from = stop;
-        to = end;
-        o += 1;
+    let at = [0; rows::FEW];
+    if inner == 1 {
+        if expands {
+            blocks(true, false, l, &at, r, outer, n, m, 1, out);
+        } else {
+            blocks(false, false, l, &at, r, outer, n, m, 1, out);
+        }
+    } else {
+        blocks(expands, false, l, &at, r, outer, n, m, inner, out);
     }
 }
 
-// All lines along axis k. Those of single elements are called with what they are, so that both kinds are compiled to loops of their own.
+// All lines along axis k. Where there are as many positions as before they are one run.
 fn lines(
     expands: bool,
     l: &[i32],
@@ -222,14 +341,14 @@ fn lines(
         return;
     }
     let a = s.around(k);
-    if a.inner == 1 {
-        if expands {
-            blocks(true, l, r, a.outer, a.length, m, 1, out);
-        } else {
-            blocks(false, l, r, a.outer, a.length, m, 1, out);
-        }
+    if m == a.length {
+        copying::copy_run(&r[0..total], out);
+        return;
+    }
+    if notes_pay(expands, l.len(), a.length, m * a.inner) {
+        noted_blocks(expands, l, r, a.outer, a.length, m, a.inner, out);
     } else {
-        blocks(expands, l, r, a.outer, a.length, m, a.inner, out);
+        masked_blocks(expands, l, r, a.outer, a.length, m, a.inner, out);
     }
 }
 

@@ -1,13 +1,124 @@
 // The rows of one block. Where a row is one element there is one loop over the line.
 ghost use mathlib.Core.Path.{_≡_};
 ghost use mathlib.Core.Bool.{true, cond};
-ghost use Prim.Native.Nat.{_*_, _≤_, _<_};
+ghost use Prim.Native.Nat.{ℕ, _+_, _*_, _≤_, _<_};
 ghost use lib.ListN.{length, take, getD};
 ghost use lib.IntN.{pos};
 ghost use Rattle.meaning.specs.Array.{tab};
 ghost use Rattle.meaning.specs.Terms.{eqZ, ones};
 ghost use Rattle.copying.proofs.Runs.{filled};
-ghost use Rattle.masks.specs.Rows.{rowed, Stretch};
+ghost use Rattle.masks.specs.Rows.{few, Noted, rowed, Stretch};
+
+// A mask of up to so many positions is looked at once, and not again for each block.
+pub const FEW: usize = 64;
+
+// The positions of the ones in order, where the mask is that short.
+pub fn noted(l: &[i32]) -> [u16; FEW]
+    ensures { λ at. ⌜ (length (now (l .entry)) ≤ few → Noted (now (l .entry)) at) ⌝ }
+{
+    let mut at = [0; FEW];
+    if l.len() <= FEW {
+        note(l, &mut at);
+    }
+    at
+}
+
+// Every position is written, and the next over it if it is no one: a branch for each would be guessed wrong.
+fn note(l: &[i32], at: &mut [u16; FEW])
+    requires { ⌜ (length (now l) ≤ few) × (length (now at) ≡ few) ⌝ }
+    ensures { λ _. ⌜ Noted (now (l .entry)) (now (at .exit)) ⌝ }
+{
+    let mut q = 0;
+    let mut i = 0;
+    while i < l.len() {
+        at[q] = i as u16;
+        if l[i] == 1 {
+            q += 1;
+        }
+        i += 1;
+    }
+}
+
+// The elements at the noted positions.
+fn kept_line(at: &[u16; FEW], r: &[i32], out: &mut [i32])
+    requires { ⌜ (length (now out) ≤ few) × ((q : ℕ) → q < length (now out) → getD (now at) q 0 < length (now r)) ⌝ }
+    ensures { λ _. ⌜ now (out .exit) ≡ tab (length (now (out .entry)) * 1) (rowed (λ i. true) (λ i. getD (now (at .entry)) i 0) 1 (now (r .entry))) ⌝ }
+{
+    let mut q = 0;
+    while q < out.len() {
+        let x = at[q] as usize;
+        out[q] = r[x];
+        q += 1;
+    }
+}
+
+// The m rows at the noted positions. They are not joined to longer runs: runs of one length are copied faster.
+pub fn kept_rows(at: &[u16; FEW], r: &[i32], m: usize, inner: usize, out: &mut [i32])
+    requires { ⌜ (m ≤ few) × ((0 < inner) × ((length (now out) ≡ m * inner) × ((q : ℕ) → q < m → (getD (now at) q 0 + 1) * inner ≤ length (now r)))) ⌝ }
+    ensures { λ _. ⌜ now (out .exit) ≡ tab (m * inner) (rowed (λ i. true) (λ i. getD (now (at .entry)) i 0) inner (now (r .entry))) ⌝ }
+{
+    if inner == 1 {
+        kept_line(at, r, out);
+        return;
+    }
+    let mut to = 0;
+    let mut q = 0;
+    while q < m {
+        let x = at[q] as usize;
+        let from = x * inner;
+        let stop = from + inner;
+        let end = to + inner;
+        copying::copy_run(&r[from..stop], &mut out[to..end]);
+        to = end;
+        q += 1;
+    }
+}
+
+// The elements in order at the noted positions, over zeros. Only the contract speaks of l.
+fn opened_line(l: &[i32], at: &[u16; FEW], r: &[i32], out: &mut [i32])
+    requires { ⌜ (length (now l) ≤ few)
+        × (Noted (now l) (now at) × ((length (now r) ≡ length (ones (now l)) * 1) × (length (now out) ≡ length (now l) * 1))) ⌝ }
+    ensures { λ _.
+        ⌜ now (out .exit)
+        ≡ tab (length (now (l .entry)) * 1)
+        (rowed (λ i. eqZ (getD (now (l .entry)) i (pos 0)) (pos 1)) (λ i. length (ones (take i (now (l .entry))))) 1 (now (r .entry))) ⌝ }
+{
+    copying::fill_run(0, out);
+    let mut q = 0;
+    while q < r.len() {
+        let x = at[q] as usize;
+        out[x] = r[q];
+        q += 1;
+    }
+}
+
+// The rows in order at the noted positions, over zeros: one run of zeros for a block costs less than one for each gap.
+pub fn opened_rows(l: &[i32], at: &[u16; FEW], r: &[i32], inner: usize, out: &mut [i32])
+    requires { ⌜ (0 < inner)
+        × ((length (now l) ≤ few)
+        × (Noted (now l) (now at) × ((length (now r) ≡ length (ones (now l)) * inner) × (length (now out) ≡ length (now l) * inner)))) ⌝ }
+    ensures { λ _.
+        ⌜ now (out .exit)
+        ≡ tab (length (now (l .entry)) * inner)
+        (rowed (λ i. eqZ (getD (now (l .entry)) i (pos 0)) (pos 1)) (λ i. length (ones (take i (now (l .entry))))) inner (now (r .entry))) ⌝ }
+{
+    if inner == 1 {
+        opened_line(l, at, r, out);
+        return;
+    }
+    copying::fill_run(0, out);
+    let mut from = 0;
+    let mut q = 0;
+    while from < r.len() {
+        let x = at[q] as usize;
+        let to = x * inner;
+        let stop = from + inner;
+        let end = to + inner;
+        copying::copy_run(&r[from..stop], &mut out[to..end]);
+        from = stop;
+        q += 1;
+    }
+}
 
 // The elements at ones. Every element is written, and the next over it if it is not kept: a branch for each would be guessed wrong.
 pub fn compress_line(l: &[i32], r: &[i32], out: &mut [i32])

@@ -1,76 +1,47 @@
 use mathlib.Core.Path.{refl, _∙_}
-use Rattle.masks.proofs.Uses.{expand-ready, expand-block, repeat-source, repeat-block, compress-ready, compress-block}
+use Rattle.masks.proofs.Uses.{expand-ready, expand-block, noted-few, noted-inside, noted-block}
 use borrow.Author.Needs.{needs}
 use Rattle.masks.proofs.block.Statement.{statement}
 use Rattle.masks.proofs.block.Tie as tie
 
-expand-line-requires : tie.Need-expand-line-requires
-expand-line-requires c κs =
+opened-rows-requires : tie.Need-opened-rows-requires
+opened-rows-requires c κs =
     let e = c .before in
-    expand-ready _ _ _ _ _ _ _ (e .before .before .pre .1) (e .before .if1 .taken) 1 (e .if2 .taken)
-
-expand-rows-requires : tie.Need-expand-rows-requires
-expand-rows-requires c κs =
-    let e = c .before in
-    expand-ready _ _ _ _ _ _ _ (e .before .before .pre .1) (e .before .if1 .taken) _ refl
+    let st = e .before .before in
+    let by = st .pre .1 .1 (e .before .if1 .taken) in
+    (st .pre .0, (by .short, (by .notes, expand-ready _ _ _ _ _ _ _ (st .pre .1 .0) (e .if2 .taken) _ refl)))
 
 returns : tie.Need-returns
 returns c =
     let e = c .before .before .before in
-    c .before .expand-line .ensures ∙ expand-block _ _ _ _ _ _ _ (e .before .before .pre .1) (e .before .if1 .taken) (e .before .before .args .r .now) 1 (e .if2 .taken)
+    let st = e .before .before in
+    c .before .opened-rows .ensures ∙ expand-block _ _ _ _ _ _ _ (st .pre .1 .0) (e .if2 .taken) (st .args .r .now) _ refl
+
+kept-rows-requires : tie.Need-kept-rows-requires
+kept-rows-requires c κs =
+    let e = c .before in
+    let st = e .before .before in
+    let b = st .pre .1 .0 in
+    let by = st .pre .1 .1 (e .before .if1 .taken) in
+    (noted-few _ _ _ _ _ _ _ b (e .if2 .left) (st .args .at .now) by, (st .pre .0, (b .room, noted-inside _ _ _ _ _ _ _ b (e .if2 .left) (st .args .at .now) by)))
 
 returns-2 : tie.Need-returns-2
 returns-2 c =
     let e = c .before .before .before in
-    c .before .expand-rows .ensures ∙ expand-block _ _ _ _ _ _ _ (e .before .before .pre .1) (e .before .if1 .taken) (e .before .before .args .r .now) _ refl
-
-repeat-row-requires : tie.Need-repeat-row-requires
-repeat-row-requires c κs =
-    let e = c .before in
     let st = e .before .before in
-    (st .pre .0, (repeat-source _ _ _ _ _ _ _ (st .pre .1) (e .before .if1 .left) (e .if3 .taken), st .pre .1 .room))
-
-returns-3 : tie.Need-returns-3
-returns-3 c =
-    let e = c .before .before .before in
-    c .before .repeat-row .ensures ∙ repeat-block _ _ _ _ _ _ _ (e .before .before .pre .1) (e .before .if1 .left) (e .if3 .taken) (e .before .before .args .r .now)
-
-compress-line-requires : tie.Need-compress-line-requires
-compress-line-requires c κs =
-    let e = c .before .before in
-    compress-ready _ _ _ _ _ _ _ (e .before .before .pre .1) (e .before .if1 .left) (e .if3 .left) 1 (c .before .if4 .taken)
-
-compress-rows-requires : tie.Need-compress-rows-requires
-compress-rows-requires c κs =
-    let e = c .before .before in
-    compress-ready _ _ _ _ _ _ _ (e .before .before .pre .1) (e .before .if1 .left) (e .if3 .left) _ refl
-
-returns-4 : tie.Need-returns-4
-returns-4 c =
-    let e = c .before .before .before .before in
-    c .before .compress-line .ensures ∙ compress-block _ _ _ _ _ _ _ (e .before .before .pre .1) (e .before .if1 .left) (e .if3 .left) (e .before .before .args .r .now) 1 (c .before .before .before .if4 .taken)
-
-returns-5 : tie.Need-returns-5
-returns-5 c =
-    let e = c .before .before .before .before in
-    c .before .compress-rows .ensures ∙ compress-block _ _ _ _ _ _ _ (e .before .before .pre .1) (e .before .if1 .left) (e .if3 .left) (e .before .before .args .r .now) _ refl
+    c .before .kept-rows .ensures
+    ∙ noted-block _ _ _ _ _ _ _ (st .pre .1 .0) (e .if2 .left) (st .args .at .now) (st .pre .1 .1 (e .before .if1 .taken)) (st .args .r .now)
 
 pub block-spec : {M : Type 1} → statement M
 block-spec =
     tie.close
     (tie.spec
-    expand-line-requires
-    expand-rows-requires
+    opened-rows-requires
+    kept-rows-requires
+    (λ c κs. (c .before .before .pre .0, c .before .before .pre .1 .0))
     (λ c. search needs)
     returns
     (λ c. search needs)
     returns-2
-    repeat-row-requires
     (λ c. search needs)
-    returns-3
-    compress-line-requires
-    compress-rows-requires
-    (λ c. search needs)
-    returns-4
-    (λ c. search needs)
-    returns-5)
+    (λ c. c .before .masked-block .ensures))

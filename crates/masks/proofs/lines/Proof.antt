@@ -1,18 +1,23 @@
 use native.Mathlib.Omega.{arith}
-use mathlib.Core.Path.{_≡_, _∙_}
+use mathlib.Core.Path.{_≡_, refl, _∙_}
 use mathlib.Core.List.{_++_}
 use Prim.Native.Nat.{_*_}
+use mir.Syntax.{w64}
+use mir.Val.{Fits}
 use lib.ListN.{length, drop}
 use Rattle.copying.proofs.Runs.{filled}
 use Rattle.masks.specs.Rows.{takes, taken, placed, Blocks}
 use Rattle.shape.specs.Shape.{maxRank}
-use Rattle.masks.proofs.Lined.{lined, lined-none, lined-blocks, lined-all}
+use Rattle.masks.proofs.Lined.{lined, lined-none, lined-blocks, lined-part, lined-all, lined-inside, lined-same}
 use borrow.Author.Needs.{needs}
 use Rattle.masks.proofs.lines.Statement.{statement}
 use Rattle.masks.proofs.lines.Tie as tie
 
 returns : tie.Need-returns
 returns c = lined-none _ _ _ _ _ _ _ _ (c .before .pre) (c .if1 .taken) (c .before .args .out .now)
+
+long : (st : tie.Start) → length (st .args .s .lens) ≡ maxRank
+long st = search needs
 
 -- What the blocks need and what they make, whatever they are called with.
 ready : (c : tie.After-around)
@@ -21,8 +26,7 @@ ready : (c : tie.After-around)
     Blocks (a .expands) (a .l .now) (v .outer) (v .length) (a .m) (v .inner) (length (a .r .now)) (length (a .out .now)))
 ready c =
     let st = c .before .before in
-    let long : length (st .args .s .lens) ≡ maxRank = search needs in
-    lined-blocks _ _ _ _ _ _ _ _ (st .pre) long (omega arith) _ (c .around .ensures)
+    lined-blocks _ _ _ _ _ _ _ _ (st .pre) (long st) (omega arith) _ (c .around .ensures)
 
 made : (c : tie.After-around)
     → (let a = c .before .before .args in
@@ -31,30 +35,41 @@ made : (c : tie.After-around)
     ≡ lined _ _ _ _ _ _ _ _ (c .before .before .pre) ++ drop (a .total) (a .out .now))
 made c =
     let st = c .before .before in
-    let long : length (st .args .s .lens) ≡ maxRank = search needs in
-    lined-all _ _ _ _ _ _ _ _ (st .pre) long (omega arith) _ (c .around .ensures) (st .args .out .now)
+    lined-all _ _ _ _ _ _ _ _ (st .pre) (long st) (omega arith) _ (c .around .ensures) (st .args .out .now)
 
-blocks-requires : tie.Need-blocks-requires
-blocks-requires c κs = let t = c .before .before in rw (c .before .if3 .taken, t .if2 .taken) at (ready (t .before .before))
-
-blocks-requires-2 : tie.Need-blocks-requires-2
-blocks-requires-2 c κs = let t = c .before .before in rw (c .before .if3 .left, t .if2 .taken) at (ready (t .before .before))
-
-blocks-requires-3 : tie.Need-blocks-requires-3
-blocks-requires-3 c κs = ready (c .before .before .before)
+-- Where the mask has ones alone.
+part-copy-run-end : tie.Need-part-copy-run-end
+part-copy-run-end c =
+    let r = c .before .before in
+    let st = r .before .before in
+    omega (arith, lined-inside _ _ _ _ _ _ _ _ (st .pre) (long st) (omega arith) _ (r .around .ensures) (c .if2 .taken))
 
 returns-2 : tie.Need-returns-2
 returns-2 c =
-    let e = c .before .before .before in
-    rw (e .if3 .taken) (c .before .blocks2 .ensures ∙ (rw (e .if3 .taken, e .before .if2 .taken) at (made (e .before .before .before))))
+    let e = c .before .before .before .before in
+    let r = e .before .before in
+    let st = r .before .before in
+    lined-same _ _ _ _ _ _ _ _ (st .pre) (long st) (omega arith) _ (r .around .ensures) (e .if2 .taken) (st .args .out .now) _ refl (c .before .copy-run .ensures)
+
+mul-notes-pay : tie.Need-mul-notes-pay
+mul-notes-pay c =
+    let r = c .before .before .before in
+    let st = r .before .before in
+    let part : Fits w64 (st .args .m * r .around .result .inner) =
+    omega (arith, lined-part _ _ _ _ _ _ _ _ (st .pre) (long st) (omega arith) _ (r .around .ensures)) in
+    part
+
+noted-blocks-requires : tie.Need-noted-blocks-requires
+noted-blocks-requires c κs = let n = c .before .before in (ready (n .before .before .before .before), n .notes-pay .ensures (c .before .if3 .taken))
+
+masked-blocks-requires : tie.Need-masked-blocks-requires
+masked-blocks-requires c κs = ready (c .before .before .before .before .before .before)
 
 returns-3 : tie.Need-returns-3
-returns-3 c =
-    let e = c .before .before .before in
-    rw (e .if3 .left) (c .before .blocks3 .ensures ∙ (rw (e .if3 .left, e .before .if2 .taken) at (made (e .before .before .before))))
+returns-3 c = c .before .noted-blocks .ensures ∙ made (c .before .before .before .before .before .before .before .before)
 
 returns-4 : tie.Need-returns-4
-returns-4 c = c .before .blocks4 .ensures ∙ made (c .before .before .before .before .before)
+returns-4 c = c .before .masked-blocks .ensures ∙ made (c .before .before .before .before .before .before .before .before)
 
 pub lines-spec : {M : Type 1} → statement M
 lines-spec =
@@ -62,11 +77,16 @@ lines-spec =
     (tie.spec
     returns
     (λ c κs. search needs)
-    blocks-requires
-    blocks-requires-2
-    blocks-requires-3
+    (λ c. search needs)
+    (λ c. search needs)
+    part-copy-run-end
+    (λ c κs. search needs)
     (λ c. search needs)
     returns-2
+    mul-notes-pay
+    (λ c κs. search needs)
+    noted-blocks-requires
+    masked-blocks-requires
     (λ c. search needs)
     returns-3
     (λ c. search needs)

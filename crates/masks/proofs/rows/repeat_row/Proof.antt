@@ -5,12 +5,12 @@ use mathlib.Core.Path.{_∙_}
 use lib.IntN.{pos}
 use lib.ListN.{length, getD}
 use Rattle.signed.proofs.Reading.{read32}
-use Rattle.masks.proofs.Repeated.{Repeated, repeated-none, repeated-all, repeated-one, repeated-row, repeated-room}
+use Rattle.masks.proofs.Chosen.{Chosen, chosen-none, chosen-all, chosen-room, repeated-one, repeated-row}
 use Rattle.masks.proofs.rows.repeat_row.Statement.{statement}
 use Rattle.masks.proofs.rows.repeat_row.Tie as tie
 
 abbrev Inv-loop : tie.InvT-loop
-Inv-loop r m inner out₀ to₀ i₀ out to i = Repeated r m inner out₀ out to i
+Inv-loop r m inner out₀ to₀ i₀ out to i = Chosen (λ j. 0) r m inner out₀ out to i
 
 abbrev μ-loop : tie.MeasureT-loop
 μ-loop r m inner out₀ to₀ i₀ out to i = m - i
@@ -19,7 +19,7 @@ room : (c : tie.In-loop Inv-loop μ-loop) → c .before .loop .to + c .before .b
 room c =
     let lp = c .before .loop in
     let a = c .before .before .before .args in
-    repeated-room (lp .inv) (omega arith) (omega arith)
+    chosen-room (λ j. 0) (a .r .now) (a .m) (a .inner) (lp .inv) (omega arith) (omega arith)
 
 returns : tie.Need-returns Inv-loop μ-loop
 returns c =
@@ -29,7 +29,7 @@ returns c =
     (read32 (getD (st .args .r .now) 0 (pos 0)) (sfits-of (c .before .before .before .fill-run-arg .given)))
 
 loop-holds : tie.Need-loop-holds Inv-loop μ-loop
-loop-holds c = repeated-none _ _ _ _
+loop-holds c = chosen-none _ _ _ _ _
 
 add-end : tie.Need-add-end Inv-loop μ-loop
 add-end c = omega (arith, room c)
@@ -45,13 +45,15 @@ loop-again c =
     let st = c .before .before .before .before .before .before in
     let lp = c .before .before .before .before .loop in
     let a = st .args in
-    repeated-row (lp .inv) (omega arith) (omega arith) (omega arith) _ (c .before .copy-run .ensures)
+    repeated-row (a .r .now) (a .m) (a .inner) (lp .inv) (omega arith) (omega arith) (omega arith) _ (c .before .copy-run .ensures)
 
 same-length-2 : tie.Need-same-length-2 Inv-loop μ-loop
 same-length-2 c = c .before .loop .inv .written .long
 
 returns-2 : tie.Need-returns-2 Inv-loop μ-loop
-returns-2 c = repeated-all (c .before .loop .inv) (omega arith) (omega arith)
+returns-2 c =
+    let a = c .before .before .before .args in
+    chosen-all (λ j. 0) (a .r .now) (a .m) (a .inner) (c .before .loop .inv) (omega arith) (omega arith)
 
 pub repeat-row-spec : {M : Type 1} → statement M
 repeat-row-spec =
