@@ -1,5 +1,6 @@
 // Take and drop: on each axis of the result a window of R's positions, and zeros outside it.
 ghost use mathlib.Core.Path.{_≡_};
+ghost use mathlib.Core.Bool.{true};
 ghost use Prim.Native.Nat.{_-_, _*_, _≤_, _<_};
 ghost use lib.IntN.{ℤ, pos};
 ghost use lib.ListN.{length, take, drop};
@@ -245,17 +246,30 @@ fn keeps_end(dropping: bool, z: i32) -> bool
 // Rows from this length on have their zeros written one by one. Those of shorter rows are written all at once, under the runs too.
 const LONG_ROW: usize = 128;
 
+// Whether a table has two windows whose rows go in one loop: rows that are short, or rows without zeros, as many positions as are taken.
+fn by_rows(table: &[usize]) -> bool
+    ensures { λ b. ⌜ (b ≡ true → length (now (table .entry)) ≡ 10) ⌝ }
+{
+    if table.len() != WIDTH + WIDTH {
+        return false;
+    }
+    let block = table[4];
+    let small = table[9];
+    if block < LONG_ROW || small == 0 {
+        return true;
+    }
+    block / small == table[7]
+}
+
 // Fills `out` with what the table's windows leave of `r` from `at` on: the last window is one run, the last two are rows, one before them a
 // part for each position.
 fn cut(table: &[usize], at: usize, r: &[i32], out: &mut [i32])
     requires { ⌜ Fitting (now table) at (length (now r)) (length (now out)) ⌝ }
     ensures { λ _. ⌜ now (out .exit) ≡ tab (length (now (out .entry))) (cutAt (now (table .entry)) (now (r .entry)) at) ⌝ }
 {
-    if table.len() == WIDTH + WIDTH {
-        if table[4] < LONG_ROW {
-            cut_rows(table, at, r, out);
-            return;
-        }
+    if by_rows(table) {
+        cut_rows(table, at, r, out);
+        return;
     }
     let block = table[4];
     let step = table[3];
