@@ -19,7 +19,7 @@ use std::time::{Duration, Instant};
 const BATCH: Duration = Duration::from_micros(40);
 const CASE: Duration = Duration::from_millis(100);
 /// Rounds over all cases, so that a slow moment of the machine spoils no case.
-const ROUNDS: usize = 4;
+const ROUNDS: usize = 8;
 const RANDOM_CALLS: usize = 200_000;
 const LARGE_CALLS: usize = 5_000;
 
