@@ -62,7 +62,7 @@ def along(shape, axis):
     say("23 take", shape, f"{name}, two thirds", lambda: np.copyto(taken, part(r, 0, n * 2 // 3)))
     left = result(part(r, n // 3, n).shape)
     say("24 drop", shape, f"{name}, a third", lambda: np.copyto(left, part(r, n // 3, n)))
-    for amount in (1, max(2, n // 3)):
+    for amount in (1, max(2, n // 3), -1):
         say("25 rotate", shape, f"{name}, by {amount}", lambda: np.roll(r, -amount, axis))
     masks = {"all ones": np.ones(n, bool), "alternating": np.arange(n) % 2 == 0, "random": RANDOM.integers(0, 2, n) == 1}
     for what, mask in masks.items():

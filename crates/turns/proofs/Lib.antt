@@ -3,4 +3,4 @@ pub mod Into
 pub mod Axes
 pub mod Reversal
 pub mod Rotation
-pub mod Short
+pub mod Groups

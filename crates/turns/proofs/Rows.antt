@@ -3,21 +3,19 @@ use mathlib.Core.Path.{_≡_, refl, sym, ap, ap₂, _∙_}
 use mathlib.Core.List.{List}
 use mathlib.Core.Bool.{Bool, true, false, cond}
 use Prim.Native.Nat.{ℕ, zero, suc, _+_, _*_, _-_, _/_, _%_, _≤_, _<_}
-use native.Mathlib.Nat.{mul-le-mul-right, mul-one, div-one, mod-one, mod-lt, mod-eq-of-lt, add-mod-right, div-add-mod', zero-add}
+use native.Mathlib.Nat.{mul-le-mul-right, mul-one, div-one, mod-one, mod-lt, div-add-mod'}
 use native.Mathlib.Omega.{arith}
 use lib.Arith.{digits-div, digits-mod, mod-mul}
-use borrow.Rule.Slice.PartMut.{putMid}
-use lib.ListN.{length, getD, take, drop, length-reverse}
+use lib.ListN.{length, getD, length-reverse}
 use lib.Dec.{eqb}
 use lib.IntN.{ℤ, pos, _+ℤ_}
 use mathlib.Core.List.{reverse}
 use Rattle.meaning.specs.Array.{tab}
-use Rattle.copying.specs.Runs.{copied, reversed}
-use Rattle.copying.proofs.Runs.{reversed-whole, tab-is, filled, filled-none, filled-whole, put-copied}
+use Rattle.copying.specs.Runs.{reversed}
+use Rattle.copying.proofs.Runs.{reversed-whole, tab-is}
 use Rattle.meaning.specs.Terms.{modulo}
 use Rattle.meaning.proofs.Modulo.{modulo-lt, modulo-turn, amount-is}
 use Rattle.shape.proofs.Places.{row-in}
-use Rattle.meaning.proofs.Tab.{tab-ext}
 use Rattle.turns.specs.Rows.{turnPosition, turnRow}
 use Rattle.copying.proofs.Steps.{getD-reverse}
 
@@ -46,51 +44,26 @@ line-reversed r out n c one a b =
     ap (λ k. (n - 1 - i / k) * k + i % k) one ∙ (rw (div-one i, mod-one i, mul-one) (omega arith)) in
     ap (λ k. getD r k (pos 0)) q ∙ sym (getD-reverse r i (pos 0) (omega arith)))
 
--- Two runs: what stands in r from the cut on, and what stands before it.
-module _ (r out last₁ last₂ : List ℤ) (n cut : ℕ) (long : n ≡ length r) (room : n ≡ length out) (h : cut ≤ n) where
-  abbrev turned : ℕ → ℤ
-  turned j = getD r ((j + cut) % n) (pos 0)
-
-  pub two-runs : last₁ ≡ copied (take (n - cut) (drop cut r)) (take (n - cut - 0) out)
-      → last₂ ≡ copied (take (cut - 0) r) (take (n - (n - cut)) (drop (n - cut) (putMid 0 (n - cut - 0) out last₁)))
-      → putMid (n - cut) (n - (n - cut)) (putMid 0 (n - cut - 0) out last₁) last₂ ≡ tab n turned
-  two-runs q₁ q₂ =
-      let seam : ℕ = n - cut in
-      let first : putMid 0 (seam - 0) out last₁ ≡ filled turned (0 + seam) out =
-      put-copied turned 0 seam seam out out last₁ (filled-none turned out) (omega arith) (omega arith) r cut n (pos 0) (omega arith) (omega arith)
-      (λ i l. ap (λ k. getD r k (pos 0)) (let e : 0 + i + cut ≡ cut + i = omega arith in ap (λ k. k % n) e ∙ mod-eq-of-lt (omega arith))) q₁ in
-      let filled-there : putMid 0 (seam - 0) out last₁ ≡ filled turned seam out = first ∙ ap (λ k. filled turned k out) (zero-add seam) in
-      let second : putMid seam (n - seam) (putMid 0 (seam - 0) out last₁) last₂ ≡ filled turned (seam + cut) out =
-      put-copied turned seam cut n _ out last₂ filled-there (omega arith) (omega arith) r 0 cut (pos 0) (omega arith) (omega arith)
-      (λ i l. ap (λ k. getD r k (pos 0)) (let e : seam + i + cut ≡ i + n = omega arith in ap (λ k. k % n) e ∙ add-mod-right i n ∙ mod-eq-of-lt (omega arith) ∙ sym (zero-add i))) q₂ in
-      let all : seam + cut ≡ n = omega arith in
-      second ∙ ap (λ k. filled turned k out) all ∙ filled-whole turned n out (omega arith)
-
 -- A turn of rows stays among them.
 pub turn-row-lt : (back : Bool) (a n q : ℕ) → q < n → turnRow back a n q < n
 unfolding turnRow
 turn-row-lt true a n q h = omega arith
 turn-row-lt false a n q h = mod-lt (q + a) (omega arith)
 
--- A block reversed, and a block cut at a rows.
+-- A block reversed, and element j of a block cut at a rows.
 pub block-back : (r : List ℤ) (n c a : ℕ) (back : Bool) → back ≡ true
     → tab (n * c) (λ j. getD r ((n - 1 - j / c) * c + j % c) (pos 0)) ≡ tab (n * c) (λ j. getD r (turnRow back a n (j / c) * c + j % c) (pos 0))
 unfolding turnRow
 block-back r n c a back e = rw e
 
-pub block-cut : (r : List ℤ) (n c a : ℕ) (back : Bool) → back ≡ false → length r ≡ n * c
-    → tab (length r) (λ j. getD r ((j + a * c) % length r) (pos 0)) ≡ tab (n * c) (λ j. getD r (turnRow back a n (j / c) * c + j % c) (pos 0))
+pub row-cut : (n c a j : ℕ) (back : Bool) → back ≡ false → j < n * c → (j + a * c) % (n * c) ≡ turnRow back a n (j / c) * c + j % c
 unfolding turnRow
-block-cut r n c a back e l =
-    ap (λ k. tab k (λ j. getD r ((j + a * c) % k) (pos 0))) l
-    ∙ tab-ext (n * c) _ _ (λ j h. ap (λ k. getD r k (pos 0)) (cut-row j (row-in n c j h) ∙ (rw e)))
-  where
-    cut-row : (j : ℕ) → (0 < c) × (j / c < n) → (j + a * c) % (n * c) ≡ (j / c + a) % n * c + j % c
-    cut-row j p =
-        let s : j + a * c ≡ (j / c + a) * c + j % c = omega (arith, div-add-mod' j c) in
-        let q : (j + a * c) / c ≡ j / c + a = ap (λ k. k / c) s ∙ digits-div (j / c + a) (mod-lt j (p .0)) in
-        let m : (j + a * c) % c ≡ j % c = ap (λ k. k % c) s ∙ digits-mod (j / c + a) (mod-lt j (p .0)) in
-        mod-mul (j + a * c) (omega (arith, p .1)) (p .0) ∙ ap₂ (λ x y. x % n * c + y) q m
+row-cut n c a j back e h =
+    let p = row-in n c j h in
+    let s : j + a * c ≡ (j / c + a) * c + j % c = omega (arith, div-add-mod' j c) in
+    let q : (j + a * c) / c ≡ j / c + a = ap (λ k. k / c) s ∙ digits-div (j / c + a) (mod-lt j (p .0)) in
+    let m : (j + a * c) % c ≡ j % c = ap (λ k. k % c) s ∙ digits-mod (j / c + a) (mod-lt j (p .0)) in
+    mod-mul (j + a * c) (omega (arith, p .1)) (p .0) ∙ ap₂ (λ x y. x % n * c + y) q m ∙ (rw e)
 
 -- The amount as rows is the amount.
 pub turn-amount : (back : Bool) (z : ℤ) (n a i : ℕ) → 0 < n → a ≡ cond (eqb n 0) 0 (modulo z n) → turnRow back a n i ≡ turnPosition back z n i

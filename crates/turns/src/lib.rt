@@ -95,9 +95,6 @@ fn turn_into(back: bool, z: i32, s: Shape, k: usize, total: usize, r: &[i32], ou
     turn_blocks(back, r, w.outer, w.length, w.inner, a, out);
 }
 
-// A cut shorter than this costs less to copy twice than a second run for each block. From here on two runs a block take no longer.
-const SHORT: usize = 64;
-
 // Turns the n rows of each block, `inner` elements a row.
 fn turn_blocks(
     back: bool,
@@ -114,23 +111,20 @@ fn turn_blocks(
 {
     let size = n * inner;
     if !back {
-        let cut = a * inner;
-        if cut < SHORT {
-            rotate_groups(r, outer, size, cut, out);
-            return;
-        }
+        rotate_groups(r, outer, size, a * inner, out);
+        return;
     }
     let mut at = 0;
     let mut o = 0;
     while o < outer {
         let end = at + size;
-        turn_block(back, &r[at..end], n, inner, a, &mut out[at..end]);
+        reverse_block(&r[at..end], n, inner, &mut out[at..end]);
         at = end;
         o += 1;
     }
 }
 
-// Elements of a group of blocks, few enough that both buffers' parts stay in the first-level cache until the blocks' ends are written.
+// Elements of a group of blocks, few enough that both buffers' parts stay in the first-level cache until the blocks' shorter parts are written.
 const GROUP: usize = 1024;
 
 // How many blocks a group has. A block may be larger than a group, or empty.
@@ -162,8 +156,22 @@ fn rotate_groups(r: &[i32], outer: usize, size: usize, cut: usize, out: &mut [i3
     }
 }
 
-// A group of blocks: one run over all of them, and then the end of each.
+// A group of blocks is shifted as a whole by the shorter part of a block: one run, and then that part of each block.
 fn rotate_group(r: &[i32], outer: usize, size: usize, cut: usize, out: &mut [i32])
+    requires { ⌜ (0 < outer) × ((cut ≤ size) × ((outer * size ≤ length (now r)) × (outer * size ≤ length (now out)))) ⌝ }
+    ensures { λ _.
+        ⌜ now (out .exit) ≡ filled (λ j. getD (now (r .entry)) (j / size * size + (j % size + cut) % size) (pos 0)) (outer * size) (now (out .entry)) ⌝ }
+{
+    let rest = size - cut;
+    if cut <= rest {
+        shift_down(r, outer, size, cut, out);
+    } else {
+        shift_up(r, outer, size, rest, out);
+    }
+}
+
+// What stands from the cut on goes down to the front of each block, and then what stands before it to the end of each.
+fn shift_down(r: &[i32], outer: usize, size: usize, cut: usize, out: &mut [i32])
     requires { ⌜ (0 < outer) × ((cut ≤ size) × ((outer * size ≤ length (now r)) × (outer * size ≤ length (now out)))) ⌝ }
     ensures { λ _.
         ⌜ now (out .exit) ≡ filled (λ j. getD (now (r .entry)) (j / size * size + (j % size + cut) % size) (pos 0)) (outer * size) (now (out .entry)) ⌝ }
@@ -183,14 +191,25 @@ fn rotate_group(r: &[i32], outer: usize, size: usize, cut: usize, out: &mut [i32
     }
 }
 
-fn turn_block(back: bool, r: &[i32], n: usize, inner: usize, a: usize, out: &mut [i32])
-    requires { ⌜ (a < n) × ((length (now r) ≡ n * inner) × (length (now out) ≡ n * inner)) ⌝ }
-    ensures { λ _. ⌜ now (out .exit) ≡ tab (n * inner) (λ j. getD (now (r .entry)) (turnRow back a n (j / inner) * inner + j % inner) (pos 0)) ⌝ }
+// The other way round: what stands before the cut goes up, and then what stands from it on to the front of each.
+fn shift_up(r: &[i32], outer: usize, size: usize, rest: usize, out: &mut [i32])
+    requires { ⌜ (0 < outer) × ((rest ≤ size) × ((outer * size ≤ length (now r)) × (outer * size ≤ length (now out)))) ⌝ }
+    ensures { λ _.
+        ⌜ now (out .exit)
+        ≡ filled (λ j. getD (now (r .entry)) (j / size * size + (j % size + (size - rest)) % size) (pos 0)) (outer * size) (now (out .entry)) ⌝ }
 {
-    if back {
-        reverse_block(r, n, inner, out);
-    } else {
-        rotate_block(r, a * inner, out);
+    let total = outer * size;
+    let seam = total - rest;
+    copying::copy_run(&r[0..seam], &mut out[rest..total]);
+    let mut at = 0;
+    let mut o = 0;
+    while o < outer {
+        let stop = at + size;
+        let from = stop - rest;
+        let end = at + rest;
+        copying::copy_run(&r[from..stop], &mut out[at..end]);
+        at = stop;
+        o += 1;
     }
 }
 
@@ -221,15 +240,4 @@ fn reverse_rows(r: &[i32], n: usize, inner: usize, out: &mut [i32])
         copying::copy_row(&r[from..stop], &mut out[to..end]);
         to = end;
     }
-}
-
-// A block turned by an amount is two runs: what stands from the cut on, and what stands before it.
-fn rotate_block(r: &[i32], cut: usize, out: &mut [i32])
-    requires { ⌜ (length (now r) ≡ length (now out)) × (cut ≤ length (now r)) ⌝ }
-    ensures { λ _. ⌜ now (out .exit) ≡ tab (length (now (r .entry))) (λ j. getD (now (r .entry)) ((j + cut) % length (now (r .entry))) (pos 0)) ⌝ }
-{
-    let n = r.len();
-    let seam = n - cut;
-    copying::copy_run(&r[cut..n], &mut out[0..seam]);
-    copying::copy_run(&r[0..cut], &mut out[seam..n]);
 }

@@ -7,7 +7,7 @@ use borrow.Author.Needs.{needs}
 use borrow.Rule.Slice.PartMut.{same-len-mid}
 use Rattle.copying.proofs.Runs.{filled, filled-none}
 use Rattle.copying.proofs.Parts.{part-long}
-use Rattle.turns.proofs.Short.{cutBlocks, group-step}
+use Rattle.turns.proofs.Groups.{cutBlocks, group-step}
 use Rattle.turns.proofs.rotate_groups.Statement.{statement}
 use Rattle.turns.proofs.rotate_groups.Tie as tie
 
