@@ -289,34 +289,6 @@ fn noted_blocks(
     }
 }
 
-// The blocks by the mask itself, in the same way.
-fn masked_blocks(
-    expands: bool,
-    l: &[i32],
-    r: &[i32],
-    outer: usize,
-    n: usize,
-    m: usize,
-    inner: usize,
-    out: &mut [i32],
-)
-    requires { ⌜ Blocks expands (now l) outer n m inner (length (now r)) (length (now out)) ⌝ }
-    ensures { λ _.
-        ⌜ now (out .exit)
-        ≡ filled (placed (takes expands (now (l .entry))) (taken expands (now (l .entry)) n) n m inner (now (r .entry))) (outer * (m * inner)) (now (out .entry)) ⌝ }
-{
-    let at = [0; rows::FEW];
-    if inner == 1 {
-        if expands {
-            blocks(true, false, l, &at, r, outer, n, m, 1, out);
-        } else {
-            blocks(false, false, l, &at, r, outer, n, m, 1, out);
-        }
-    } else {
-        blocks(expands, false, l, &at, r, outer, n, m, inner, out);
-    }
-}
-
 // All lines along axis k. Where there are as many positions as before they are one run.
 fn lines(
     expands: bool,
@@ -348,7 +320,19 @@ fn lines(
     if notes_pay(expands, l.len(), a.length, m * a.inner) {
         noted_blocks(expands, l, r, a.outer, a.length, m, a.inner, out);
     } else {
-        masked_blocks(expands, l, r, a.outer, a.length, m, a.inner, out);
+        let none = [0; rows::FEW];
+        blocks(
+            expands,
+            false,
+            l,
+            &none,
+            r,
+            a.outer,
+            a.length,
+            m,
+            a.inner,
+            out,
+        );
     }
 }
 

@@ -8,6 +8,7 @@ use lib.ListN.{length, drop}
 use Rattle.copying.proofs.Runs.{filled}
 use Rattle.masks.specs.Rows.{takes, taken, placed, Blocks}
 use Rattle.shape.specs.Shape.{maxRank}
+use Rattle.shape.proofs.Bools.{no-way}
 use Rattle.masks.proofs.Lined.{lined, lined-none, lined-blocks, lined-part, lined-all, lined-inside, lined-same}
 use borrow.Author.Needs.{needs}
 use Rattle.masks.proofs.lines.Statement.{statement}
@@ -62,14 +63,14 @@ mul-notes-pay c =
 noted-blocks-requires : tie.Need-noted-blocks-requires
 noted-blocks-requires c κs = let n = c .before .before in (ready (n .before .before .before .before), n .notes-pay .ensures (c .before .if3 .taken))
 
-masked-blocks-requires : tie.Need-masked-blocks-requires
-masked-blocks-requires c κs = ready (c .before .before .before .before .before .before)
+blocks-requires : tie.Need-blocks-requires
+blocks-requires c κs = (ready (c .before .before .before .before .before .before .before), λ t. no-way t)
 
 returns-3 : tie.Need-returns-3
 returns-3 c = c .before .noted-blocks .ensures ∙ made (c .before .before .before .before .before .before .before .before)
 
 returns-4 : tie.Need-returns-4
-returns-4 c = c .before .masked-blocks .ensures ∙ made (c .before .before .before .before .before .before .before .before)
+returns-4 c = c .before .blocks2 .ensures ∙ made (c .before .before .before .before .before .before .before .before .before)
 
 pub lines-spec : {M : Type 1} → statement M
 lines-spec =
@@ -86,7 +87,7 @@ lines-spec =
     mul-notes-pay
     (λ c κs. search needs)
     noted-blocks-requires
-    masked-blocks-requires
+    blocks-requires
     (λ c. search needs)
     returns-3
     (λ c. search needs)
