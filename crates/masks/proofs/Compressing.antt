@@ -1,24 +1,21 @@
 -- 27 where one element serves the whole axis: all or nothing is kept.
-use mathlib.Core.Path.{_≡_, refl, sym, ap, ap₂, _∙_}
+use mathlib.Core.Path.{_≡_, refl, sym, ap, _∙_}
 use mathlib.Core.List.{List, _++_}
 use mathlib.Core.Bool.{Bool, true, false, cond}
 use Prim.Native.Nat.{ℕ, suc, _*_, _-_, _≤_, _<_}
-use native.Mathlib.Nat.{mul-zero, zero-mul, zero-add, sub-zero}
+use native.Mathlib.Nat.{mul-zero, zero-mul, zero-add}
 use native.Mathlib.Omega.{arith}
 use borrow.Author.Tests.{eqb-true}
 use lib.ListN.{length, getD, take, drop, set}
-use lib.Seq.{set-getD, length-take-le}
 use lib.Dec.{eqb}
 use lib.IntN.{ℤ, pos}
 use Rattle.shape.specs.declared.Shape.{Shape}
 use Rattle.shape.specs.Shape.{maxRank, counted, count}
-use Rattle.shape.proofs.Axis.{in-at}
 use Rattle.shape.proofs.Surround.{count-set}
-use Rattle.meaning.specs.Array.{Array, arrayOf, at, build}
+use Rattle.meaning.specs.Array.{arrayOf, build}
 use Rattle.meaning.specs.Terms.{along, eqZ, ones}
-use Rattle.meaning.proofs.Arrays.{build-ext, build-at, build-none}
+use Rattle.meaning.proofs.Arrays.{build-none}
 use Rattle.copying.specs.Runs.{copied}
-use Rattle.copying.proofs.Runs.{copied-fits}
 use Rattle.answer.specs.Answer.{lent}
 use Rattle.answer.proofs.Lent.{Lent, lent-good}
 use Rattle.masks.specs.Uses.{resultWidth, Compressed}

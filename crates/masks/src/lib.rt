@@ -8,7 +8,7 @@ ghost use Prim.Native.Nat.{_*_, _≤_, _<_};
 ghost use lib.ListN.{length, drop, getD, set};
 ghost use lib.Dec.{eqb};
 ghost use lib.IntN.{ℤ, pos};
-ghost use Rattle.shape.specs.Shape.{maxRank, counted, count, goodShape, shapeOf};
+ghost use Rattle.shape.specs.Shape.{counted, goodShape};
 ghost use Rattle.meaning.specs.Array.{arrayOf, goodForm, tab, build};
 ghost use Rattle.meaning.specs.Terms.{along, every, isBit, eqZ, ones};
 ghost use Rattle.meaning.specs.Reply.{reply};

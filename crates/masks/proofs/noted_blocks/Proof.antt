@@ -1,7 +1,6 @@
-use mathlib.Core.Path.{refl, sym, _∙_}
+use mathlib.Core.Path.{_≡_, refl, _∙_}
 use mathlib.Core.Bool.{Bool}
 use borrow.Author.Needs.{needs}
-use mathlib.Core.Path.{_≡_}
 use Rattle.masks.specs.Rows.{ByNotes}
 use Rattle.masks.proofs.Placing.{blocks-by, placed-by}
 use Rattle.masks.proofs.noted_blocks.Statement.{statement}

@@ -14,7 +14,7 @@ use Rattle.shape.proofs.Bools.{no-way}
 use Rattle.meaning.specs.Terms.{eqZ, firstAt}
 use Rattle.signed.proofs.Reading.{read32}
 use Rattle.lookups.specs.Chains.{chainOf, Linked}
-use Rattle.lookups.proofs.Chaining.{Come, come-first, come-here, come-on, come-past}
+use Rattle.lookups.proofs.Chaining.{Come, come-first, come-on, come-past}
 use Rattle.lookups.proofs.Finding.{first-le, first-least}
 use Rattle.lookups.proofs.chains.look.Statement.{statement}
 use Rattle.lookups.proofs.chains.look.Tie as tie
