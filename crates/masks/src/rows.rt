@@ -52,7 +52,7 @@ fn kept_line(at: &[u16; FEW], r: &[i32], out: &mut [i32])
     }
 }
 
-// The m rows at the noted positions. They are not joined to longer runs: runs of one length are copied faster.
+// The m rows at the noted positions, each by itself: to join neighbours to one run took longer.
 pub fn kept_rows(at: &[u16; FEW], r: &[i32], m: usize, inner: usize, out: &mut [i32])
     requires { ⌜ (m ≤ few) × ((0 < inner) × ((length (now out) ≡ m * inner) × ((q : ℕ) → q < m → (getD (now at) q 0 + 1) * inner ≤ length (now r)))) ⌝ }
     ensures { λ _. ⌜ now (out .exit) ≡ tab (m * inner) (rowed (λ i. true) (λ i. getD (now (at .entry)) i 0) inner (now (r .entry))) ⌝ }
