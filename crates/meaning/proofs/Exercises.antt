@@ -7,9 +7,12 @@ use lib.IntN.{ℤ, pos, negsuc}
 use Rattle.shape.specs.Shape.{maxRank, maxCount, count, small, shapeRule, shapeOf, scalar, without}
 use Rattle.shape.specs.Place.{inside, index, place}
 use Rattle.meaning.specs.Array.{Operand, goodForm, at, tabFrom, tab, build}
-use Rattle.meaning.specs.Refusal.{number, precedence, meets, winner}
+use Rattle.meaning.specs.Refusal.{precedence, meets, winner}
 use Rattle.meaning.specs.Terms.{negative, eqZ, within, modulo, every, sameLengths, putIn, along, onesFrom, firstAt}
-use Rattle.meaning.specs.Primitives.{lengthsOf, ravel, interval, reverse, sentTo, smallest, axesTo, sentLengths, broughtBack, backwards, transpose, reshape, side, higher, ranksFit, catenate, takenFrom, takenPlace, atOrZero, takes, droppedLengths, droppedPlace, drops, rotate, allOccur, transposeBy, compress, expand, indexOf, member, select}
+use Rattle.meaning.specs.Primitives.{lengthsOf, ravel, interval, reverse, sentTo, smallest, axesTo, sentLengths, broughtBack, backwards}
+use Rattle.meaning.specs.Primitives.{transpose, reshape, side, higher, ranksFit, catenate, takenFrom, takenPlace, atOrZero, takes}
+use Rattle.meaning.specs.Primitives.{droppedLengths, droppedPlace, drops, rotate, occursIn, allOccur, transposeBy, compress, expand, indexOf}
+use Rattle.meaning.specs.Primitives.{member, select}
 use Rattle.meaning.specs.Reply.{Reply, primitives, named, isOrigin, refusals, settle, reply}
 
 -- Minus n.
@@ -161,5 +164,8 @@ abbrev table : List Exercise
 table = starred ++ others ++ decided
 
 exercises : map answered table ≡ map (λ e. e .solution) table
-unfolding number precedence meets winner count small shapeRule inside index place goodForm at tabFrom tab build negative eqZ within modulo every sameLengths without putIn along onesFrom firstAt lengthsOf ravel interval reverse sentTo smallest axesTo sentLengths broughtBack backwards transpose reshape side higher ranksFit catenate takenFrom takenPlace atOrZero takes droppedLengths droppedPlace drops rotate allOccur transposeBy compress expand indexOf member select primitives named isOrigin refusals settle reply
+unfolding precedence meets winner count small shapeRule inside index place goodForm at tabFrom tab build negative eqZ within modulo every sameLengths
+    without putIn along onesFrom firstAt lengthsOf ravel interval reverse sentTo smallest axesTo sentLengths broughtBack backwards transpose reshape
+    side higher ranksFit catenate takenFrom takenPlace atOrZero takes droppedLengths droppedPlace drops rotate occursIn allOccur transposeBy compress
+    expand indexOf member select primitives named isOrigin refusals settle reply
 exercises = refl

@@ -1,6 +1,7 @@
 pub mod Exercises
 pub mod Tab
 pub mod Arrays
+pub mod Winner
 pub mod Replies
 pub mod Scalars
 pub mod Modulo

@@ -1,11 +1,11 @@
 -- Numbers that are positions: from 0 to n - 1.
-use Prim.Native.Nat.{ℕ, _<_, _≤_}
+use Prim.Native.Nat.{ℕ, _<_}
 use native.Mathlib.Omega.{arith}
 use mathlib.Core.Path.{_≡_, refl, sym}
-use mathlib.Core.Bool.{Bool, true, false, cond}
+use mathlib.Core.Bool.{true, false}
 use lib.Dec.{ltb}
 use lib.IntN.{ℤ, pos, negsuc, natAbs}
-use borrow.Author.Tests.{ltb-true, lt-ltb, le-ltb}
+use borrow.Author.Tests.{ltb-true}
 use Rattle.shape.proofs.Bools.{no-way}
 use Rattle.meaning.specs.Terms.{negative, within}
 
@@ -25,39 +25,6 @@ unfolding within negative
 within-negative (pos i) n h = no-way h
 within-negative (negsuc m) n h = refl
 
--- What `position` answers for a difference z: z where it is within n, else n.
-abbrev pub positionOf : ℤ → ℕ → ℕ
-positionOf z n = cond (within z n) (natAbs z) n
-
-pub position-in : (z : ℤ) (n : ℕ) → negative z ≡ false → natAbs z < n → positionOf z n ≡ natAbs z
-position-in z n h k = rw (within-size z n h, lt-ltb (natAbs z) n k)
-
-pub position-past : (z : ℤ) (n : ℕ) → negative z ≡ false → n ≤ natAbs z → positionOf z n ≡ n
-position-past z n h k = rw (within-size z n h, le-ltb (natAbs z) n k)
-
-pub position-below : (z : ℤ) (n : ℕ) → negative z ≡ true → positionOf z n ≡ n
-position-below z n h = rw (within-negative z n h)
-
--- What the answer p tells, where the definitions have m for the n of the code: below n it is the number itself, else the number is not within.
-module _ (z : ℤ) (m n p : ℕ) (r : m ≡ n) (e : p ≡ positionOf z n) where
-  pub position-lt : p < n → (within z m ≡ true) × (p ≡ natAbs z)
-  position-lt h = rw r (by-test (within z n) e)
-    where
-      by-test : (t : Bool) → p ≡ cond t (natAbs z) n → (t ≡ true) × (p ≡ natAbs z)
-      by-test true q = (refl, q)
-      by-test false q = absurd (omega arith)
-
-  pub position-none : n ≤ p → within z m ≡ false
-  position-none h = rw r (by-test (within z n) refl e)
-    where
-      by-test : (t : Bool) → within z n ≡ t → p ≡ cond t (natAbs z) n → t ≡ false
-      by-test true w q = absurd (omega (arith, within-lt z n w))
-      by-test false w q = refl
-
-  -- And back.
-  pub position-within : within z m ≡ true → p < n
-  position-within h = let w : within z n ≡ true = rw r at h in rw (e, w) (within-lt z n w)
-
--- The same where the code has the number itself.
+-- The same of the position that the code finds, where the definitions have m for the n of the code.
 pub within-below : (z : ℤ) (m n i : ℕ) → m ≡ n → i ≡ natAbs z → within z m ≡ true → i < n
 within-below z m n i r e h = omega (arith, within-lt z m h)

@@ -1,19 +1,18 @@
 -- Axes that are sent to others: what goes where, and the place that a place of the result names.
-use mathlib.Core.Path.{_≡_, refl, ap, _∙_}
+use mathlib.Core.Path.{_≡_, refl, sym, ap, _∙_}
 use mathlib.Core.List.{List, [], _∷_}
-use mathlib.Core.Bool.{Bool, true, false, not, cond}
+use mathlib.Core.Bool.{Bool, true, false, cond, _||_}
 use Prim.Native.Nat.{ℕ, zero, suc, _-_, _≤_, _<_}
 use native.Mathlib.Nat.{not-suc-le-zero, le-of-suc-le-suc}
 use native.Mathlib.Omega.{arith}
-use borrow.Author.Tests.{eq-eqb, ne-eqb, eqb-true}
-use lib.Dec.{eqb}
+use borrow.Author.Tests.{eq-eqb, eqb-true, lt-ltb, ltb-true}
+use lib.Dec.{eqb, ltb}
 use lib.ListN.{length, getD}
-use Rattle.shape.proofs.Bools.{no-way}
 use Rattle.shape.proofs.Places.{In}
 use Rattle.shape.proofs.Axis.{in-at, in-from}
 use Rattle.meaning.specs.Array.{tab}
 use Rattle.meaning.specs.Terms.{every}
-use Rattle.meaning.specs.Primitives.{sentTo, smallest, axesTo, sentLengths, broughtBack, backwards, allOccur}
+use Rattle.meaning.specs.Primitives.{sentTo, smallest, axesTo, sentLengths, broughtBack, backwards, occursIn, allOccur}
 use Rattle.meaning.proofs.Tab.{length-tab, getD-tab}
 use Rattle.meaning.proofs.Every.{every-at}
 
@@ -56,7 +55,8 @@ sent-has (t ∷ ts) (n ∷ s) zero e h = rw (eq-eqb t t refl) (0, omega arith, r
 sent-has (t ∷ ts) (n ∷ s) (suc i) e h = by (eqb t (getD ts i 0)) (sent-has ts s i (omega arith) (omega arith))
   where
     by : (b : Bool) → (l : ℕ) × (l < length (sentTo (getD ts i 0) ts s)) × (getD (sentTo (getD ts i 0) ts s) l 0 ≡ getD s i 0)
-        → (l : ℕ) × (l < length (cond b (n ∷ sentTo (getD ts i 0) ts s) (sentTo (getD ts i 0) ts s))) × (getD (cond b (n ∷ sentTo (getD ts i 0) ts s) (sentTo (getD ts i 0) ts s)) l 0 ≡ getD s i 0)
+        → (l : ℕ) × (l < length (cond b (n ∷ sentTo (getD ts i 0) ts s) (sentTo (getD ts i 0) ts s)))
+        × (getD (cond b (n ∷ sentTo (getD ts i 0) ts s) (sentTo (getD ts i 0) ts s)) l 0 ≡ getD s i 0)
     by true r = (suc (r .0), omega arith, r .2)
     by false r = r
 
@@ -125,20 +125,27 @@ Occur ts = (j : ℕ) → j < axesTo ts → 0 < length (sentTo j ts ts)
 occurs-at : (ts : List ℕ) (j : ℕ) → j < axesTo ts → getD (tab (axesTo ts) (λ j. j)) j 0 ≡ j
 occurs-at ts j h = getD-tab (axesTo ts) (λ j. j) j 0 h
 
+-- j occurs in ts where some axis is sent to it.
+occurs-sent : (ts ns : List ℕ) (j : ℕ) → length ts ≡ length ns → occursIn ts j ≡ ltb 0 (length (sentTo j ts ns))
+unfolding occursIn sentTo
+occurs-sent [] ns j e = refl
+occurs-sent (t ∷ ts) [] j e = absurd (omega arith)
+occurs-sent (t ∷ ts) (n ∷ ns) j e = by (eqb t j) (occurs-sent ts ns j (omega arith))
+  where
+    by : (b : Bool) → occursIn ts j ≡ ltb 0 (length (sentTo j ts ns)) → (b || occursIn ts j) ≡ ltb 0 (length (cond b (n ∷ sentTo j ts ns) (sentTo j ts ns)))
+    by true h = sym (lt-ltb 0 (suc (length (sentTo j ts ns))) (omega arith))
+    by false h = h
+
 pub all-occur : (ts : List ℕ) → Occur ts → allOccur ts ≡ true
 unfolding allOccur
 all-occur ts o =
     every-from _ (tab (axesTo ts) (λ j. j)) 0
     (λ j l.
     let l′ : j < axesTo ts = rw (length-tab (axesTo ts) (λ (j : ℕ). j)) at l in
-    rw (occurs-at ts j l′, ne-eqb (length (sentTo j ts ts)) 0 (λ z. omega (arith, o j l′))))
+    ap (occursIn ts) (occurs-at ts j l′) ∙ occurs-sent ts ts j refl ∙ lt-ltb 0 (length (sentTo j ts ts)) (o j l′))
 
 pub occur-all : (ts : List ℕ) → allOccur ts ≡ true → Occur ts
 unfolding allOccur
 occur-all ts h j l =
-    let t = every-at (λ j. not (eqb (length (sentTo j ts ts)) 0)) (tab (axesTo ts) (λ j. j)) 0 h j (rw (length-tab (axesTo ts) (λ (j : ℕ). j)) l) in
-    some (length (sentTo j ts ts)) (rw (occurs-at ts j l) at t)
-  where
-    some : (n : ℕ) → not (eqb n 0) ≡ true → 0 < n
-    some zero e = no-way e
-    some (suc n) e = omega arith
+    let t = every-at (occursIn ts) (tab (axesTo ts) (λ j. j)) 0 h j (rw (length-tab (axesTo ts) (λ (j : ℕ). j)) l) in
+    ltb-true 0 (length (sentTo j ts ts)) (sym (occurs-sent ts ts j refl) ∙ ap (occursIn ts) (sym (occurs-at ts j l)) ∙ t)

@@ -16,6 +16,8 @@ use Rattle.shape.proofs.Places.{In}
 use Rattle.meaning.specs.Array.{Array, at}
 use Rattle.meaning.specs.Terms.{rank, axis, isScalar, sameLengths}
 use Rattle.meaning.specs.Primitives.{Side, side, higher, ranksFit}
+use Rattle.meaning.specs.Steps.{Beside, fit, sideAt}
+use Rattle.meaning.specs.Steps.Beside.{scalar, less, equal}
 use Rattle.meaning.proofs.Scalars.{array-as}
 use Rattle.meaning.proofs.Without.{index-without, same-set, count-without}
 
@@ -75,13 +77,12 @@ higher-rank a b = by (decLt (rank a) (rank b))
   where
     by : Dec (rank a < rank b) → length (higher a b) ≡ max 1 (max (rank a) (rank b))
     by (yes h) = ap length (higher-right a b h) ∙ omega arith
-    by (no h) = elim (decLt 0 (rank a)) [ yes p ↦ ap length (higher-left a b p (omega arith)) ∙ omega arith | no p ↦ ap length (higher-scalars a b (omega arith) (omega arith)) ∙ omega arith ]
-
--- How the rank r of an operand stands to the higher rank n.
-pub data Beside (r n : ℕ) : Type 0 where
-  scalar : r ≡ 0 → Beside r n
-  less : 0 < r → suc r ≡ n → Beside r n
-  equal : 0 < r → r ≡ n → Beside r n
+    by (no h) =
+        elim (decLt 0 (rank a)) [
+          | yes p ↦ ap length (higher-left a b p (omega arith))
+              ∙ omega arith
+          | no p ↦ ap length (higher-scalars a b (omega arith) (omega arith)) ∙ omega arith
+        ]
 
 pub beside-near : {r n : ℕ} → Beside r n → 0 < r → (r ≤ n) × (n ≤ suc r)
 beside-near (scalar h) p = absurd (omega arith)
@@ -93,17 +94,14 @@ beside-as (scalar h) e f = scalar (omega arith)
 beside-as (less h q) e f = less (omega arith) (omega arith)
 beside-as (equal h q) e f = equal (omega arith) (omega arith)
 
--- Ranks that fit, as a test of numbers.
-abbrev pub fit : ℕ → ℕ → Bool
-fit a b = eqb a 0 || eqb b 0 || eqb a b || eqb (suc a) b || eqb (suc b) a
-
 fit-beside : (a b n : ℕ) → n ≡ max 1 (max a b) → fit a b ≡ true → Beside a n × Beside b n
 fit-beside a b n e = by (eqb a 0) (eqb b 0) (eqb a b) (eqb (suc a) b) (eqb (suc b) a) refl refl refl refl refl
   where
     rest : (m : ℕ) → (m ≡ 0 → ⊥) → 0 < m
     rest m h = omega arith
 
-    by : (p q r s t : Bool) → eqb a 0 ≡ p → eqb b 0 ≡ q → eqb a b ≡ r → eqb (suc a) b ≡ s → eqb (suc b) a ≡ t → (p || q || r || s || t) ≡ true → Beside a n × Beside b n
+    by : (p q r s t : Bool) → eqb a 0 ≡ p → eqb b 0 ≡ q → eqb a b ≡ r → eqb (suc a) b ≡ s → eqb (suc b) a ≡ t → (p || q || r || s || t) ≡ true
+        → Beside a n × Beside b n
     by true true r s t ep eq er es et h = (scalar (eqb-true a 0 ep), scalar (eqb-true b 0 eq))
     by true false r s t ep eq er es et h =
         let b> = rest b (eqb-false b 0 eq) in
@@ -130,14 +128,11 @@ unfolding ranksFit
 ranks-beside a b h = fit-beside (rank a) (rank b) (length (higher a b)) (higher-rank a b) h
 
 -- The extent.
-pub side-extent : (ns : List ℕ) (k : ℕ) (a : Array) → 0 < length ns → Beside (rank a) (length ns) → side ns k a .extent ≡ cond (eqb (rank a) (length ns)) (axis a k) 1
+pub side-extent : (ns : List ℕ) (k : ℕ) (a : Array) → 0 < length ns → Beside (rank a) (length ns)
+    → side ns k a .extent ≡ cond (eqb (rank a) (length ns)) (axis a k) 1
 side-extent ns k a n> (scalar h) = ap (λ s. s .extent) (side-scalar ns k a h) ∙ sym (rw (ne-eqb (rank a) (length ns) (λ z. omega arith)))
 side-extent ns k a n> (less h e) = ap (λ s. s .extent) (side-lower ns k a h e) ∙ sym (rw (ne-eqb (rank a) (length ns) (λ z. omega arith)))
 side-extent ns k a n> (equal h e) = ap (λ s. s .extent) (side-whole ns k a h e) ∙ sym (rw (eq-eqb (rank a) (length ns) e))
-
--- Element i of an operand's elements, row by row; a scalar's is always its one.
-abbrev pub sideAt : Bool → List ℤ → ℕ → ℤ
-sideAt one xs i = getD xs (cond one 0 i) (pos 0)
 
 scalar-index : (ns : List ℕ) → length ns ≡ 0 → index ns [] ≡ 0
 unfolding index

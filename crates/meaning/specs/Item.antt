@@ -2,13 +2,13 @@
 use Prim.Native.Nat.{ℕ, zero, suc, _*_}
 use mathlib.Core.List.{List, [], _∷_}
 use lib.ListN.{take, drop}
-use lib.IntN.{ℤ, natAbs, _-ℤ_}
+use lib.IntN.{ℤ, _-ℤ_}
 use Rattle.shape.specs.declared.Shape.{Shape}
 use Rattle.shape.specs.Shape.{count, shapeOf, scalar, without}
 use Rattle.meaning.specs.Array.{Operand, arrayOf, goodForm}
 use Rattle.meaning.specs.Refusal.{_when_, _unless_, precedence, winner}
 use Rattle.meaning.specs.Refusal.Refusal.{FORM, ORIGIN, RANK, INDEX}
-use Rattle.meaning.specs.Terms.{axis, isScalar, within}
+use Rattle.meaning.specs.Terms.{axis, isScalar, within, fromZero}
 use Rattle.meaning.specs.Reply.{isOrigin}
 
 -- Both refuse alike.
@@ -38,4 +38,4 @@ settleItem (suc n) ns i buffer = record { number = suc n; shape = scalar; part =
 
 -- Leading item: item i less G of R's first axis, and what the sister call gives of it.
 unfoldable pub leadingItem : Operand → ℤ → ℤ → Item
-leadingItem R G i = settleItem (itemRefusal R G i) (itemLengths R) (natAbs (i -ℤ G)) (R .buffer)
+leadingItem R G i = settleItem (itemRefusal R G i) (itemLengths R) (fromZero G i) (R .buffer)

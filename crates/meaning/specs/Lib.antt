@@ -4,3 +4,4 @@ pub mod Terms
 pub mod Primitives
 pub mod Reply
 pub mod Item
+pub mod Steps

@@ -1,9 +1,9 @@
 -- Paper 01, "The primitives", in its order: when each refuses, the lengths of its result, and the element at each place.
 -- FORM, ORIGIN, LIMIT and SPACE are the same for all and stand in Reply. A type shows what a primitive looks at: G is the origin, K the axis number.
--- k means K - G, the axis counted from zero: a difference of whole numbers, which never wraps.
+-- k means K - G, the axis counted from zero (`fromZero` in Terms).
 use Prim.Native.Nat.{ℕ, suc, _+_, _-_, _%_, min, max}
 use mathlib.Core.List.{List, [], _∷_, map}
-use mathlib.Core.Bool.{Bool, not, cond, _&&_, _||_}
+use mathlib.Core.Bool.{Bool, false, not, cond, _&&_, _||_}
 use lib.ListN.{length, getD, set, replicate}
 use lib.ListN.{take as front}
 use lib.Dec.{eqb, ltb}
@@ -13,7 +13,8 @@ use Rattle.meaning.specs.Array.{Array, at, tab}
 use Rattle.meaning.specs.Refusal.{Rule, _when_, _unless_}
 use Rattle.meaning.specs.Refusal.Refusal.{RANK, AXIS, LENGTH, DOMAIN, INDEX}
 use Rattle.shape.specs.Shape.{without}
-use Rattle.meaning.specs.Terms.{rank, axis, isScalar, isList, asRank, asVector, negative, eqZ, within, modulo, every, sameLengths, putIn, along, isBit, ones, firstAt}
+use Rattle.meaning.specs.Terms.{rank, axis, isScalar, isList, asRank, asVector, negative, eqZ, within, fromZero, modulo, every, sameLengths}
+use Rattle.meaning.specs.Terms.{putIn, along, isBit, ones, firstAt}
 
 -- What a primitive gives: when it refuses, and its result, place by place.
 pub record Meaning : Type 0 where
@@ -51,7 +52,7 @@ interval G R =
 -- 14 reverse: position i on axis k takes n - 1 - i, n its length. A scalar returns as a scalar.
 unfoldable pub reverse : ℤ → ℤ → Array → Meaning
 reverse G K R =
-    let k : ℕ = natAbs (K -ℤ G) in
+    let k : ℕ = fromZero G K in
     let n : ℕ = axis R k in
     record {
       refusals = AXIS unless within (K -ℤ G) (rank (asVector R)) ∷ [];
@@ -133,7 +134,7 @@ ranksFit L R = isScalar L || isScalar R || eqb (rank L) (rank R) || eqb (suc (ra
 -- 22 catenate, L before R: other ranks are RANK, other lengths LENGTH.
 unfoldable pub catenate : ℤ → ℤ → Array → Array → Meaning
 catenate G K L R =
-    let k : ℕ = natAbs (K -ℤ G) in
+    let k : ℕ = fromZero G K in
     let ns : List ℕ = higher L R in
     let l : Side = side ns k L in
     let r : Side = side ns k R in
@@ -198,7 +199,7 @@ drops L R =
 -- no position; a scalar returns as a scalar.
 unfoldable pub rotate : ℤ → ℤ → Array → Array → Meaning
 rotate G K L R =
-    let k : ℕ = natAbs (K -ℤ G) in
+    let k : ℕ = fromZero G K in
     let n : ℕ = axis R k in
     let a : ℤ = getD (L .elements) 0 (pos 0) in
     record {
@@ -208,15 +209,20 @@ rotate G K L R =
       element = along R k (λ i. modulo (pos i +ℤ a) n);
     }
 
+-- j occurs in ts.
+unfoldable pub occursIn : List ℕ → ℕ → Bool
+occursIn [] j = false
+occursIn (t ∷ ts) j = eqb t j || occursIn ts j
+
 -- All of 0 to the largest occur.
 unfoldable pub allOccur : List ℕ → Bool
-allOccur ts = every (λ j. not (eqb (length (sentTo j ts ts)) 0)) (tab (axesTo ts) (λ j. j))
+allOccur ts = every (occursIn ts) (tab (axesTo ts) (λ j. j))
 
 -- 26 transpose by L: L is a list with one element for each axis of R, else LENGTH.
 -- Less G, each is 0 to rank - 1, and all of 0 to the largest occur, else DOMAIN.
 unfoldable pub transposeBy : ℤ → Array → Array → Meaning
 transposeBy G L R =
-    let ts : List ℕ = map (λ z. natAbs (z -ℤ G)) (L .elements) in
+    let ts : List ℕ = map (fromZero G) (L .elements) in
     record {
       refusals =
           RANK unless isList L
@@ -231,7 +237,7 @@ transposeBy G L R =
 -- otherwise count and length agree, else LENGTH. Positions at 1 remain. A scalar R gives a vector.
 unfoldable pub compress : ℤ → ℤ → Array → Array → Meaning
 compress G K L R =
-    let k : ℕ = natAbs (K -ℤ G) in
+    let k : ℕ = fromZero G K in
     let r : Array = asVector R in
     let n : ℕ = axis r k in
     let c : ℕ = length (L .elements) in
@@ -251,15 +257,15 @@ compress G K L R =
 -- zeros to the rest. The ones number the axis length, else LENGTH; only a scalar R is repeated.
 unfoldable pub expand : ℤ → ℤ → Array → Array → Meaning
 expand G K L R =
-    let k : ℕ = natAbs (K -ℤ G) in
+    let k : ℕ = fromZero G K in
     let r : Array = asVector R in
     let mask : List ℤ = L .elements in
     record {
       refusals =
           RANK unless isList L
           ∷ AXIS unless within (K -ℤ G) (rank r)
-          ∷ LENGTH unless (isScalar R || eqb (length (ones mask)) (axis r k))
           ∷ DOMAIN unless every isBit mask
+          ∷ LENGTH unless (isScalar R || eqb (length (ones mask)) (axis r k))
           ∷ [];
       lengths = set (r .lengths) k (length mask);
       element = λ p.
@@ -289,8 +295,8 @@ member L R = record {
 -- A vector L replaces the axis, a scalar L removes it.
 unfoldable pub select : ℤ → ℤ → Array → Array → Meaning
 select G K L R =
-    let k : ℕ = natAbs (K -ℤ G) in
-    let chosen : ℕ → ℕ = λ i. natAbs (getD (L .elements) i (pos 0) -ℤ G) in
+    let k : ℕ = fromZero G K in
+    let chosen : ℕ → ℕ = λ i. fromZero G (getD (L .elements) i (pos 0)) in
     record {
       refusals =
           RANK when isScalar R

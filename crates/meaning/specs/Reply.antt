@@ -11,7 +11,8 @@ use Rattle.meaning.specs.Array.{Operand, Array, arrayOf, goodForm, build
 use Rattle.meaning.specs.Refusal.{Rule, _when_, _unless_, precedence, winner}
 use Rattle.meaning.specs.Refusal.Refusal.{NUMBER, FORM, ORIGIN, LIMIT, SPACE}
 use Rattle.meaning.specs.Terms.{eqZ}
-use Rattle.meaning.specs.Primitives.{Meaning, lengthsOf, ravel, interval, reverse, transpose, reshape, catenate, takes, drops, rotate, transposeBy, compress, expand, indexOf, member, select}
+use Rattle.meaning.specs.Primitives.{Meaning, lengthsOf, ravel, interval, reverse, transpose, reshape, catenate, takes, drops, rotate}
+use Rattle.meaning.specs.Primitives.{transposeBy, compress, expand, indexOf, member, select}
 
 -- A primitive: its number, how many operands it takes, and what it gives for G, K, L and R.
 pub record Primitive : Type 0 where
@@ -57,16 +58,17 @@ named n (p ∷ ps) = cond (eqZ n (pos (p .number))) p (named n ps)
 unfoldable pub isOrigin : ℤ → Bool
 isOrigin G = eqZ G (pos 0) || eqZ G (pos 1)
 
--- Every refusal that a call can meet. With one operand L is not looked at. A result that would break the shape rule is LIMIT,
--- one whose count exceeds the output buffer is SPACE.
+-- A result that would break the shape rule is LIMIT, one whose count exceeds the output buffer is SPACE.
+abbrev pub resultRules : List ℕ → ℕ → List Rule
+resultRules ns room = LIMIT unless shapeRule (length ns) ns ∷ SPACE unless leb (count ns) room ∷ []
+
+-- Every refusal that a call can meet. With one operand L is not looked at.
 unfoldable pub refusals : Primitive → ℤ → Operand → Operand → Meaning → ℕ → List Rule
 refusals p G L R m room =
     FORM unless (leb (p .operands) 1 || goodForm L)
     ∷ FORM unless goodForm R
     ∷ ORIGIN unless isOrigin G
-    ∷ LIMIT unless shapeRule (length (m .lengths)) (m .lengths)
-    ∷ SPACE unless leb (count (m .lengths)) room
-    ∷ m .refusals
+    ∷ (m .refusals ++ resultRules (m .lengths) room)
 
 -- A reply: its number, its shape, and what the output buffer then holds.
 pub record Reply : Type 0 where

@@ -4,7 +4,7 @@ use mathlib.Core.List.{List, [], _∷_}
 use mathlib.Core.Bool.{Bool, true, false, cond, _&&_, _||_}
 use lib.ListN.{length, getD, set, replicate}
 use lib.Dec.{eqb, leb, ltb}
-use lib.IntN.{ℤ, pos, negsuc}
+use lib.IntN.{ℤ, pos, negsuc, natAbs, _-ℤ_}
 use Rattle.meaning.specs.Array.{Array, at}
 
 -- The rank: how many lengths there are.
@@ -22,6 +22,10 @@ isScalar a = eqb (rank a) 0
 -- "List" means rank 0 or 1.
 abbrev pub isList : Array → Bool
 isList a = leb (rank a) 1
+
+-- "Single" means a scalar or a vector of one element.
+abbrev pub isSingle : Array → Bool
+isSingle a = isList a && eqb (length (a .elements)) 1
 
 -- A scalar that is read as an array of n lengths of 1.
 abbrev pub asRank : ℕ → Array → Array
@@ -47,6 +51,11 @@ eqZ (negsuc a) (pos b) = false
 unfoldable pub within : ℤ → ℕ → Bool
 within (pos i) n = ltb i n
 within (negsuc m) n = false
+
+-- What a number z names, counted from zero: the axis k where z is K, or a position where z is an element. It is z less G, a difference of whole
+-- numbers, which never wraps. It is read only where `within` holds of that difference: there it is not negative, and the absolute value is it.
+abbrev pub fromZero : ℤ → ℤ → ℕ
+fromZero G z = natAbs (z -ℤ G)
 
 -- z mod n, never negative, for n above 0.
 unfoldable pub modulo : ℤ → ℕ → ℕ
@@ -74,6 +83,11 @@ putIn (suc k) i (j ∷ p) = j ∷ putIn k i p
 -- Along axis k, position i takes position f i of the array; the other positions of the place stay.
 unfoldable pub along : Array → ℕ → (ℕ → ℕ) → List ℕ → ℤ
 along a k f p = at a (set p k (f (getD p k 0)))
+
+-- f 0 ⊕ f 1 ⊕ .. ⊕ f (n - 1), and e for none.
+unfoldable pub gather : {A : Type 0} → (A → A → A) → A → ℕ → (ℕ → A) → A
+gather _⊕_ e zero f = e
+gather _⊕_ e (suc n) f = _⊕_ (f zero) (gather _⊕_ e n (λ i. f (suc i)))
 
 -- 0 and 1.
 abbrev pub isBit : ℤ → Bool
