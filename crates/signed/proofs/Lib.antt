@@ -1,3 +1,4 @@
 pub mod Reading
 pub mod Equal
 pub mod Sign
+pub mod Finding
