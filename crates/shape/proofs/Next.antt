@@ -49,7 +49,8 @@ module _ (s p : List ℕ) (k : ℕ) (h : In s p) (l : k < length s) (b : suc (ge
   next-below = rw (carried-index s p k h l e) at (index-lt s (carried s p k) (carried-in s p k h l b))
 
 -- An axis that is at its end is the last place of itself and the axes after it.
-pub last-more : (s p : List ℕ) (k : ℕ) → In s p → k < length s → getD s k 0 ≤ suc (getD p k 0) → Last (drop (suc k) s) (drop (suc k) p) → Last (drop k s) (drop k p)
+pub last-more : (s p : List ℕ) (k : ℕ) → In s p → k < length s → getD s k 0 ≤ suc (getD p k 0) → Last (drop (suc k) s) (drop (suc k) p)
+    → Last (drop k s) (drop k p)
 unfolding index count
 last-more [] p k h l b e = absurd (not-suc-le-zero l)
 last-more (n ∷ s) [] k h l b e = absurd h

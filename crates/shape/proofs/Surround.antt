@@ -26,7 +26,12 @@ module _ (s : Shape) (k : ℕ) where
   around-past h l = rw (le-leb (s .rank) maxRank h, le-ltb k (s .rank) l)
 
   module _ (h : s .rank ≤ maxRank) (l : k < s .rank) where
-    around-in : aroundOf s k ≡ record { outer = held (count (take k (counted s))); length = getD (counted s) k 0; inner = held (count (drop (suc k) (counted s))) }
+    around-in : aroundOf s k ≡ record {
+      outer =
+          held (count (take k (counted s)));
+      length = getD (counted s) k 0;
+      inner = held (count (drop (suc k) (counted s)));
+    }
     unfolding aroundOf
     around-in = rw (le-leb (s .rank) maxRank h, lt-ltb k (s .rank) l)
 
@@ -60,7 +65,8 @@ pub record Parts (s : Shape) (k m total : ℕ) : Type 0 where
   pub inner-small : aroundOf s k .inner ≤ total
   pub small : m ≤ total
 
-pub parts : (s : Shape) (k m total : ℕ) → s .rank ≤ maxRank → length (s .lens) ≡ maxRank → k < s .rank → count (set (counted s) k m) ≡ total → 0 < total → total ≤ maxCount
+pub parts : (s : Shape) (k m total : ℕ) → s .rank ≤ maxRank → length (s .lens) ≡ maxRank → k < s .rank → count (set (counted s) k m) ≡ total → 0 < total
+    → total ≤ maxCount
     → Parts s k m total
 parts s k m total h long l e p q =
     let ns : List ℕ = counted s in

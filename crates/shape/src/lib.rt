@@ -5,7 +5,8 @@ ghost use mathlib.Core.List.{[], _∷_, _++_};
 ghost use Prim.Native.Nat.{suc, _*_, _-_, _≤_, _<_, min};
 ghost use lib.ListN.{take, set, replicate};
 ghost use lib.Seq.{slice};
-ghost use Rattle.shape.specs.Shape.{maxRank, maxCount, counted, goodShape, countOf, shapeOf, madeOf, withLength, withoutAxis, scalar, count, held, aroundOf};
+ghost use Rattle.shape.specs.Shape.{maxRank, maxCount, counted, goodShape, countOf, shapeOf, madeOf, withLength, withoutAxis, scalar, count};
+ghost use Rattle.shape.specs.Shape.{held, aroundOf};
 ghost use Rattle.shape.specs.Place.{endPlace, successor, inside};
 
 // A rank and a length for each axis; only the first `rank` lengths count.
@@ -61,34 +62,43 @@ impl Shape {
         Shape { rank, lens: kept }
     }
 
-    // The same shape with another length of axis k; the scalar where there is no such axis.
-    pub fn with_length(self, k: usize, n: usize) -> Shape
-        ensures { λ s. ⌜ s ≡ withLength self k n ⌝ }
+    // The shape of a result with the same lengths: those past the rank are 0.
+    pub fn as_result(self) -> Shape
+        ensures { λ s. ⌜ s ≡ madeOf (self .rank) (self .lens) ⌝ }
+    {
+        let rank = self.rank;
+        let lens = self.lens;
+        Shape::of_lengths(rank, lens)
+    }
+
+    // The same shape with another length of an axis; the scalar where there is no such axis.
+    pub fn with_length(self, axis: usize, n: usize) -> Shape
+        ensures { λ s. ⌜ s ≡ withLength self axis n ⌝ }
     {
         if Shape::MAX_RANK < self.rank {
             return Shape::scalar();
         }
-        if self.rank <= k {
+        if self.rank <= axis {
             return Shape::scalar();
         }
         let mut lens = self.lens;
-        lens[k] = n;
+        lens[axis] = n;
         Shape::of_lengths(self.rank, lens)
     }
 
-    // The shape without axis k; the scalar where there is no such axis.
-    pub fn without_axis(self, k: usize) -> Shape
-        ensures { λ s. ⌜ s ≡ withoutAxis self k ⌝ }
+    // The shape without an axis; the scalar where there is no such axis.
+    pub fn without_axis(self, axis: usize) -> Shape
+        ensures { λ s. ⌜ s ≡ withoutAxis self axis ⌝ }
     {
         if Shape::MAX_RANK < self.rank {
             return Shape::scalar();
         }
-        if self.rank <= k {
+        if self.rank <= axis {
             return Shape::scalar();
         }
         let last = self.rank - 1;
         let mut lens = self.lens;
-        let mut i = k;
+        let mut i = axis;
         while i < last {
             lens[i] = lens[i + 1];
             i += 1;
@@ -117,8 +127,8 @@ impl Shape {
         total
     }
 
-    pub fn around(self, k: usize) -> Around
-        ensures { λ a. ⌜ a ≡ aroundOf self k ⌝ }
+    pub fn around(self, axis: usize) -> Around
+        ensures { λ a. ⌜ a ≡ aroundOf self axis ⌝ }
     {
         let rank = self.rank;
         let lens = self.lens;
@@ -129,16 +139,16 @@ impl Shape {
                 inner: 0,
             };
         }
-        if rank <= k {
+        if rank <= axis {
             return Around {
                 outer: 0,
                 length: 0,
                 inner: 0,
             };
         }
-        let outer = held_count(lens, 0, k);
-        let length = lens[k];
-        let inner = held_count(lens, k + 1, rank);
+        let outer = held_count(lens, 0, axis);
+        let length = lens[axis];
+        let inner = held_count(lens, axis + 1, rank);
         Around {
             outer,
             length,

@@ -37,14 +37,16 @@ add-next c =
 
 returns : tie.Need-returns Inv-loop μ-loop
 returns c =
-    let st = c .before .before .before .before .before .before .before in
-    let lp = c .before .before .before .before .loop in
+    let n = c .before .before in
+    let lp = n .before .before .loop in
+    let st = n .before .before .before .before .before in
     sym (carry-stop (st .args .t1) (st .args .t2) (stands st) (lp .q) (lp .i) (lp .i - 1) (omega arith) (lp .inv) (omega arith))
 
 loop-again : tie.Need-loop-again Inv-loop μ-loop
 loop-again c =
-    let st = c .before .before .before .before .before .before .before in
-    let lp = c .before .before .before .before .loop in
+    let n = c .before .before in
+    let lp = n .before .before .loop in
+    let st = n .before .before .before .before .before in
     carry-on (st .args .t1) (st .args .t2) (stands st) (lp .q) (lp .i) (lp .i - 1) (omega arith) (lp .inv) (omega arith)
 
 returns-2 : tie.Need-returns-2 Inv-loop μ-loop

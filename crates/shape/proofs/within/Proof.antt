@@ -21,7 +21,8 @@ returns c =
     let a = c .before .before .before .before .before .args in
     let ll : length (a .t2 .lens) ≡ maxRank = search needs in
     let lp : length (a .t1 .positions) ≡ maxRank = search needs in
-    sym (inside-not (a .t2 .lens) (a .t1 .positions) (a .t2 .rank) (omega arith) (omega arith) (c .before .before .before .before .loop .i) (omega arith) (omega arith))
+    sym (inside-not (a .t2 .lens) (a .t1 .positions) (a .t2 .rank) (omega arith) (omega arith) (c .before .before .before .before .loop .i) (omega arith)
+    (omega arith))
 
 loop-again : tie.Need-loop-again Inv-loop μ-loop
 loop-again c = (search needs, below-more _ _ (c .before .before .before .before .loop .inv .1) (omega arith))
