@@ -17,12 +17,8 @@ use Rattle.shape.proofs.Axis.{axis-position, axis-position-lt, axis-index}
 use Rattle.meaning.specs.Array.{Array, at, tab, build}
 use Rattle.meaning.specs.Terms.{rank, axis, along}
 use Rattle.meaning.proofs.Tab.{length-tab, getD-tab, tab-ext, getD-part}
-use Rattle.copying.proofs.Runs.{filled, put-list}
-
--- The element that element j of a result comes from, where the axis has m positions in the result and n in the source, c elements stand
--- after it, and position i takes φ i.
-abbrev pub source : ℕ → ℕ → ℕ → (ℕ → ℕ) → ℕ → ℕ
-source m n c φ j = (j / c / m * n + φ (j / c % m)) * c + j % c
+use Rattle.copying.specs.Steps.{filled, source}
+use Rattle.copying.proofs.Runs.{put-list}
 
 -- Element x of row q of block o.
 pub source-at : (m n c : ℕ) (φ : ℕ → ℕ) (o q x : ℕ) → q < m → x < c → source m n c φ ((o * m + q) * c + x) ≡ (o * n + φ q) * c + x
@@ -85,9 +81,11 @@ module _ (a : Array) (k m : ℕ) (t : ℕ → Bool) (φ : ℕ → ℕ) (l : k < 
   c = count (drop (suc k) (a .lengths))
 
   moved-at : (j : ℕ) → j < count (set (a .lengths) k m) → t (j / c % m) ≡ true
-      → getD (a .elements) (index (a .lengths) (set (place (set (a .lengths) k m) j) k (φ (j / c % m)))) (pos 0) ≡ getD (a .elements) (source m (axis a k) c φ j) (pos 0)
+      → getD (a .elements) (index (a .lengths) (set (place (set (a .lengths) k m) j) k (φ (j / c % m)))) (pos 0)
+      ≡ getD (a .elements) (source m (axis a k) c φ j) (pos 0)
   moved-at j j< w =
-      ap (λ x. getD (a .elements) x (pos 0)) (axis-index ns k m j l j< (φ (j / c % m)) (h _ (rw (axis-position ns k m j l j<) at (axis-position-lt ns k m j l j<)) w))
+      ap (λ x. getD (a .elements) x (pos 0))
+      (axis-index ns k m j l j< (φ (j / c % m)) (h _ (rw (axis-position ns k m j l j<) at (axis-position-lt ns k m j l j<)) w))
 
   pub along-source : build (set (a .lengths) k m) (λ p. cond (t (getD p k 0)) (along a k φ p) (pos 0)) .elements
       ≡ tab (count (set (a .lengths) k m)) (λ j. cond (t (j / c % m)) (getD (a .elements) (source m (axis a k) c φ j) (pos 0)) (pos 0))

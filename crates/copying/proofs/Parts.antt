@@ -9,7 +9,8 @@ use lib.IntN.{ℤ, pos}
 use borrow.Rule.Slice.PartMut.{putMid, mid-len}
 use Rattle.meaning.specs.Array.{tab}
 use Rattle.meaning.proofs.Tab.{length-tab, getD-tab}
-use Rattle.copying.proofs.Runs.{filled, filled-none, length-filled, put-list}
+use Rattle.copying.proofs.Runs.{filled-none, length-filled, put-list}
+use Rattle.copying.specs.Steps.{filled}
 
 -- Before the first part.
 pub filled-start : {A : Type 0} (g : ℕ → A) (c : ℕ) (out : List A) → out ≡ filled g (0 * c) out

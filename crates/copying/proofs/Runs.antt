@@ -12,6 +12,7 @@ use lib.Seq.{take-at, drop-at, drop-drop, drop-cons, set-at, append-snoc, take-a
 use borrow.Rule.Slice.PartMut.{putMid, mid-len}
 use Rattle.meaning.specs.Array.{tabFrom, tab}
 use Rattle.copying.specs.Runs.{common, copied, reversed}
+use Rattle.copying.specs.Steps.{filled}
 use Rattle.meaning.proofs.Tab.{length-tab, tab-ext, tab-getD, tab-add, getD-part}
 
 -- What the contracts come to where the run fits.
@@ -62,10 +63,6 @@ part-length out xs l at e o x h k =
     mid-len at e out (rw (o, length-append, length-drop) (omega arith))
 
 module _ {A : Type 0} where
-  -- The first n elements are g 0, g 1, .., and the others are those of out.
-  abbrev pub filled : (ℕ → A) → ℕ → List A → List A
-  filled g n out = tab n g ++ drop n out
-
   pub filled-none : (g : ℕ → A) (out : List A) → out ≡ filled g 0 out
   unfolding tab tabFrom
   filled-none g out = refl

@@ -7,8 +7,8 @@ ghost use Rattle.shape.specs.Shape.{maxCount};
 ghost use Rattle.copying.specs.Runs.{copied, reversed};
 use shape::Shape;
 
-// The lesser of two lengths.
-pub fn fewer(a: usize, b: usize) -> usize
+// The smaller of two lengths.
+pub fn min(a: usize, b: usize) -> usize
     ensures { λ r. ⌜ r ≡ min a b ⌝ }
 {
     if a < b { a } else { b }
@@ -21,7 +21,7 @@ const LONG: usize = 32;
 pub fn copy_run(src: &[i32], out: &mut [i32])
     ensures { λ _. ⌜ now (out .exit) ≡ copied (now (src .entry)) (now (out .entry)) ⌝ }
 {
-    let n = fewer(src.len(), out.len());
+    let n = min(src.len(), out.len());
     if LONG <= n {
         if n <= Shape::MAX_COUNT {
             copy_long(&src[0..n], out);
@@ -46,7 +46,7 @@ fn copy_long(src: &[i32], out: &mut [i32])
 fn copy_each(src: &[i32], out: &mut [i32])
     ensures { λ _. ⌜ now (out .exit) ≡ copied (now (src .entry)) (now (out .entry)) ⌝ }
 {
-    let n = fewer(src.len(), out.len());
+    let n = min(src.len(), out.len());
     let mut i = 0;
     while i < n {
         out[i] = src[i];
@@ -87,7 +87,7 @@ fn copy_eights(src: &[i32], out: &mut [i32], n: usize) -> usize
 pub fn copy_row(src: &[i32], out: &mut [i32])
     ensures { λ _. ⌜ now (out .exit) ≡ copied (now (src .entry)) (now (out .entry)) ⌝ }
 {
-    let n = fewer(src.len(), out.len());
+    let n = min(src.len(), out.len());
     let mut at = copy_eights(src, out, n);
     while at < n {
         out[at] = src[at];
@@ -110,7 +110,7 @@ pub fn fill_run(x: i32, out: &mut [i32])
 pub fn reverse_run(src: &[i32], out: &mut [i32])
     ensures { λ _. ⌜ now (out .exit) ≡ reversed (now (src .entry)) (now (out .entry)) ⌝ }
 {
-    let n = fewer(src.len(), out.len());
+    let n = min(src.len(), out.len());
     let mut j = 0;
     while j < n {
         out[j] = src[n - 1 - j];

@@ -7,9 +7,10 @@ use Rattle.copying.proofs.copy_long.Tie as tie
 
 returns : tie.Need-returns
 returns c =
-    let held = c .before .before .before .before .before .before .copy-each in
-    let s = c .before .before .before .before .before .before .before .before in
-    c .before .copy-each2 .ensures ∙ rw (held .ensures) (copied-through (s .args .src .now) _ (s .args .out .now) (omega arith))
+    let copy = c .before in
+    let held = copy .before .before .before .before .before in
+    let s = held .before .before in
+    copy .copy-each2 .ensures ∙ rw (held .copy-each .ensures) (copied-through (s .args .src .now) _ (s .args .out .now) (omega arith))
 
 pub copy-long-spec : {M : Type 1} → statement M
 copy-long-spec =

@@ -20,15 +20,18 @@ Inv-loop src out₀ n at₀ out at = (at₀ ≤ at) × ((at ≤ n) × ((length o
 abbrev μ-loop : tie.MeasureT-loop
 μ-loop src out₀ n at₀ out at = n - at
 
+abbrev start : tie.After-out Inv-loop μ-loop → tie.Start Inv-loop μ-loop
+start c = c .before .before .before .before
+
 loop-holds : tie.Need-loop-holds Inv-loop μ-loop
 loop-holds c =
-    let st = c .before .before .before .before in
+    let st = start c in
     let eights = c .before .copy-eights in
     (omega arith, (omega arith, (refl, front-same (st .args .src .now) _ (st .args .out .now) (eights .result) (omega arith) (eights .ensures .1))))
 
 loop-again : tie.Need-loop-again Inv-loop μ-loop
 loop-again c =
-    let src = c .before .before .before .before .before .before .before .args .src .now in
+    let src = start (c .before .before .before) .args .src .now in
     let lp = c .before .before .loop in
     let e : toZ w32 (ofZ w32 (getD src (lp .at) (pos 0))) ≡ getD src (lp .at) (pos 0) = toZ-ofZ (sfits-of (c .out2 .given)) in (
       omega arith,
@@ -38,7 +41,7 @@ loop-again c =
 returns : tie.Need-returns Inv-loop μ-loop
 unfolding copied
 returns c =
-    let st = c .before .before .before .before .before .before in
+    let st = start (c .before .before) in
     let eights = c .before .before .before .copy-eights in
     let lp = c .before .loop in
     let e : lp .at ≡ common (st .args .src .now) (st .args .out .now) = omega arith in

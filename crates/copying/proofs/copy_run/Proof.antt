@@ -7,8 +7,9 @@ use Rattle.copying.proofs.copy_run.Tie as tie
 
 returns : tie.Need-returns
 returns c =
-    let s = c .before .before .before .before .before .before .before in
-    c .before .copy-long .ensures ∙ copied-front (s .args .src .now) (s .args .out .now) (c .before .before .before .before .before .before .fewer .result) (omega arith)
+    let l = c .before in
+    let m = l .before .before .before .before .before in
+    l .copy-long .ensures ∙ copied-front (m .before .args .src .now) (m .before .args .out .now) (m .min .result) (omega arith)
 
 pub copy-run-spec : {M : Type 1} → statement M
 copy-run-spec =

@@ -24,7 +24,7 @@ loop-again c =
     let s = c .before .before .before .before in
     let src = s .args .src .now in
     let lp = c .before .before .loop in
-    let n = c .before .before .before .fewer .result in
+    let n = c .before .before .before .min .result in
     let e : toZ w32 (ofZ w32 (getD src (n - 1 - lp .j) (pos 0))) ≡ getD src (n - 1 - lp .j) (pos 0) = toZ-ofZ (sfits-of (c .out .given)) in (
       omega arith,
       (
@@ -38,9 +38,9 @@ unfolding reversed
 returns c =
     let s = c .before .before .before in
     let lp = c .before .loop in
-    let j : lp .j ≡ c .before .before .fewer .result = omega arith in
-    let n : c .before .before .fewer .result ≡ common (s .args .src .now) (s .args .out .now) = omega arith in
-    lp .inv .1 .1 ∙ rw (j, reverse-all (s .args .src .now) (c .before .before .fewer .result) (omega arith), n)
+    let j : lp .j ≡ c .before .before .min .result = omega arith in
+    let n : c .before .before .min .result ≡ common (s .args .src .now) (s .args .out .now) = omega arith in
+    lp .inv .1 .1 ∙ rw (j, reverse-all (s .args .src .now) (c .before .before .min .result) (omega arith), n)
 
 pub reverse-run-spec : {M : Type 1} → statement M
 reverse-run-spec =
