@@ -15,7 +15,8 @@ use Rattle.shape.proofs.Surround.{Parts}
 use Rattle.meaning.specs.Array.{Array, arrayOf, tab, build}
 use Rattle.meaning.specs.Terms.{rank, along}
 use Rattle.meaning.proofs.Tab.{tab-ext}
-use Rattle.copying.proofs.Blocks.{source, source-lt, along-source}
+use Rattle.copying.proofs.Blocks.{source-lt, along-source}
+use Rattle.copying.specs.Steps.{source}
 use Rattle.answer.specs.Answer.{lent}
 use Rattle.answer.proofs.Lent.{Lent}
 

@@ -1,8 +1,10 @@
-// What the calls share: the answer, and the tests that come before a primitive's own.
+// What the calls share: the answer, the refusals' numbers, and the tests before a primitive's own and after them.
+pub mod refusal;
+
 ghost use mathlib.Core.Path.{_≡_};
 ghost use mathlib.Core.Bool.{_&&_};
 ghost use Rattle.meaning.specs.Array.{goodForm};
-ghost use Rattle.answer.specs.Answer.{lent, refusal, early};
+ghost use Rattle.answer.specs.Answer.{lent, refused, accepted, early, late};
 use shape::Shape;
 
 // A number, 0 for a success, and a shape, the scalar's for a refusal.
@@ -14,10 +16,17 @@ pub struct Answer {
 
 impl Answer {
     pub fn refused(number: usize) -> Answer
-        ensures { λ a. ⌜ a ≡ refusal number ⌝ }
+        ensures { λ a. ⌜ a ≡ refused number ⌝ }
     {
         let shape = Shape::scalar();
         Answer { number, shape }
+    }
+
+    // A success.
+    pub fn given(shape: Shape) -> Answer
+        ensures { λ a. ⌜ a ≡ accepted shape ⌝ }
+    {
+        Answer { number: 0, shape }
     }
 }
 
@@ -32,14 +41,18 @@ pub fn good_form(s: Shape, b: &[i32]) -> bool
     count <= b.len()
 }
 
-// FORM and ORIGIN with one operand: 2, 3 or 0.
+// FORM and ORIGIN with one operand, 0 where neither is met.
 pub fn early_one(g: i32, rs: Shape, r: &[i32]) -> usize
     ensures { λ n. ⌜ n ≡ early (goodForm (lent rs (now (r .entry)))) g ⌝ }
 {
     if good_form(rs, r) {
-        if signed::is_origin(g) { 0 } else { 3 }
+        if signed::is_origin(g) {
+            0
+        } else {
+            refusal::ORIGIN
+        }
     } else {
-        2
+        refusal::FORM
     }
 }
 
@@ -50,6 +63,16 @@ pub fn early_two(g: i32, ls: Shape, l: &[i32], rs: Shape, r: &[i32]) -> usize
     if good_form(ls, l) {
         early_one(g, rs, r)
     } else {
-        2
+        refusal::FORM
     }
+}
+
+// LIMIT and SPACE of a result, by the count of its shape and the room for it, 0 where neither is met.
+pub fn late(count: usize, room: usize) -> usize
+    ensures { λ n. ⌜ n ≡ late count room ⌝ }
+{
+    if Shape::MAX_COUNT < count {
+        return refusal::LIMIT;
+    }
+    if room < count { refusal::SPACE } else { 0 }
 }
