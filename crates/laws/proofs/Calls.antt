@@ -1,23 +1,25 @@
 -- Calls that succeed, and calls that follow them, with the primitive open.
 use mathlib.Core.Path.{_≡_, sym, ap, ap₂, subst₂, _∙_}
-use mathlib.Core.List.{List, _++_}
+use mathlib.Core.List.{List, [], _∷_, _++_}
 use mathlib.Core.Bool.{true}
 use Prim.Native.Nat.{ℕ, _-_}
 use native.Mathlib.Omega.{arith}
-use borrow.Author.Tests.{le-leb}
-use lib.ListN.{length, take, drop, replicate, length-append, length-replicate}
+use borrow.Author.Tests.{le-leb, eqb-true}
+use lib.ListN.{length, getD, take, drop, replicate, length-append, length-replicate}
 use lib.Seq.{take-at, length-take-le}
-use lib.IntN.{ℤ}
+use lib.Dec.{eqb}
+use lib.IntN.{ℤ, pos}
 use Rattle.shape.specs.Shape.{maxRank, count, shapeRule, shapeOf}
+use Rattle.shape.proofs.Bools.{both}
 use Rattle.shape.proofs.Rule.{rule-rank}
 use Rattle.shape.proofs.Made.{made-counted}
 use Rattle.meaning.specs.Array.{Operand, Array, arrayOf, goodForm, build}
-use Rattle.meaning.specs.Terms.{rank}
+use Rattle.meaning.specs.Terms.{rank, isList}
 use Rattle.meaning.specs.Primitives.{Meaning}
 use Rattle.meaning.specs.Reply.{Reply, primitives, named, meaningOf, settle, reply}
 use Rattle.meaning.proofs.Arrays.{build-whole, form-shape}
 use Rattle.meaning.proofs.Replies.{Passes, success}
-use Rattle.laws.specs.Words.{IsArray, IsLong, given, Succeeds, Same, Lists, occurs, AsOften}
+use Rattle.laws.specs.Words.{IsArray, IsLong, given, Succeeds, Same, Lists, IsSingle, occurs, AsOften}
 
 -- The result of a meaning.
 abbrev pub result : Meaning → Array
@@ -97,6 +99,17 @@ same-array {y} {a} r h g e =
 -- What a reply gives holds each number as often as r.
 pub as-often : {y : Reply} {b : Array} (r : Operand) → Gives y b → ((x : ℤ) → occurs x (b .elements) ≡ occurs x (arrayOf r .elements)) → AsOften (given y) r
 as-often r g f x = ap (λ c. occurs x (c .elements)) (g .array) ∙ f x
+
+-- A single lists its element.
+pub single-lists : (l : Operand) (a : ℤ) → IsSingle l a → Lists l (a ∷ [])
+single-lists l a s =
+    let w = both (isList (arrayOf l)) (eqb (length (arrayOf l .elements)) 1) (s .single) in
+    record { form = s .form; list = w .0; elements = one (arrayOf l .elements) (eqb-true (length (arrayOf l .elements)) 1 (w .1)) (s .element) }
+  where
+    one : (xs : List ℤ) → length xs ≡ 1 → getD xs 0 (pos 0) ≡ a → xs ≡ a ∷ []
+    one [] e q = absurd (omega arith)
+    one (x ∷ []) e q = ap (λ y. y ∷ []) q
+    one (x ∷ (y ∷ xs)) e q = absurd (omega arith)
 
 -- The array of an operand that lists xs.
 abbrev pub listed : Operand → List ℤ → Array

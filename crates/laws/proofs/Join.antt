@@ -9,13 +9,13 @@ use borrow.Author.Tests.{lt-ltb, le-ltb, eq-eqb, ne-eqb}
 use lib.ListN.{length, getD, set, length-set}
 use lib.Seq.{set-set, set-getD, getD-set-same}
 use lib.Dec.{eqb, ltb}
-use lib.IntN.{ℤ, pos, natAbs, _-ℤ_}
+use lib.IntN.{ℤ, pos, _-ℤ_}
 use Rattle.shape.specs.Shape.{shapeRule, without}
 use Rattle.shape.proofs.Places.{In}
 use Rattle.shape.proofs.Axis.{in-length, in-at, in-set}
 use Rattle.shape.proofs.Rule.{shorter-rule}
 use Rattle.meaning.specs.Array.{Array, arrayOf, at, build}
-use Rattle.meaning.specs.Terms.{rank, axis, eqZ, within, sameLengths}
+use Rattle.meaning.specs.Terms.{rank, axis, eqZ, within, fromZero, sameLengths}
 use Rattle.meaning.specs.Primitives.{Side, side, higher, ranksFit, catenate, takes, droppedLengths, drops}
 use Rattle.meaning.specs.Reply.{primitives, named, reply}
 use Rattle.meaning.proofs.Arrays.{Whole, build-lengths, at-build, build-ext, build-at, form-whole}
@@ -27,7 +27,8 @@ use Rattle.meaning.proofs.Replies.{NoneMet}
 use Rattle.laws.specs.Words.{given}
 use Rattle.laws.specs.Laws.{FirstAndRest}
 use Rattle.laws.proofs.Calls.{result, array-rule, Gives, gives, same-array, listed, lists-array}
-use Rattle.laws.proofs.Cut.{firsts, lesser, length-firsts, length-lesser, sizes-firsts, lengths-lesser, front, front-lengths, takes-front, back, back-lengths, drops-back}
+use Rattle.laws.proofs.Cut.{firsts, lesser, length-firsts, length-lesser, sizes-firsts, lengths-lesser, front, front-lengths, takes-front}
+use Rattle.laws.proofs.Cut.{back, back-lengths, drops-back}
 
 -- Two arrays of equal rank joined along axis k.
 unfoldable pub joined : ℕ → Array → Array → Array
@@ -44,19 +45,19 @@ beside k ns l r =
     (λ p. cond (ltb (getD p k 0) (l .extent)) (l .element p) (r .element (set p k (getD p k 0 - l .extent))))
 
 module _ (G K : ℤ) (a b : Array) (h : 0 < rank a) (e : rank a ≡ rank b) where
-  catenate-joined : result (catenate G K a b) ≡ joined (natAbs (K -ℤ G)) a b
+  catenate-joined : result (catenate G K a b) ≡ joined (fromZero G K) a b
   unfolding catenate joined
   catenate-joined =
-      let k : ℕ = natAbs (K -ℤ G) in
+      let k : ℕ = fromZero G K in
       ap (λ ns. beside k ns (side ns k a) (side ns k b)) (higher-left a b h (omega arith))
       ∙ ap₂ (beside k (a .lengths)) (side-whole (a .lengths) k a h refl) (side-whole (a .lengths) k b (omega arith) (sym e))
 
   -- It is not refused where the other lengths agree.
-  catenate-none : within (K -ℤ G) (rank a) ≡ true → without (natAbs (K -ℤ G)) (b .lengths) ≡ without (natAbs (K -ℤ G)) (a .lengths)
+  catenate-none : within (K -ℤ G) (rank a) ≡ true → without (fromZero G K) (b .lengths) ≡ without (fromZero G K) (a .lengths)
       → NoneMet (catenate G K a b .refusals)
   unfolding catenate ranksFit
   catenate-none t q =
-      let k : ℕ = natAbs (K -ℤ G) in
+      let k : ℕ = fromZero G K in
       let ns : higher a b ≡ a .lengths = higher-left a b h (omega arith) in
       let l : side (a .lengths) k a ≡ whole a k = side-whole (a .lengths) k a h refl in
       let r : side (a .lengths) k b ≡ whole b k = side-whole (a .lengths) k b (omega arith) (sym e) in (
@@ -93,13 +94,15 @@ module _ (a : Array) (k n : ℕ) (w : Whole a) (l : k < rank a) (h : n ≤ axis 
       let lp : k < length p = omega (arith, in-length (a .lengths) p i) in
       let e : getD (set p k x) k 0 + n ≡ getD p k 0 = omega (arith, getD-set-same p k x 0 lp) in
       rw (le-ltb (getD p k 0) n (omega arith))
-      (at-build (set (a .lengths) k (axis a k - n)) (λ q. at a (set q k (getD q k 0 + n))) (set p k x) (kept _ x p i (omega (arith, in-at (a .lengths) p k i l)))
+      (at-build (set (a .lengths) k (axis a k - n)) (λ q. at a (set q k (getD q k 0 + n))) (set p k x)
+      (kept _ x p i (omega (arith, in-at (a .lengths) p k i l)))
       ∙ ap (at a) (set-set p k x _ ∙ ap (set p k) e ∙ set-getD p k 0))
 
   front-back : joined k (front a k n) (back a k n) ≡ a
   unfolding joined
   front-back =
-      ap₂ (λ x y. build (set (front a k n .lengths) k (x + y)) (λ p. cond (ltb (getD p k 0) x) (at (front a k n) p) (at (back a k n) (set p k (getD p k 0 - x))))) front-axis back-axis
+      ap₂ (λ x y. build (set (front a k n .lengths) k (x + y))
+      (λ p. cond (ltb (getD p k 0) x) (at (front a k n) p) (at (back a k n) (set p k (getD p k 0 - x))))) front-axis back-axis
       ∙ ap (λ t. build t (λ p. cond (ltb (getD p k 0) n) (at (front a k n) p) (at (back a k n) (set p k (getD p k 0 - n)))))
       (ap (λ s. set s k (n + (axis a k - n))) (front-lengths a k n)
       ∙ set-set (a .lengths) k n _
@@ -121,7 +124,7 @@ unfolding named primitives eqZ takes drops
 first-and-rest G K K₁ K₂ n l₁ l₂ r out₁ out₂ out o h t n≤ s₁ s₂ room₁ room₂ room =
     let a : Array = arrayOf r in
     let ns : List ℕ = a .lengths in
-    let k : ℕ = natAbs (K -ℤ G) in
+    let k : ℕ = fromZero G K in
     let l : k < rank a = within-lt (K -ℤ G) (rank a) t in
     let w : Whole a = form-whole r (h .form) in
     let good : shapeRule (length ns) ns ≡ true = array-rule r h in
@@ -137,7 +140,14 @@ first-and-rest G K K₁ K₂ n l₁ l₂ r out₁ out₂ out o h t n≤ s₁ s�
       right = h .form;
       origin = o;
       limit = rule-by (sizes-firsts ns k n) (shorter ns k n n≤ good);
-      own = (ap not (s₁ .list), (ap (λ b. not (eqb (length fs) (rank b))) (array-as (length fs) a some) ∙ ap not (eq-eqb (length fs) (rank a) (length-firsts ns k n)), tt));
+      own = (
+        ap not (s₁ .list),
+        (
+          ap (λ b. not (eqb (length fs) (rank b))) (array-as (length fs) a some)
+              ∙ ap not (eq-eqb (length fs) (rank a) (length-firsts ns k n)),
+          tt,
+        ),
+      );
     }) in
     let rest : Gives (reply (pos 24) G K₂ l₂ r out₂) (result (drops (listed l₂ ds) a)) =
     gives (pos 24) G K₂ l₂ r (listed l₂ ds) a out₂ (lists-array l₂ ds s₂) refl room₂
@@ -145,8 +155,17 @@ first-and-rest G K K₁ K₂ n l₁ l₂ r out₁ out₂ out o h t n≤ s₁ s�
       left = s₂ .form;
       right = h .form;
       origin = o;
-      limit = rule-by (ap (λ b. droppedLengths ds (b .lengths)) (array-as (length ds) a some) ∙ lengths-lesser ns k n) (shorter ns k (axis a k - n) (omega arith) good);
-      own = (ap not (s₂ .list), (ap (λ b. not (eqb (length ds) (rank b))) (array-as (length ds) a some) ∙ ap not (eq-eqb (length ds) (rank a) (length-lesser ns k n)), tt));
+      limit =
+          rule-by (ap (λ b. droppedLengths ds (b .lengths)) (array-as (length ds) a some)
+          ∙ lengths-lesser ns k n) (shorter ns k (axis a k - n) (omega arith) good);
+      own = (
+        ap not (s₂ .list),
+        (
+          ap (λ b. not (eqb (length ds) (rank b))) (array-as (length ds) a some)
+              ∙ ap not (eq-eqb (length ds) (rank a) (length-lesser ns k n)),
+          tt,
+        ),
+      );
     }) in
     let rx : rank x ≡ rank a = ap length (front-lengths a k n) ∙ length-set ns k n in
     let ry : rank y ≡ rank a = ap length (back-lengths a k n) ∙ length-set ns k (axis a k - n) in

@@ -1,5 +1,5 @@
 -- An array whose places are those of another in another order has the same elements, each as often.
-use mathlib.Core.Path.{_≡_, refl, sym, ap, _∙_}
+use mathlib.Core.Path.{_≡_, refl, sym, ap, ap₂, _∙_}
 use mathlib.Core.List.{List}
 use Prim.Native.Nat.{ℕ, zero, suc, _+_, _<_}
 use native.Mathlib.Nat.{zero-add, add-comm, add-assoc}
@@ -9,17 +9,18 @@ use native.Mathlib.Omega.{arith}
 use lib.ListN.{length, getD, set}
 use lib.Seq.{set-set, set-getD, getD-set-same}
 use lib.IntN.{ℤ, pos}
-use Rattle.shape.specs.Shape.{count}
+use Rattle.shape.specs.Shape.{count, without}
+use Rattle.meaning.proofs.Without.{without-set}
 use Rattle.shape.specs.Place.{index, place}
 use Rattle.shape.proofs.Places.{In, index-lt, place-in, index-place, place-index}
 use Rattle.shape.proofs.Axis.{in-length, in-at}
 use Rattle.meaning.specs.Array.{Array, at, tab, build}
-use Rattle.meaning.specs.Terms.{rank, axis, along}
+use Rattle.meaning.specs.Terms.{rank, axis, gather}
 use Rattle.meaning.proofs.Tab.{tab-getD}
 use Rattle.meaning.proofs.Arrays.{Whole, build-ext, build-at}
 use Rattle.laws.specs.Words.{occurs}
-use Rattle.laws.proofs.Moves.{moved, stays, along-out}
-use Rattle.laws.proofs.Sum.{sum, sum-permuted}
+use Rattle.laws.proofs.Moves.{alongLines, moved, stays, along-out}
+use Rattle.laws.proofs.Sum.{sum-permuted}
 use Rattle.laws.proofs.Occurs.{occurs-permuted}
 
 -- σ takes the places of t to those of s, one to one: τ goes back.
@@ -59,8 +60,8 @@ module _ (t s : List ℕ) (σ τ : List ℕ → List ℕ) (h : OneToOne t s σ �
       occurs-permuted x (count t) (count s) to from (λ i. getD xs i (pos 0)) to-ok from-ok
       ∙ ap (occurs x) (ap (λ n. tab n (λ i. getD xs i (pos 0))) (sym w) ∙ tab-getD xs (pos 0))
 
-ones : (n : ℕ) → sum _+_ 0 n (λ i. 1) ≡ n
-unfolding sum
+ones : (n : ℕ) → gather _+_ 0 n (λ i. 1) ≡ n
+unfolding gather
 ones zero = refl
 ones (suc n) = rw (ones n) (one-add n)
 
@@ -72,24 +73,26 @@ permuted-count t s σ τ h =
     ∙ ones (count s)
 
 -- A move that another undoes keeps each number as often.
-pub moved-occurs : (a : Array) (k : ℕ) (f g : ℕ → ℕ) → Whole a
-    → ((i : ℕ) → i < axis a k → (f i < axis a k) × (g (f i) ≡ i))
-    → ((i : ℕ) → i < axis a k → (g i < axis a k) × (f (g i) ≡ i))
+pub moved-occurs : (a : Array) (k : ℕ) (f g : List ℕ → ℕ → ℕ) → Whole a
+    → ((q : List ℕ) (i : ℕ) → i < axis a k → (f q i < axis a k) × (g q (f q i) ≡ i))
+    → ((q : List ℕ) (i : ℕ) → i < axis a k → (g q i < axis a k) × (f q (g q i) ≡ i))
     → (x : ℤ) → occurs x (moved a k f .elements) ≡ occurs x (a .elements)
-unfolding moved along
+unfolding moved alongLines
 moved-occurs a k f g w p q x = by (decLt k (rank a))
   where
-    one : k < rank a → OneToOne (a .lengths) (a .lengths) (λ r. set r k (f (getD r k 0))) (λ r. set r k (g (getD r k 0)))
+    one : k < rank a → OneToOne (a .lengths) (a .lengths) (λ r. set r k (f (without k r) (getD r k 0))) (λ r. set r k (g (without k r) (getD r k 0)))
     one l =
         let under : (r : List ℕ) → In (a .lengths) r → getD r k 0 < axis a k = λ r i. in-at (a .lengths) r k i l in
         let has : (r : List ℕ) → In (a .lengths) r → k < length r = λ r i. omega (arith, in-length (a .lengths) r i) in
         record {
-          there = λ r i. stays a k (f (getD r k 0)) r (p _ (under r i) .0) i;
-          back = λ r i. stays a k (g (getD r k 0)) r (q _ (under r i) .0) i;
+          there = λ r i. stays a k (f (without k r) (getD r k 0)) r (p _ _ (under r i) .0) i;
+          back = λ r i. stays a k (g (without k r) (getD r k 0)) r (q _ _ (under r i) .0) i;
           there-back = λ r i.
-              set-set r k _ _ ∙ ap (λ y. set r k (g y)) (getD-set-same r k _ 0 (has r i)) ∙ ap (set r k) (p _ (under r i) .1) ∙ set-getD r k 0;
+              set-set r k _ _ ∙ ap₂ (λ z y. set r k (g z y)) (without-set r k _) (getD-set-same r k _ 0 (has r i)) ∙ ap (set r k) (p _ _ (under r i) .1)
+              ∙ set-getD r k 0;
           back-there = λ r i.
-              set-set r k _ _ ∙ ap (λ y. set r k (f y)) (getD-set-same r k _ 0 (has r i)) ∙ ap (set r k) (q _ (under r i) .1) ∙ set-getD r k 0;
+              set-set r k _ _ ∙ ap₂ (λ z y. set r k (f z y)) (without-set r k _) (getD-set-same r k _ 0 (has r i)) ∙ ap (set r k) (q _ _ (under r i) .1)
+              ∙ set-getD r k 0;
         }
 
     by : Dec (k < rank a) → occurs x (moved a k f .elements) ≡ occurs x (a .elements)

@@ -40,7 +40,8 @@ ravel-is a =
     ∙ tab-getD (a .elements) (pos 0))
 
 -- 21 by the lengths of a, of a's own elements.
-reshape-is : (l ns : List ℕ) (a : Array) → Whole a → result (reshape (record { lengths = l; elements = map pos (a .lengths) }) (record { lengths = ns; elements = a .elements })) ≡ a
+reshape-is : (l ns : List ℕ) (a : Array) → Whole a
+    → result (reshape (record { lengths = l; elements = map pos (a .lengths) }) (record { lengths = ns; elements = a .elements })) ≡ a
 unfolding reshape at
 reshape-is l ns a w =
     ap (λ s. build s (λ p. getD (a .elements) (index s p % length (a .elements)) (pos 0))) (sizes-pos (a .lengths))
@@ -62,9 +63,10 @@ ravelled-reshaped G K₁ K₂ l₁ l r out₁ out o h s room₁ room =
       limit = vector-rule (length (a .elements)) (rw w (rule-count _ _ (array-rule r h)));
       own = tt;
     }) in
-    let held : arrayOf once ≡ record { lengths = length (a .elements) ∷ []; elements = a .elements } = first .array ∙ ravel-is a in
-    let second : Gives (reply (pos 21) G K₂ l once out) (result (reshape (listed l (map pos (a .lengths))) (record { lengths = length (a .elements) ∷ []; elements = a .elements }))) =
-    gives (pos 21) G K₂ l once (listed l (map pos (a .lengths))) (record { lengths = length (a .elements) ∷ []; elements = a .elements }) out (lists-array l _ s) held room
+    let line : Array = record { lengths = length (a .elements) ∷ []; elements = a .elements } in
+    let held : arrayOf once ≡ line = first .array ∙ ravel-is a in
+    let second : Gives (reply (pos 21) G K₂ l once out) (result (reshape (listed l (map pos (a .lengths))) line)) =
+    gives (pos 21) G K₂ l once (listed l (map pos (a .lengths))) line out (lists-array l _ s) held room
     (record {
       left = s .form;
       right = first .good .form;

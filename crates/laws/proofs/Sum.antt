@@ -7,22 +7,18 @@ use native.Mathlib.Decide.{ℕ-discrete}
 use native.Mathlib.Omega.{arith}
 use borrow.Author.Tests.{eq-eqb, ne-eqb}
 use lib.Dec.{eqb, eqb·zero-suc, eqb·suc-zero, eqb·suc-suc}
-
--- f 0 ⊕ f 1 ⊕ .. ⊕ f (n - 1), and e for none.
-unfoldable pub sum : {A : Type 0} → (A → A → A) → A → ℕ → (ℕ → A) → A
-sum _⊕_ e zero f = e
-sum _⊕_ e (suc n) f = _⊕_ (f zero) (sum _⊕_ e n (λ i. f (suc i)))
+use Rattle.meaning.specs.Terms.{gather}
 
 module _ {A : Type 0} (_⊕_ : A → A → A) (e : A) where
-  pub sum-ext : (n : ℕ) (f g : ℕ → A) → ((i : ℕ) → i < n → f i ≡ g i) → sum _⊕_ e n f ≡ sum _⊕_ e n g
-  unfolding sum
+  pub sum-ext : (n : ℕ) (f g : ℕ → A) → ((i : ℕ) → i < n → f i ≡ g i) → gather _⊕_ e n f ≡ gather _⊕_ e n g
+  unfolding gather
   sum-ext zero f g h = refl
   sum-ext (suc n) f g h = ap₂ _⊕_ (h zero (zero-lt-suc n)) (sum-ext n (λ i. f (suc i)) (λ i. g (suc i)) (λ i l. h (suc i) (omega arith)))
 
 module _ {A : Type 0} (_⊕_ : A → A → A) (e : A) (idl : (a : A) → _⊕_ e a ≡ a) (comm : (a b : A) → _⊕_ a b ≡ _⊕_ b a)
     (assoc : (a b c : A) → _⊕_ (_⊕_ a b) c ≡ _⊕_ a (_⊕_ b c)) where
-  pub sum-none : (n : ℕ) (f : ℕ → A) → ((i : ℕ) → i < n → f i ≡ e) → sum _⊕_ e n f ≡ e
-  unfolding sum
+  pub sum-none : (n : ℕ) (f : ℕ → A) → ((i : ℕ) → i < n → f i ≡ e) → gather _⊕_ e n f ≡ e
+  unfolding gather
   sum-none zero f h = refl
   sum-none (suc n) f h = ap₂ _⊕_ (h zero (zero-lt-suc n)) (sum-none n (λ i. f (suc i)) (λ i l. h (suc i) (omega arith))) ∙ idl e
 
@@ -30,20 +26,20 @@ module _ {A : Type 0} (_⊕_ : A → A → A) (e : A) (idl : (a : A) → _⊕_ e
   four a b c d =
       assoc a b (_⊕_ c d) ∙ ap (_⊕_ a) (sym (assoc b c d) ∙ ap (λ x. _⊕_ x d) (comm b c) ∙ assoc c b d) ∙ sym (assoc a c (_⊕_ b d))
 
-  pub sum-both : (n : ℕ) (f g : ℕ → A) → sum _⊕_ e n (λ i. _⊕_ (f i) (g i)) ≡ _⊕_ (sum _⊕_ e n f) (sum _⊕_ e n g)
-  unfolding sum
+  pub sum-both : (n : ℕ) (f g : ℕ → A) → gather _⊕_ e n (λ i. _⊕_ (f i) (g i)) ≡ _⊕_ (gather _⊕_ e n f) (gather _⊕_ e n g)
+  unfolding gather
   sum-both zero f g = sym (idl e)
   sum-both (suc n) f g = ap (_⊕_ (_⊕_ (f zero) (g zero))) (sum-both n (λ i. f (suc i)) (λ i. g (suc i))) ∙ four _ _ _ _
 
-  pub sum-swap : (n m : ℕ) (f : ℕ → ℕ → A) → sum _⊕_ e n (λ i. sum _⊕_ e m (f i)) ≡ sum _⊕_ e m (λ j. sum _⊕_ e n (λ i. f i j))
-  unfolding sum
+  pub sum-swap : (n m : ℕ) (f : ℕ → ℕ → A) → gather _⊕_ e n (λ i. gather _⊕_ e m (f i)) ≡ gather _⊕_ e m (λ j. gather _⊕_ e n (λ i. f i j))
+  unfolding gather
   sum-swap zero m f = sym (sum-none m (λ j. e) (λ j l. refl))
   sum-swap (suc n) m f =
-      ap (_⊕_ (sum _⊕_ e m (f zero))) (sum-swap n m (λ i. f (suc i))) ∙ sym (sum-both m (f zero) (λ j. sum _⊕_ e n (λ i. f (suc i) j)))
+      ap (_⊕_ (gather _⊕_ e m (f zero))) (sum-swap n m (λ i. f (suc i))) ∙ sym (sum-both m (f zero) (λ j. gather _⊕_ e n (λ i. f (suc i) j)))
 
   -- Only the summand at k counts.
-  pub sum-one : (n k : ℕ) (f : ℕ → A) → k < n → sum _⊕_ e n (λ i. cond (eqb i k) (f i) e) ≡ f k
-  unfolding sum
+  pub sum-one : (n k : ℕ) (f : ℕ → A) → k < n → gather _⊕_ e n (λ i. cond (eqb i k) (f i) e) ≡ f k
+  unfolding gather
   sum-one zero k f h = absurd (not-suc-le-zero h)
   sum-one (suc n) zero f h =
       ap₂ _⊕_ (ap (λ b. cond b (f zero) e) (eq-eqb 0 0 refl)) (sum-none n _ (λ i l. ap (λ b. cond b (f (suc i)) e) (eqb·suc-zero i)))
@@ -55,7 +51,7 @@ module _ {A : Type 0} (_⊕_ : A → A → A) (e : A) (idl : (a : A) → _⊕_ e
 
   -- A sum does not change when its summands are taken in another order: σ goes from the numbers below n to those below m, and τ back.
   pub sum-permuted : (n m : ℕ) (σ τ : ℕ → ℕ) (g : ℕ → A) → ((i : ℕ) → i < n → (σ i < m) × (τ (σ i) ≡ i)) → ((j : ℕ) → j < m → (τ j < n) × (σ (τ j) ≡ j))
-      → sum _⊕_ e n (λ i. g (σ i)) ≡ sum _⊕_ e m g
+      → gather _⊕_ e n (λ i. g (σ i)) ≡ gather _⊕_ e m g
   sum-permuted n m σ τ g p q =
       sum-ext _⊕_ e n _ _ (λ i l. sym (sum-one m (σ i) g (p i l .0)))
       ∙ sum-swap n m (λ i j. cond (eqb j (σ i)) (g j) e)

@@ -14,7 +14,8 @@ use lib.IntN.{ℤ}
 use Rattle.shape.proofs.Axis.{in-length, in-at, in-from}
 use Rattle.meaning.specs.Array.{Array, at, tab, build}
 use Rattle.meaning.specs.Primitives.{sentTo, smallest, axesTo, sentLengths, broughtBack, backwards}
-use Rattle.meaning.proofs.Sent.{length-backwards, getD-backwards, length-back, getD-back, sent-has, sent-from, axes-lt, axes-le, length-shape, getD-shape, broughtBack-in}
+use Rattle.meaning.proofs.Sent.{length-backwards, getD-backwards, length-back, getD-back, sent-has, sent-from, axes-lt, axes-le, length-shape}
+use Rattle.meaning.proofs.Sent.{getD-shape, broughtBack-in}
 use Rattle.meaning.proofs.Tab.{length-tab, getD-tab}
 use Rattle.meaning.proofs.Arrays.{Whole, build-lengths, at-build, build-ext}
 use Rattle.laws.specs.Words.{Permutes, occurs}
@@ -145,10 +146,12 @@ pub transpose-occurs : (ts : List ℕ) (a : Array) → Permutes (length ts) ts �
     → (x : ℤ) → occurs x (transposed ts a .elements) ≡ occurs x (a .elements)
 unfolding transposed
 transpose-occurs ts a P e w x =
-    permuted-occurs (sentLengths ts (a .lengths)) (a .lengths) (broughtBack ts) (broughtBack (inverse ts)) (broughtBack-one ts P (a .lengths) e) x (a .elements) w
+    permuted-occurs (sentLengths ts (a .lengths)) (a .lengths) (broughtBack ts) (broughtBack (inverse ts)) (broughtBack-one ts P (a .lengths) e) x
+    (a .elements) w
 
 -- The axis to which us sends the axis to which ts sends i.
-pub permutes-broughtBack : (ts us : List ℕ) → Permutes (length ts) ts → Permutes (length us) us → length us ≡ length ts → Permutes (length (broughtBack ts us)) (broughtBack ts us)
+pub permutes-broughtBack : (ts us : List ℕ) → Permutes (length ts) ts → Permutes (length us) us → length us ≡ length ts
+    → Permutes (length (broughtBack ts us)) (broughtBack ts us)
 permutes-broughtBack ts us P Q e = record {
   size = refl;
   below = λ i h. let h′ : i < length ts = rw (length-back ts us) at h in
@@ -187,7 +190,8 @@ module _ (ts us : List ℕ) (P : Permutes (length ts) ts) (Q : Permutes (length 
       let g : getD (broughtBack ts us) l 0 ≡ getD us (getD ts l 0) 0 = getD-back ts us l (b .1) in
       cc (a .2, b .2))
 
-pub transposed-transposed : (ts us : List ℕ) (a : Array) → Permutes (length ts) ts → Permutes (length us) us → length us ≡ length ts → length ts ≡ length (a .lengths)
+pub transposed-transposed : (ts us : List ℕ) (a : Array) → Permutes (length ts) ts → Permutes (length us) us → length us ≡ length ts
+    → length ts ≡ length (a .lengths)
     → transposed us (transposed ts a) ≡ transposed (broughtBack ts us) a
 unfolding transposed
 transposed-transposed ts us a P Q e f =

@@ -19,7 +19,8 @@ use Rattle.laws.specs.Words.{IsArray, IsOrigin, IsLong, given, Permutes,
 use Rattle.laws.specs.Laws.{TwoTranspositions, TranspositionKeeps}
 use Rattle.laws.proofs.Calls.{array-rule, Gives, gives, same-arrays, as-often, listed, lists-array}
 use Rattle.laws.proofs.Permuted.{permuted-count}
-use Rattle.laws.proofs.Transposed.{transposed, axes-is, shape-at, broughtBack-one, transpose-occurs, permutes-broughtBack, transposed-transposed, permutes-backwards}
+use Rattle.laws.proofs.Transposed.{transposed, axes-is, shape-at, broughtBack-one, transpose-occurs, permutes-broughtBack}
+use Rattle.laws.proofs.Transposed.{transposed-transposed, permutes-backwards}
 
 -- An axis number less its origin.
 less-origin : (G : ℤ) (t : ℕ) → G +ℤ pos t -ℤ G ≡ pos t

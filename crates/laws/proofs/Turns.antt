@@ -5,37 +5,38 @@ use mathlib.Core.Bool.{not}
 use Prim.Native.Nat.{ℕ, _-_, _<_, max}
 use native.Mathlib.Omega.{arith}
 use lib.ListN.{length, getD}
-use lib.IntN.{ℤ, pos, natAbs, negℤ, _+ℤ_, _-ℤ_, +ℤ-assoc, +ℤ-comm}
+use lib.IntN.{ℤ, pos, negℤ, _+ℤ_, _-ℤ_, +ℤ-assoc, +ℤ-comm}
 use Rattle.meaning.specs.Array.{Operand, Array, arrayOf}
-use Rattle.meaning.specs.Terms.{axis, eqZ, within, modulo}
+use Rattle.meaning.specs.Terms.{axis, eqZ, within, fromZero, along, modulo}
 use Rattle.meaning.specs.Primitives.{reverse, rotate}
 use Rattle.meaning.specs.Reply.{primitives, named, reply}
 use Rattle.meaning.proofs.Arrays.{Whole, form-whole}
 use Rattle.meaning.proofs.Scalars.{vector-rank}
 use Rattle.laws.specs.Words.{IsArray, IsOrigin, IsTurnAxis, IsLong, given, IsSingle}
 use Rattle.laws.specs.Laws.{TwoRotations, TwoReversals, RotationKeeps, ReversalKeeps}
-use Rattle.laws.proofs.Calls.{array-rule, Gives, gives, same-arrays, same-array, as-often, listed, lists-array}
-use Rattle.laws.proofs.Moves.{moved, moved-lengths, moved-ext, moved-id, moved-moved}
+use Rattle.laws.proofs.Calls.{array-rule, Gives, gives, same-arrays, same-array, as-often, listed, single-lists, lists-array}
+use Rattle.laws.proofs.Moves.{alongLines, moved, moved-lengths, moved-ext, moved-id, moved-moved}
 use Rattle.meaning.proofs.Modulo.{modulo-lt, modulo-sum, modulo-back, modulo-forth}
 use Rattle.laws.proofs.Permuted.{moved-occurs}
 
 -- What 14 and 25 do to an array.
 abbrev turned : ℤ → ℤ → Array → Array
-turned G K a = moved a (natAbs (K -ℤ G)) (λ i. axis a (natAbs (K -ℤ G)) - 1 - i)
+turned G K a = moved a (fromZero G K) (λ q i. axis a (fromZero G K) - 1 - i)
 
 abbrev rotated : ℤ → ℤ → ℤ → Array → Array
-rotated G K z a = moved a (natAbs (K -ℤ G)) (λ i. modulo (pos i +ℤ z) (axis a (natAbs (K -ℤ G))))
+rotated G K z a = moved a (fromZero G K) (λ q i. modulo (pos i +ℤ z) (axis a (fromZero G K)))
 
 module _ (G K : ℤ) (r : Operand) (out : List ℤ) (o : IsOrigin G) (h : IsArray r) (t : IsTurnAxis G K r) where
   reverse-gives : (l : Operand) → IsLong (pos 14) G K l r out → Gives (reply (pos 14) G K l r out) (turned G K (arrayOf r))
-  unfolding named primitives eqZ reverse moved
+  unfolding named primitives eqZ reverse along alongLines moved
   reverse-gives l room =
       gives (pos 14) G K l r (arrayOf l) (arrayOf r) out refl refl room
       (record { left = refl; right = h .form; origin = o; limit = array-rule r h; own = (ap not t, tt) })
 
   rotate-gives : (l : Operand) (z : ℤ) → IsSingle l z → IsLong (pos 25) G K l r out → Gives (reply (pos 25) G K l r out) (rotated G K z (arrayOf r))
-  unfolding named primitives eqZ rotate moved
-  rotate-gives l z s room =
+  unfolding named primitives eqZ rotate along alongLines moved
+  rotate-gives l z one room =
+      let s = single-lists l z one in
       gives (pos 25) G K l r (listed l (z ∷ [])) (arrayOf r) out (lists-array l (z ∷ []) s) refl room
       (record {
         left = s .form;
@@ -46,20 +47,20 @@ module _ (G K : ℤ) (r : Operand) (out : List ℤ) (o : IsOrigin G) (h : IsArra
       })
 
 -- A moved array has the axes of the array that it was made of.
-turn-axis : (G K : ℤ) (r s : Operand) (k : ℕ) (f : ℕ → ℕ) → arrayOf s ≡ moved (arrayOf r) k f → IsTurnAxis G K r → IsTurnAxis G K s
+turn-axis : (G K : ℤ) (r s : Operand) (k : ℕ) (f : List ℕ → ℕ → ℕ) → arrayOf s ≡ moved (arrayOf r) k f → IsTurnAxis G K r → IsTurnAxis G K s
 turn-axis G K r s k f e t =
     let same : arrayOf s .lengths ≡ arrayOf r .lengths = ap (λ a. a .lengths) e ∙ moved-lengths (arrayOf r) k f in
     ap (within (K -ℤ G)) (vector-rank (arrayOf s) ∙ ap (λ (ns : List ℕ). max 1 (length ns)) same ∙ sym (vector-rank (arrayOf r))) ∙ t
 
 -- The position of i after two reversals, and after two rotations.
-reversed-twice : (a : Array) (k : ℕ) → Whole a → (n : ℕ) → n ≡ axis a k → moved (moved a k (λ i. axis a k - 1 - i)) k (λ i. n - 1 - i) ≡ a
+reversed-twice : (a : Array) (k : ℕ) → Whole a → (n : ℕ) → n ≡ axis a k → moved (moved a k (λ q i. axis a k - 1 - i)) k (λ q i. n - 1 - i) ≡ a
 reversed-twice a k w n e =
-    moved-moved a k (λ i. axis a k - 1 - i) (λ i. n - 1 - i) (λ i h. omega arith)
-    ∙ moved-id a k _ w (λ i h. omega arith)
+    moved-moved a k (λ q i. axis a k - 1 - i) (λ q i. n - 1 - i) (λ q i h. omega arith)
+    ∙ moved-id a k _ w (λ q i h. omega arith)
 
 pub two-reversals : TwoReversals
 two-reversals G K l₁ l₂ r out₁ out₂ o h t room₁ room₂ =
-    let k : ℕ = natAbs (K -ℤ G) in
+    let k : ℕ = fromZero G K in
     let a : Array = arrayOf r in
     let once : Operand = given (reply (pos 14) G K l₁ r out₁) in
     let first = reverse-gives G K r out₁ o h t l₁ room₁ in
@@ -67,22 +68,22 @@ two-reversals G K l₁ l₂ r out₁ out₂ o h t room₁ room₂ =
     let same : axis (arrayOf once) k ≡ axis a k = ap (λ b. axis b k) (first .array) ∙ ap (λ ns. getD ns k 0) (moved-lengths a k _) in (
       first .number,
       second .number,
-      same-array r h second (ap (λ b. moved b k (λ i. axis (arrayOf once) k - 1 - i)) (first .array) ∙ reversed-twice a k (form-whole r (h .form)) _ same),
+      same-array r h second (ap (λ b. moved b k (λ q i. axis (arrayOf once) k - 1 - i)) (first .array) ∙ reversed-twice a k (form-whole r (h .form)) _ same),
     )
 
 rotated-twice : (a : Array) (k : ℕ) (y z : ℤ) (n : ℕ) → n ≡ axis a k
-    → moved (moved a k (λ i. modulo (pos i +ℤ y) (axis a k))) k (λ i. modulo (pos i +ℤ z) n) ≡ moved a k (λ i. modulo (pos i +ℤ (y +ℤ z)) (axis a k))
+    → moved (moved a k (λ q i. modulo (pos i +ℤ y) (axis a k))) k (λ q i. modulo (pos i +ℤ z) n) ≡ moved a k (λ q i. modulo (pos i +ℤ (y +ℤ z)) (axis a k))
 rotated-twice a k y z n e =
-    ap (λ m. moved (moved a k (λ i. modulo (pos i +ℤ y) (axis a k))) k (λ i. modulo (pos i +ℤ z) m)) e
-    ∙ moved-moved a k _ _ (λ i h. modulo-lt _ (axis a k) (omega arith))
+    ap (λ m. moved (moved a k (λ q i. modulo (pos i +ℤ y) (axis a k))) k (λ q i. modulo (pos i +ℤ z) m)) e
+    ∙ moved-moved a k _ _ (λ q i h. modulo-lt _ (axis a k) (omega arith))
     ∙ moved-ext a k _ _
-    (λ i h.
+    (λ q i h.
     modulo-sum (pos i +ℤ z) y (axis a k) (omega arith)
     ∙ ap (λ v. modulo v (axis a k)) (+ℤ-assoc (pos i) z y ∙ ap (λ v. pos i +ℤ v) (+ℤ-comm z y)))
 
 pub two-rotations : TwoRotations
 two-rotations G K y z ly lz lyz r out₁ out₂ out o h t sy sz syz room₁ room₂ room =
-    let k : ℕ = natAbs (K -ℤ G) in
+    let k : ℕ = fromZero G K in
     let a : Array = arrayOf r in
     let once : Operand = given (reply (pos 25) G K ly r out₁) in
     let first = rotate-gives G K r out₁ o h t ly y sy room₁ in
@@ -92,23 +93,23 @@ two-rotations G K y z ly lz lyz r out₁ out₂ out o h t sy sz syz room₁ room
       first .number,
       second .number,
       one .number,
-      same-arrays second one (ap (λ b. moved b k (λ i. modulo (pos i +ℤ z) (axis (arrayOf once) k))) (first .array) ∙ rotated-twice a k y z _ same),
+      same-arrays second one (ap (λ b. moved b k (λ q i. modulo (pos i +ℤ z) (axis (arrayOf once) k))) (first .array) ∙ rotated-twice a k y z _ same),
     )
 
 pub reversal-keeps : ReversalKeeps
 reversal-keeps G K l r out o h t room =
     let g = reverse-gives G K r out o h t l room in
-    let n : ℕ = axis (arrayOf r) (natAbs (K -ℤ G)) in
-    let back : (i : ℕ) → i < n → (n - 1 - i < n) × (n - 1 - (n - 1 - i) ≡ i) = λ i l. (omega arith, omega arith) in
-    (g .number, as-often r g (moved-occurs (arrayOf r) (natAbs (K -ℤ G)) (λ i. n - 1 - i) (λ i. n - 1 - i) (form-whole r (h .form)) back back))
+    let n : ℕ = axis (arrayOf r) (fromZero G K) in
+    let back : (q : List ℕ) (i : ℕ) → i < n → (n - 1 - i < n) × (n - 1 - (n - 1 - i) ≡ i) = λ q i l. (omega arith, omega arith) in
+    (g .number, as-often r g (moved-occurs (arrayOf r) (fromZero G K) (λ q i. n - 1 - i) (λ q i. n - 1 - i) (form-whole r (h .form)) back back))
 
 pub rotation-keeps : RotationKeeps
 rotation-keeps G K z l r out o h t s room =
     let g = rotate-gives G K r out o h t l z s room in
-    let n : ℕ = axis (arrayOf r) (natAbs (K -ℤ G)) in (
+    let n : ℕ = axis (arrayOf r) (fromZero G K) in (
       g .number,
       as-often r g
-          (moved-occurs (arrayOf r) (natAbs (K -ℤ G)) _ (λ i. modulo (pos i +ℤ negℤ z) n) (form-whole r (h .form))
-          (λ i l. (modulo-lt _ n (omega arith), modulo-back i n z l))
-          (λ i l. (modulo-lt _ n (omega arith), modulo-forth i n z l))),
+          (moved-occurs (arrayOf r) (fromZero G K) _ (λ q i. modulo (pos i +ℤ negℤ z) n) (form-whole r (h .form))
+          (λ q i l. (modulo-lt _ n (omega arith), modulo-back i n z l))
+          (λ q i l. (modulo-lt _ n (omega arith), modulo-forth i n z l))),
     )

@@ -3,11 +3,12 @@
 use Prim.Native.Nat.{ℕ, _≤_}
 use mathlib.Core.List.{List, map}
 use lib.ListN.{set}
-use lib.IntN.{ℤ, pos, natAbs, _+ℤ_, _-ℤ_}
+use lib.IntN.{ℤ, pos, _+ℤ_}
 use Rattle.meaning.specs.Array.{Operand, arrayOf}
-use Rattle.meaning.specs.Terms.{rank, axis}
+use Rattle.meaning.specs.Terms.{rank, axis, fromZero}
 use Rattle.meaning.specs.Reply.{Reply, reply}
-use Rattle.laws.specs.Words.{IsArray, IsOrigin, IsAxis, IsTurnAxis, IsLong, given, Succeeds, Same, Lists, IsSingle, Sends, Transposition, callOf, leftOf, axesOf, sentOn, AsOften}
+use Rattle.laws.specs.Words.{IsArray, IsOrigin, IsAxis, IsTurnAxis, IsLong, given, Succeeds, Same, Lists, IsSingle}
+use Rattle.laws.specs.Words.{Sends, Transposition, callOf, leftOf, axesOf, sentOn, AsOften}
 
 -- 1. Two rotations along an axis are the one by the sum. (Where the sum fits 32 signed bits an operand can hold it.)
 abbrev pub TwoRotations : Type 0
@@ -62,9 +63,9 @@ FirstAndRest =
     → IsOrigin G
     → IsArray r
     → IsAxis G K r
-    → n ≤ axis (arrayOf r) (natAbs (K -ℤ G))
-    → Lists l₁ (set (map pos (arrayOf r .lengths)) (natAbs (K -ℤ G)) (pos n))
-    → Lists l₂ (set (map (λ m. pos 0) (arrayOf r .lengths)) (natAbs (K -ℤ G)) (pos n))
+    → n ≤ axis (arrayOf r) (fromZero G K)
+    → Lists l₁ (set (map pos (arrayOf r .lengths)) (fromZero G K) (pos n))
+    → Lists l₂ (set (map (λ m. pos 0) (arrayOf r .lengths)) (fromZero G K) (pos n))
     → let first : Reply = reply (pos 23) G K₁ l₁ r out₁ in
     let rest : Reply = reply (pos 24) G K₂ l₂ r out₂ in
     let joined : Reply = reply (pos 22) G K (given first) (given rest) out in

@@ -7,7 +7,7 @@ use lib.ListN.{length, getD}
 use lib.IntN.{ℤ, pos, _+ℤ_, _-ℤ_}
 use Rattle.shape.specs.Shape.{maxRank, counted, count}
 use Rattle.meaning.specs.Array.{Operand, arrayOf, goodForm}
-use Rattle.meaning.specs.Terms.{rank, isList, asVector, eqZ, within}
+use Rattle.meaning.specs.Terms.{rank, isList, isSingle, asVector, eqZ, within}
 use Rattle.meaning.specs.Primitives.{backwards}
 use Rattle.meaning.specs.Reply.{Reply, isOrigin, meaningOf}
 
@@ -52,9 +52,11 @@ pub record Lists (l : Operand) (xs : List ℤ) : Type 0 where
   pub list : isList (arrayOf l) ≡ true
   pub elements : arrayOf l .elements ≡ xs
 
--- "Single" means a scalar or a vector of one element, here a.
-abbrev pub IsSingle : Operand → ℤ → Type 0
-IsSingle l a = Lists l (a ∷ [])
+-- A single, a scalar or a vector of one element, whose element is a.
+pub record IsSingle (l : Operand) (a : ℤ) : Type 0 where
+  pub form : goodForm l ≡ true
+  pub single : isSingle (arrayOf l) ≡ true
+  pub element : getD (arrayOf l .elements) 0 (pos 0) ≡ a
 
 -- ts has nothing but each of 0 to r - 1, once.
 pub record Permutes (r : ℕ) (ts : List ℕ) : Type 0 where
