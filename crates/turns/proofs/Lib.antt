@@ -1,6 +1,4 @@
+pub mod Calls
 pub mod Rows
 pub mod Into
-pub mod Axes
-pub mod Reversal
-pub mod Rotation
 pub mod Groups

@@ -1,7 +1,7 @@
 -- The rows of a block, turned.
 use mathlib.Core.Path.{_≡_, refl, sym, ap, ap₂, _∙_}
 use mathlib.Core.List.{List}
-use mathlib.Core.Bool.{Bool, true, false, cond}
+use mathlib.Core.Bool.{cond}
 use Prim.Native.Nat.{ℕ, zero, suc, _+_, _*_, _-_, _/_, _%_, _≤_, _<_}
 use native.Mathlib.Nat.{mul-le-mul-right, mul-one, div-one, mod-one, mod-lt, div-add-mod'}
 use native.Mathlib.Omega.{arith}
@@ -16,7 +16,9 @@ use Rattle.copying.proofs.Runs.{reversed-whole, tab-is}
 use Rattle.meaning.specs.Terms.{modulo}
 use Rattle.meaning.proofs.Modulo.{modulo-lt, modulo-turn, amount-is}
 use Rattle.shape.proofs.Places.{row-in}
-use Rattle.turns.specs.Rows.{turnPosition, turnRow}
+use Rattle.turns.specs.declared.Turn.{Turn}
+use Rattle.turns.specs.declared.Turn.the-variants.{Back, By}
+use Rattle.turns.specs.Steps.{turnPosition, backAt}
 use Rattle.copying.proofs.Steps.{getD-reverse}
 
 -- One row less.
@@ -34,7 +36,7 @@ reversed-row n c i to x h l e b =
 
 -- A block whose rows have one element is a line.
 pub line-reversed : (r out : List ℤ) (n c : ℕ) → c ≡ 1 → length r ≡ n * c → length out ≡ n * c
-    → reversed r out ≡ tab (n * c) (λ j. getD r ((n - 1 - j / c) * c + j % c) (pos 0))
+    → reversed r out ≡ tab (n * c) (backAt r n c)
 line-reversed r out n c one a b =
     let e : n * c ≡ n = ap (λ k. n * k) one ∙ mul-one n in
     reversed-whole r out (a ∙ sym b)
@@ -44,40 +46,33 @@ line-reversed r out n c one a b =
     ap (λ k. (n - 1 - i / k) * k + i % k) one ∙ (rw (div-one i, mod-one i, mul-one) (omega arith)) in
     ap (λ k. getD r k (pos 0)) q ∙ sym (getD-reverse r i (pos 0) (omega arith)))
 
--- A turn of rows stays among them.
-pub turn-row-lt : (back : Bool) (a n q : ℕ) → q < n → turnRow back a n q < n
-unfolding turnRow
-turn-row-lt true a n q h = omega arith
-turn-row-lt false a n q h = mod-lt (q + a) (omega arith)
-
--- A block reversed, and element j of a block cut at a rows.
-pub block-back : (r : List ℤ) (n c a : ℕ) (back : Bool) → back ≡ true
-    → tab (n * c) (λ j. getD r ((n - 1 - j / c) * c + j % c) (pos 0)) ≡ tab (n * c) (λ j. getD r (turnRow back a n (j / c) * c + j % c) (pos 0))
-unfolding turnRow
-block-back r n c a back e = rw e
-
-pub row-cut : (n c a j : ℕ) (back : Bool) → back ≡ false → j < n * c → (j + a * c) % (n * c) ≡ turnRow back a n (j / c) * c + j % c
-unfolding turnRow
-row-cut n c a j back e h =
-    let p = row-in n c j h in
-    let s : j + a * c ≡ (j / c + a) * c + j % c = omega (arith, div-add-mod' j c) in
-    let q : (j + a * c) / c ≡ j / c + a = ap (λ k. k / c) s ∙ digits-div (j / c + a) (mod-lt j (p .0)) in
-    let m : (j + a * c) % c ≡ j % c = ap (λ k. k % c) s ∙ digits-mod (j / c + a) (mod-lt j (p .0)) in
-    mod-mul (j + a * c) (omega (arith, p .1)) (p .0) ∙ ap₂ (λ x y. x % n * c + y) q m ∙ (rw e)
-
--- The amount as rows is the amount.
-pub turn-amount : (back : Bool) (z : ℤ) (n a i : ℕ) → 0 < n → a ≡ cond (eqb n 0) 0 (modulo z n) → turnRow back a n i ≡ turnPosition back z n i
-unfolding turnRow turnPosition
-turn-amount true z n a i h e = refl
-turn-amount false z n a i h e = ap (λ k. (i + k) % n) (e ∙ amount-is z n h) ∙ sym (modulo-turn i z n h)
-
-pub amount-lt : (z : ℤ) (n a : ℕ) → 0 < n → a ≡ cond (eqb n 0) 0 (modulo z n) → a < n
-amount-lt z n a h e = rw (e ∙ amount-is z n h) (modulo-lt z n h)
-
-pub turn-position-lt : (back : Bool) (z : ℤ) (n i : ℕ) → i < n → turnPosition back z n i < n
+-- A turn stays among the positions.
+pub turn-lt : (turn : Turn) (n i : ℕ) → i < n → turnPosition turn n i < n
 unfolding turnPosition
-turn-position-lt true z n i h = omega arith
-turn-position-lt false z n i h = modulo-lt (pos i +ℤ z) n (omega arith)
+turn-lt Back n i h = omega arith
+turn-lt (By z) n i h = modulo-lt (pos i +ℤ z) n (omega arith)
 
-pub cut-le : (n c a : ℕ) → a < n → a * c ≤ n * c
-cut-le n c a h = mul-le-mul-right c (omega arith)
+-- A block reversed.
+pub block-back : (r : List ℤ) (n c : ℕ) → tab (n * c) (backAt r n c) ≡ tab (n * c) (λ j. getD r (turnPosition Back n (j / c) * c + j % c) (pos 0))
+unfolding turnPosition
+block-back r n c = refl
+
+-- An amount as rows, `rows` as the code finds them: they are fewer than n, and a block cut there is turned by the amount.
+module _ (z : ℤ) (n rows : ℕ) (some : 0 < n) (e : rows ≡ cond (eqb n 0) 0 (modulo z n)) where
+  pub rows-lt : rows < n
+  rows-lt = rw (e ∙ amount-is z n some) (modulo-lt z n some)
+
+  rows-turn : (i : ℕ) → (i + rows) % n ≡ turnPosition (By z) n i
+  unfolding turnPosition
+  rows-turn i = ap (λ k. (i + k) % n) (e ∙ amount-is z n some) ∙ sym (modulo-turn i z n some)
+
+  pub cut-le : (c : ℕ) → rows * c ≤ n * c
+  cut-le c = let l = rows-lt in mul-le-mul-right c (omega arith)
+
+  pub row-cut : (c j : ℕ) → j < n * c → (j + rows * c) % (n * c) ≡ turnPosition (By z) n (j / c) * c + j % c
+  row-cut c j h =
+      let p = row-in n c j h in
+      let s : j + rows * c ≡ (j / c + rows) * c + j % c = omega (arith, div-add-mod' j c) in
+      let q : (j + rows * c) / c ≡ j / c + rows = ap (λ k. k / c) s ∙ digits-div (j / c + rows) (mod-lt j (p .0)) in
+      let m : (j + rows * c) % c ≡ j % c = ap (λ k. k % c) s ∙ digits-mod (j / c + rows) (mod-lt j (p .0)) in
+      mod-mul (j + rows * c) some (p .0) ∙ ap₂ (λ x y. x % n * c + y) q m ∙ ap (λ x. x * c + j % c) (rows-turn (j / c))

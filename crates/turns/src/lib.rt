@@ -1,20 +1,22 @@
 // Turning the lines along an axis: reverse and rotate.
 ghost use mathlib.Core.Path.{_≡_};
-ghost use mathlib.Core.List.{_++_};
+ghost use mathlib.Core.List.{List, _++_};
 ghost use mathlib.Core.Bool.{true};
-ghost use Prim.Native.Nat.{_+_, _-_, _*_, _/_, _%_, _≤_, _<_, max};
+ghost use Prim.Native.Nat.{_+_, _*_, _≤_, _<_, max};
 ghost use lib.ListN.{length, drop, getD};
-ghost use lib.IntN.{pos};
-ghost use Rattle.shape.specs.Shape.{count, counted, countOf};
-ghost use Rattle.meaning.specs.Array.{Operand, arrayOf, goodForm, tab, build};
-ghost use Rattle.meaning.specs.Terms.{axis, along};
+ghost use lib.IntN.{ℤ, pos};
+ghost use Rattle.shape.specs.Shape.{count, counted, goodShape};
+ghost use Rattle.meaning.specs.Array.{Operand, arrayOf, tab, build, goodForm};
+ghost use Rattle.meaning.specs.Terms.{along};
+ghost use Rattle.meaning.specs.Primitives.{rotate};
 ghost use Rattle.meaning.specs.Reply.{reply};
-ghost use Rattle.copying.proofs.Runs.{filled};
-ghost use Rattle.copying.proofs.Blocks.{source};
-ghost use Rattle.answer.specs.Answer.{lent, Replied};
-ghost use Rattle.turns.specs.Rows.{turnPosition, turnRow};
+ghost use Rattle.copying.specs.Steps.{filled};
+ghost use Rattle.answer.specs.Answer.{lent, own, Replied};
+ghost use Rattle.turns.specs.Steps.{turnPosition, Turns, Lie, turnedAt, backAt, cutBlocks, Shifts};
 use answer::Answer;
+use answer::refusal;
 use shape::Shape;
+use signed::Found;
 
 // 14, whatever L is: it is not looked at.
 pub fn reverse(g: i32, k: i32, rs: Shape, r: &[i32], out: &mut [i32]) -> Answer
@@ -24,19 +26,16 @@ pub fn reverse(g: i32, k: i32, rs: Shape, r: &[i32], out: &mut [i32]) -> Answer
     if early != 0 {
         return Answer::refused(early);
     }
-    let axes = axes_of(rs);
-    let at = signed::position(k, g, axes);
-    if axes <= at {
-        return Answer::refused(5);
-    }
+    let Found::At(axis) = signed::position(k, g, axes_of(rs)) else {
+        return Answer::refused(refusal::AXIS);
+    };
     let count = rs.count();
-    if out.len() < count {
-        return Answer::refused(10);
+    let late = answer::late(count, out.len());
+    if late != 0 {
+        return Answer::refused(late);
     }
-    turn_into(true, 0, rs, at, count, r, out);
-    let lens = rs.lens;
-    let shape = Shape::of_lengths(rs.rank, lens);
-    Answer { number: 0, shape }
+    turn_into(Turn::Back, rs, axis, count, r, out);
+    Answer::given(rs.as_result())
 }
 
 // 25.
@@ -47,25 +46,32 @@ pub fn rotate(g: i32, k: i32, ls: Shape, l: &[i32], rs: Shape, r: &[i32], out: &
     if early != 0 {
         return Answer::refused(early);
     }
+    let own = rotate_refusal(g, k, ls, l, rs);
+    if own != 0 {
+        return Answer::refused(own);
+    }
+    let count = rs.count();
+    let late = answer::late(count, out.len());
+    if late != 0 {
+        return Answer::refused(late);
+    }
+    let axis = signed::from_zero(k, g);
+    turn_into(Turn::By(l[0]), rs, axis, count, r, out);
+    Answer::given(rs.as_result())
+}
+
+// RANK, AXIS and LENGTH, whatever R's elements are.
+fn rotate_refusal(g: i32, k: i32, ls: Shape, l: &[i32], rs: Shape) -> usize
+    requires { ⌜ (goodForm (lent ls (now l)) ≡ true) × (goodShape rs ≡ true) ⌝ }
+    ensures { λ n. ⌜ ((b : List ℤ) → n ≡ own 25 (rotate g k (arrayOf (lent ls (now (l .entry)))) (arrayOf (lent rs b)) .refusals)) ⌝ }
+{
     if 1 < ls.rank {
-        return Answer::refused(4);
+        return refusal::RANK;
     }
-    let axes = axes_of(rs);
-    let at = signed::position(k, g, axes);
-    if axes <= at {
-        return Answer::refused(5);
-    }
-    if ls.count() != 1 {
-        return Answer::refused(6);
-    }
-    let total = rs.count();
-    if out.len() < total {
-        return Answer::refused(10);
-    }
-    turn_into(false, l[0], rs, at, total, r, out);
-    let lens = rs.lens;
-    let shape = Shape::of_lengths(rs.rank, lens);
-    Answer { number: 0, shape }
+    let Found::At(_) = signed::position(k, g, axes_of(rs)) else {
+        return refusal::AXIS;
+    };
+    if ls.count() == 1 { 0 } else { refusal::LENGTH }
 }
 
 // The axes that K may name: a scalar is read as a vector of one.
@@ -75,12 +81,18 @@ fn axes_of(s: Shape) -> usize
     if s.rank == 0 { 1 } else { s.rank }
 }
 
-// Turns axis k backwards, or by z.
-fn turn_into(back: bool, z: i32, s: Shape, k: usize, total: usize, r: &[i32], out: &mut [i32])
-    requires { ⌜ (goodForm (lent s (now r)) ≡ true) × ((total ≡ countOf s) × ((total ≤ length (now out)) × (k < max 1 (s .rank)))) ⌝ }
+// How the positions of an axis move: backwards, or by an amount.
+enum Turn {
+    Back,
+    By(i32),
+}
+
+// Turns an axis of R, `total` elements in all.
+fn turn_into(turn: Turn, s: Shape, axis: usize, total: usize, r: &[i32], out: &mut [i32])
+    requires { ⌜ Turns s axis total (now r) (length (now out)) ⌝ }
     ensures { λ _.
         ⌜ now (out .exit)
-        ≡ build (counted s) (along (arrayOf (lent s (now (r .entry)))) k (turnPosition back z (axis (arrayOf (lent s (now (r .entry)))) k))) .elements
+        ≡ build (counted s) (along (arrayOf (lent s (now (r .entry)))) axis (turnPosition turn (getD (counted s) axis 0))) .elements
         ++ drop (count (counted s)) (now (out .entry)) ⌝ }
 {
     if s.rank == 0 {
@@ -90,30 +102,29 @@ fn turn_into(back: bool, z: i32, s: Shape, k: usize, total: usize, r: &[i32], ou
     if total == 0 {
         return;
     }
-    let w = s.around(k);
-    let a = signed::amount(z, w.length);
-    turn_blocks(back, r, w.outer, w.length, w.inner, a, out);
+    let w = s.around(axis);
+    turn_blocks(turn, r, w.outer, w.length, w.inner, out);
 }
 
 // Turns the n rows of each block, `inner` elements a row.
-fn turn_blocks(
-    back: bool,
-    r: &[i32],
-    outer: usize,
-    n: usize,
-    inner: usize,
-    a: usize,
-    out: &mut [i32],
-)
-    requires { ⌜ (0 < outer) × ((a < n) × ((outer * n * inner ≤ length (now r)) × (outer * n * inner ≤ length (now out)))) ⌝ }
-    ensures { λ _.
-        ⌜ now (out .exit) ≡ filled (λ j. getD (now (r .entry)) (source n n inner (turnRow back a n) j) (pos 0)) (outer * n * inner) (now (out .entry)) ⌝ }
+fn turn_blocks(turn: Turn, r: &[i32], outer: usize, n: usize, inner: usize, out: &mut [i32])
+    requires { ⌜ (0 < n) × Lie outer (n * inner) (length (now r)) (length (now out)) ⌝ }
+    ensures { λ _. ⌜ now (out .exit) ≡ filled (turnedAt turn (now (r .entry)) n inner) (outer * n * inner) (now (out .entry)) ⌝ }
+{
+    match turn {
+        Turn::Back => reverse_blocks(r, outer, n, inner, out),
+        Turn::By(z) => {
+            let rows = signed::modulo(z, n);
+            rotate_groups(r, outer, n * inner, rows * inner, out);
+        }
+    }
+}
+
+fn reverse_blocks(r: &[i32], outer: usize, n: usize, inner: usize, out: &mut [i32])
+    requires { ⌜ Lie outer (n * inner) (length (now r)) (length (now out)) ⌝ }
+    ensures { λ _. ⌜ now (out .exit) ≡ filled (turnedAt Turn.Back (now (r .entry)) n inner) (outer * n * inner) (now (out .entry)) ⌝ }
 {
     let size = n * inner;
-    if !back {
-        rotate_groups(r, outer, size, a * inner, out);
-        return;
-    }
     let mut at = 0;
     let mut o = 0;
     while o < outer {
@@ -140,15 +151,14 @@ fn blocks_in_group(size: usize) -> usize
 
 // By groups of blocks, the last of which may be smaller.
 fn rotate_groups(r: &[i32], outer: usize, size: usize, cut: usize, out: &mut [i32])
-    requires { ⌜ (0 < outer) × ((cut ≤ size) × ((outer * size ≤ length (now r)) × (outer * size ≤ length (now out)))) ⌝ }
-    ensures { λ _.
-        ⌜ now (out .exit) ≡ filled (λ j. getD (now (r .entry)) (j / size * size + (j % size + cut) % size) (pos 0)) (outer * size) (now (out .entry)) ⌝ }
+    requires { ⌜ (cut ≤ size) × Lie outer size (length (now r)) (length (now out)) ⌝ }
+    ensures { λ _. ⌜ now (out .exit) ≡ filled (cutBlocks (now (r .entry)) size cut) (outer * size) (now (out .entry)) ⌝ }
 {
     let group = blocks_in_group(size);
     let mut at = 0;
     let mut o = 0;
     while o < outer {
-        let some = copying::fewer(group, outer - o);
+        let some = copying::min(group, outer - o);
         let end = at + some * size;
         rotate_group(&r[at..end], some, size, cut, &mut out[at..end]);
         at = end;
@@ -158,57 +168,46 @@ fn rotate_groups(r: &[i32], outer: usize, size: usize, cut: usize, out: &mut [i3
 
 // A group of blocks is shifted as a whole by the shorter part of a block: one run, and then that part of each block.
 fn rotate_group(r: &[i32], outer: usize, size: usize, cut: usize, out: &mut [i32])
-    requires { ⌜ (0 < outer) × ((cut ≤ size) × ((outer * size ≤ length (now r)) × (outer * size ≤ length (now out)))) ⌝ }
-    ensures { λ _.
-        ⌜ now (out .exit) ≡ filled (λ j. getD (now (r .entry)) (j / size * size + (j % size + cut) % size) (pos 0)) (outer * size) (now (out .entry)) ⌝ }
+    requires { ⌜ (cut ≤ size) × Lie outer size (length (now r)) (length (now out)) ⌝ }
+    ensures { λ _. ⌜ now (out .exit) ≡ filled (cutBlocks (now (r .entry)) size cut) (outer * size) (now (out .entry)) ⌝ }
 {
     let rest = size - cut;
     if cut <= rest {
-        shift_down(r, outer, size, cut, out);
+        shift(r, outer, size, cut, 0, 0, rest, out);
     } else {
-        shift_up(r, outer, size, rest, out);
+        shift(r, outer, size, 0, rest, cut, 0, out);
     }
 }
 
-// What stands from the cut on goes down to the front of each block, and then what stands before it to the end of each.
-fn shift_down(r: &[i32], outer: usize, size: usize, cut: usize, out: &mut [i32])
-    requires { ⌜ (0 < outer) × ((cut ≤ size) × ((outer * size ≤ length (now r)) × (outer * size ≤ length (now out)))) ⌝ }
-    ensures { λ _.
-        ⌜ now (out .exit) ≡ filled (λ j. getD (now (r .entry)) (j / size * size + (j % size + cut) % size) (pos 0)) (outer * size) (now (out .entry)) ⌝ }
+// All goes down by `from` or up by `to`, of which one is 0. Then the part of each block that the run has not brought, from `before` on to `after`:
+// what stands before the cut goes to the block's end, or what stands from the cut on to its front.
+fn shift(
+    r: &[i32],
+    outer: usize,
+    size: usize,
+    from: usize,
+    to: usize,
+    before: usize,
+    after: usize,
+    out: &mut [i32],
+)
+    requires { ⌜ Shifts size from to before after × Lie outer size (length (now r)) (length (now out)) ⌝ }
+    ensures { λ _. ⌜ now (out .exit) ≡ filled (cutBlocks (now (r .entry)) size (from + before)) (outer * size) (now (out .entry)) ⌝ }
 {
-    let total = outer * size;
-    let seam = total - cut;
-    copying::copy_run(&r[cut..total], &mut out[0..seam]);
+    let part = from + to;
+    let run = outer * size - part;
+    let stop = from + run;
+    let end = to + run;
+    copying::copy_run(&r[from..stop], &mut out[to..end]);
     let mut at = 0;
     let mut o = 0;
     while o < outer {
-        let stop = at + cut;
-        let end = at + size;
-        let from = end - cut;
-        copying::copy_run(&r[at..stop], &mut out[from..end]);
-        at = end;
-        o += 1;
-    }
-}
-
-// The other way round: what stands before the cut goes up, and then what stands from it on to the front of each.
-fn shift_up(r: &[i32], outer: usize, size: usize, rest: usize, out: &mut [i32])
-    requires { ⌜ (0 < outer) × ((rest ≤ size) × ((outer * size ≤ length (now r)) × (outer * size ≤ length (now out)))) ⌝ }
-    ensures { λ _.
-        ⌜ now (out .exit)
-        ≡ filled (λ j. getD (now (r .entry)) (j / size * size + (j % size + (size - rest)) % size) (pos 0)) (outer * size) (now (out .entry)) ⌝ }
-{
-    let total = outer * size;
-    let seam = total - rest;
-    copying::copy_run(&r[0..seam], &mut out[rest..total]);
-    let mut at = 0;
-    let mut o = 0;
-    while o < outer {
-        let stop = at + size;
-        let from = stop - rest;
-        let end = at + rest;
-        copying::copy_run(&r[from..stop], &mut out[at..end]);
-        at = stop;
+        let source = at + before;
+        let target = at + after;
+        let source_end = source + part;
+        let target_end = target + part;
+        copying::copy_run(&r[source..source_end], &mut out[target..target_end]);
+        at += size;
         o += 1;
     }
 }
@@ -216,7 +215,7 @@ fn shift_up(r: &[i32], outer: usize, size: usize, rest: usize, out: &mut [i32])
 // A row of one element makes a line that is reversed as a whole.
 fn reverse_block(r: &[i32], n: usize, inner: usize, out: &mut [i32])
     requires { ⌜ (length (now r) ≡ n * inner) × (length (now out) ≡ n * inner) ⌝ }
-    ensures { λ _. ⌜ now (out .exit) ≡ tab (n * inner) (λ j. getD (now (r .entry)) ((n - 1 - j / inner) * inner + j % inner) (pos 0)) ⌝ }
+    ensures { λ _. ⌜ now (out .exit) ≡ tab (n * inner) (backAt (now (r .entry)) n inner) ⌝ }
 {
     if inner == 1 {
         copying::reverse_run(r, out);
@@ -227,14 +226,14 @@ fn reverse_block(r: &[i32], n: usize, inner: usize, out: &mut [i32])
 
 fn reverse_rows(r: &[i32], n: usize, inner: usize, out: &mut [i32])
     requires { ⌜ (length (now r) ≡ n * inner) × (length (now out) ≡ n * inner) ⌝ }
-    ensures { λ _. ⌜ now (out .exit) ≡ tab (n * inner) (λ j. getD (now (r .entry)) ((n - 1 - j / inner) * inner + j % inner) (pos 0)) ⌝ }
+    ensures { λ _. ⌜ now (out .exit) ≡ tab (n * inner) (backAt (now (r .entry)) n inner) ⌝ }
 {
     let mut to = 0;
     let mut i = n;
     while 0 < i {
         i -= 1;
         // No end is past r's. Without this test the compiler sees rows go backwards, and moves one element at a time.
-        let from = copying::fewer(i * inner, r.len());
+        let from = copying::min(i * inner, r.len());
         let stop = from + inner;
         let end = to + inner;
         copying::copy_row(&r[from..stop], &mut out[to..end]);

@@ -1,93 +1,105 @@
-use mathlib.Core.Path.{_≡_, refl, sym, ap, _∙_}
-use mathlib.Core.Bool.{true}
+use mathlib.Core.Path.{_≡_, sym, ap, _∙_}
 use native.Mathlib.Omega.{arith}
 use lib.ListN.{length}
-use lib.IntN.{_-ℤ_, natAbs}
-use Rattle.shape.specs.Shape.{maxRank, shapeOf}
-use Rattle.shape.proofs.Made.{made-is}
-use Rattle.signed.proofs.Reading.{read32, read-position}
-use Rattle.meaning.specs.Array.{arrayOf, goodForm}
-use Rattle.meaning.specs.Terms.{rank, asVector, within}
-use Rattle.meaning.specs.Primitives.{reverse}
-use Rattle.meaning.proofs.Positions.{positionOf, position-lt, position-none}
-use Rattle.answer.specs.Answer.{lent, early}
-use Rattle.answer.proofs.Order.{early-reply, own-reply, space-reply, given-reply, replied-refused, replied-given}
-use Rattle.answer.proofs.Lent.{FineOne, fine-one}
-use Rattle.turns.proofs.Axes.{axes-are}
-use Rattle.turns.proofs.Reversal.{reverse-names, reverse-axis, reverse-none, reverse-rule, reverse-lengths, reverse-out}
 use borrow.Author.Needs.{needs}
+use Rattle.shape.specs.Shape.{maxRank}
+use Rattle.signed.proofs.Reading.{read32}
+use Rattle.signed.proofs.Finding.{foundOf, read-found, IsAt, found-at, found-none}
+use Rattle.meaning.specs.Array.{Operand, arrayOf, goodForm}
+use Rattle.meaning.specs.Terms.{rank, asVector}
+use Rattle.meaning.specs.Primitives.{reverse}
+use Rattle.answer.specs.Answer.{lent, early}
+use Rattle.answer.proofs.Order.{early-replied, own-replied, Ready, as-result, late-replied, given-replied, Roomy, late-fine}
+use Rattle.answer.proofs.Lent.{FineOne, fine-one}
+use Rattle.turns.proofs.Calls.{axes-are, reverse-names, reverse-own, reverse-stands, reverse-out}
 use Rattle.turns.proofs.reverse.Statement.{statement}
 use Rattle.turns.proofs.reverse.Tie as tie
 
--- FORM and ORIGIN, and what is known of R where neither was met.
-early-is : (c : tie.After-early-one) → c .early-one .result ≡ early (goodForm (lent (c .before .args .rs) (c .before .args .r .now))) (c .before .args .g)
+abbrev right : tie.Start → Operand
+right st = lent (st .args .rs) (st .args .r .now)
+
+-- FORM and ORIGIN, and what is known where neither was met.
+early-is : (c : tie.After-early-one) → c .early-one .result ≡ early (goodForm (right (c .before))) (c .before .args .g)
 early-is c = c .early-one .ensures ∙ ap (early _) (read32 _ (c .before .fits .g))
 
 fine : (c : tie.Else1) → FineOne (c .before .before .args .g) (c .before .before .args .rs) (c .before .before .args .r .now)
 fine c =
     let long : length (c .before .before .args .rs .lens) ≡ maxRank = search needs in
-    fine-one (c .before .before .args .g) (c .before .before .args .rs) (c .before .before .args .r .now) long (sym (early-is (c .before)) ∙ c .if1 .left)
+    fine-one _ _ _ long (sym (early-is (c .before)) ∙ c .if1 .left)
 
--- Where the axis is.
-position-is : (c : tie.After-position) → c .position .result ≡ positionOf (c .before .before .before .before .args .k -ℤ c .before .before .before .before .args .g) (c .before .axes-of .result)
-position-is c =
-    let st = c .before .before .before .before in
-    c .position .ensures ∙ read-position (c .before .axes-of .result) _ _ (st .fits .k) (st .fits .g)
+-- AXIS, and the axis that was found.
+abbrev asked : tie.After-position → tie.Else1
+asked c = c .before .before
 
-named : (c : tie.Else2) → (within (c .before .before .before .before .before .args .k -ℤ c .before .before .before .before .before .args .g) (rank (asVector (arrayOf (lent (c .before .before .before .before .before .args .rs) (c .before .before .before .before .before .args .r .now))))) ≡ true)
-    × (c .before .position .result ≡ natAbs (c .before .before .before .before .before .args .k -ℤ c .before .before .before .before .before .args .g))
-named c =
-    let st = c .before .before .before .before .before in
-    position-lt _ _ _ _ (axes-are (st .args .rs) (st .args .r .now) (fine (c .before .before .before) .operand) _ (c .before .before .axes-of .ensures)) (position-is (c .before)) (omega arith)
+abbrev start : tie.After-position → tie.Start
+start c = asked c .before .before
+
+found : (c : tie.After-position) → c .position .result ≡ foundOf (start c .args .k) (start c .args .g) (c .before .axes-of .result)
+found c = c .position .ensures ∙ read-found _ _ (start c .fits .k) (start c .fits .g) _
+
+axes : (c : tie.After-position) → rank (asVector (arrayOf (right (start c)))) ≡ c .before .axes-of .result
+axes c = axes-are (start c .args .rs) (start c .args .r .now) (fine (asked c) .operand .rank-is) (c .before .axes-of .ensures)
+
+abbrev searched : tie.After-known-told → tie.After-position
+searched c = c .before .before .before
+
+axis-is : (c : tie.After-known-told)
+    → IsAt (start (searched c) .args .k) (start (searched c) .args .g) (searched c .before .axes-of .result) (c .before .axis .given .0 .0)
+axis-is c = found-at _ _ _ _ (sym (c .before .axis .given .1) ∙ found (searched c))
+
+ready : (c : tie.After-known-told) (L : Operand)
+    → let st = start (searched c) in
+    Ready 14 1 (st .args .g) (st .args .k) L (right st) (reverse (st .args .g) (st .args .k) (arrayOf (right st))) (st .args .rs)
+ready c L =
+    let p = searched c in
+    let f = fine (asked p) in
+    record {
+      names = reverse-names _ _ _ _;
+      fine = f .none;
+      none = reverse-own _ _ L (right (start p)) _ (axes p) ∙ rw (axis-is c .inside);
+      stands = reverse-stands _ _ (f .operand);
+    }
+
+-- LIMIT and SPACE.
+abbrev placed : tie.After-late → tie.After-known-told
+placed c = c .before .before
+
+roomy : (c : tie.Else2) → let st = start (searched (placed (c .before))) in Roomy (st .args .rs) (length (st .args .out .now))
+roomy c = late-fine _ (c .before .late .ensures) (c .before .before .count .ensures) (c .if2 .left)
 
 returns : tie.Need-returns
-returns c L =
-    let st = c .before .before .before in
-    replied-refused (c .refused .result) _ (st .args .out .now) (c .refused .ensures)
-    (early-reply (reverse-names (st .args .g) (st .args .k) L (lent (st .args .rs) (st .args .r .now))) (st .args .out .now) _ (early-is (c .before .before)) (c .before .if1 .taken))
+returns c L = early-replied (reverse-names _ _ _ _) _ (early-is (c .before .before)) (c .before .if1 .taken) (c .refused .ensures)
 
 returns-2 : tie.Need-returns-2
 returns-2 c L =
-    let st = c .before .before .before .before .before .before in
-    let e = c .before .before .before .before in
-    let a = arrayOf (lent (st .args .rs) (st .args .r .now)) in
-    replied-refused (c .refused2 .result) 5 (st .args .out .now) (c .refused2 .ensures)
-    (own-reply (reverse-names (st .args .g) (st .args .k) L (lent (st .args .rs) (st .args .r .now))) (st .args .out .now) (fine e .none) 5
-    (reverse-axis (st .args .g) (st .args .k) a
-    (position-none _ _ _ _ (axes-are (st .args .rs) (st .args .r .now) (fine e .operand) _ (c .before .before .before .axes-of .ensures)) (position-is (c .before .before)) (omega arith)))
-    (λ z. omega arith))
+    let p = c .before .before .before in
+    let f = fine (asked p) in
+    let w = found-none (start p .args .k) (start p .args .g) (p .before .axes-of .result) (sym (c .before .enum-told .given .1) ∙ found p) in
+    own-replied (reverse-names _ _ _ _) _ (f .none)
+    (sym (reverse-own _ _ L (right (start p)) _ (axes p) ∙ rw w)) (λ z. omega arith) (c .refused2 .ensures)
 
 returns-3 : tie.Need-returns-3
 returns-3 c L =
-    let e2 = c .before .before .before in
-    let st = e2 .before .before .before .before .before in
-    let e = e2 .before .before .before in
-    let a = arrayOf (lent (st .args .rs) (st .args .r .now)) in
-    replied-refused (c .refused3 .result) 10 (st .args .out .now) (c .refused3 .ensures)
-    (space-reply (reverse-names (st .args .g) (st .args .k) L (lent (st .args .rs) (st .args .r .now))) (st .args .out .now) (fine e .none)
-    (reverse-none (st .args .g) (st .args .k) a (named e2 .0)) (reverse-rule (st .args .g) (st .args .k) a (fine e .operand .rule))
-    (rw (reverse-lengths (st .args .g) (st .args .k) a) (omega (arith, fine e .operand .count-is, c .before .before .count .ensures))))
+    let l =
+    c .before .before in late-replied (ready (placed l) L) _ (l .late .ensures) (l .before .count .ensures) (c .before .if2 .taken) (c .refused3 .ensures)
 
 turn-into-requires : tie.Need-turn-into-requires
 turn-into-requires c κs =
-    let e2 = c .before .before .before in
-    let e = e2 .before .before .before in
-    (fine e .operand .form, (c .before .before .count .ensures, (omega arith, omega (arith, e2 .before .before .axes-of .ensures))))
+    let l = c .before .before in
+    record {
+      form = fine (asked (searched (placed l))) .operand .form;
+      count-is = l .before .count .ensures;
+      space = omega (arith, roomy (c .before) .space, l .before .count .ensures);
+      has = omega (arith, axis-is (placed l) .below, searched (placed l) .before .axes-of .ensures);
+    }
 
 returns-4 : tie.Need-returns-4
 returns-4 c L =
-    let e2 = c .before .before .before .before .before .before .before in
-    let st = e2 .before .before .before .before .before in
-    let e = e2 .before .before .before in
-    let g = fine e .operand in
-    let a = arrayOf (lent (st .args .rs) (st .args .r .now)) in
-    let m = reverse (st .args .g) (st .args .k) a in
-    let t = c .before .before .before .before .before .before .count .ensures in
-    replied-given _ m (st .args .out .now) _ (ap (λ z. record { number = 0; shape = z }) (c .of-lengths .ensures ∙ made-is _ _ _ (g .high) refl ∙ sym (ap shapeOf (reverse-lengths (st .args .g) (st .args .k) a))))
-    (reverse-out (st .args .g) (st .args .k) a _ _ (named e2 .1) (st .args .out .now) _ (c .before .before .before .turn-into .ensures))
-    (given-reply (reverse-names (st .args .g) (st .args .k) L (lent (st .args .rs) (st .args .r .now))) (st .args .out .now) (fine e .none)
-    (reverse-none (st .args .g) (st .args .k) a (named e2 .0)) (reverse-rule (st .args .g) (st .args .k) a (g .rule))
-    (rw (reverse-lengths (st .args .g) (st .args .k) a) (omega (arith, g .count-is, t))))
+    let t = c .before .before .before in
+    let l = t .before .before .before in
+    given-replied (ready (placed l) L) _ (l .late .ensures) (l .before .count .ensures) (t .before .before .if2 .left)
+    (as-result (ready (placed l) L) (roomy (t .before .before) .good) (c .before .as-result .ensures) (c .given .ensures))
+    (t .turn-into .ensures ∙ reverse-out _ _ _ _ (axis-is (placed l) .is) _)
 
 pub reverse-spec : {M : Type 1} → statement M
 reverse-spec =
@@ -98,12 +110,16 @@ reverse-spec =
     returns
     (λ c κs. search needs)
     (λ c κs. search needs)
+    (λ c. search needs)
+    (λ c. search needs)
     (λ c κs. search needs)
     returns-2
     (λ c κs. search needs)
     (λ c κs. search needs)
+    (λ c κs. search needs)
     returns-3
     turn-into-requires
+    (λ c κs. search needs)
     (λ c κs. search needs)
     (λ c. search needs)
     returns-4)

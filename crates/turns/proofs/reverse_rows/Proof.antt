@@ -7,7 +7,8 @@ use lib.ListN.{length, getD}
 use lib.IntN.{ℤ, pos}
 use borrow.Author.Needs.{needs}
 use borrow.Rule.Slice.PartMut.{same-len-mid}
-use Rattle.copying.proofs.Runs.{filled, filled-none, filled-whole, put-copied}
+use Rattle.copying.proofs.Runs.{filled-none, filled-whole, put-copied}
+use Rattle.copying.specs.Steps.{filled}
 use Rattle.turns.proofs.Rows.{row-before, reversed-row}
 use Rattle.turns.proofs.reverse_rows.Statement.{statement}
 use Rattle.turns.proofs.reverse_rows.Tie as tie
@@ -22,18 +23,19 @@ Inv-loop r n inner out₀ to₀ i₀ out to i = (i ≤ n) × ((to + i * inner �
 abbrev μ-loop : tie.MeasureT-loop
 μ-loop r n inner out₀ to₀ i₀ out to i = i
 
-row : (c : tie.In-loop Inv-loop μ-loop) → c .before .loop .i * c .before .before .args .inner ≡ (c .before .loop .i - 1) * c .before .before .args .inner + c .before .before .args .inner
+row : (c : tie.In-loop Inv-loop μ-loop) → c .before .loop .i * c .before .before .args .inner
+    ≡ (c .before .loop .i - 1) * c .before .before .args .inner + c .before .before .args .inner
 row c = row-before (c .before .loop .i) (c .before .before .args .inner) (omega arith)
 
 -- Where the row starts.
-from-is : (c : tie.After-fewer Inv-loop μ-loop) → c .fewer .result ≡ (c .before .before .loop .i - 1) * c .before .before .before .args .inner
-from-is c = c .fewer .ensures ∙ min-eq-left (omega (arith, row (c .before)))
+from-is : (c : tie.After-min Inv-loop μ-loop) → c .min .result ≡ (c .before .before .loop .i - 1) * c .before .before .before .args .inner
+from-is c = c .min .ensures ∙ min-eq-left (omega (arith, row (c .before)))
 
 loop-holds : tie.Need-loop-holds Inv-loop μ-loop
 loop-holds c = (omega arith, (omega arith, (refl, filled-none _ _)))
 
-mul-fewer : tie.Need-mul-fewer Inv-loop μ-loop
-mul-fewer c = omega (arith, row c)
+mul-min : tie.Need-mul-min Inv-loop μ-loop
+mul-min c = omega (arith, row c)
 
 add-stop : tie.Need-add-stop Inv-loop μ-loop
 add-stop c = omega (arith, from-is c, row (c .before))
@@ -69,7 +71,7 @@ loop-again : tie.Need-loop-again Inv-loop μ-loop
 loop-again c =
     let st = c .before .before .before .before .before .before .before in
     let lp = c .before .before .before .before .before .before .loop in
-    let from : ℕ = c .before .before .before .before .fewer .result in
+    let from : ℕ = c .before .before .before .before .min .result in
     let e = row (c .before .before .before .before .before) in
     let q : from ≡ (lp .i - 1) * st .args .inner = from-is (c .before .before .before .before) in
     let r = st .args .r .now in
@@ -78,10 +80,12 @@ loop-again c =
       (
         omega arith,
         (
-          same-len-mid (lp .to) (lp .to + st .args .inner - lp .to) (lp .out) (c .before .copy-row .last .1 .0) (c .before .copy-row .kept .1 .0) ∙ lp .inv .1 .1 .0,
+          same-len-mid (lp .to) (lp .to + st .args .inner - lp .to) (lp .out) (c .before .copy-row .last .1 .0) (c .before .copy-row .kept .1 .0)
+              ∙ lp .inv .1 .1 .0,
           put-copied (element r (st .args .n) (st .args .inner)) (lp .to) (st .args .inner) _ (lp .out) out₀ _ (lp .inv .1 .1 .1) refl (omega arith) r
               from (from + st .args .inner) (pos 0) refl (omega arith)
-              (λ x b. ap (λ k. getD r k (pos 0)) (reversed-row (st .args .n) (st .args .inner) (lp .i) (lp .to) x (omega arith) (lp .inv .0) (lp .inv .1 .0) b ∙ ap (λ k. k + x) (sym q)))
+              (λ x b. ap (λ k. getD r k (pos 0)) (reversed-row (st .args .n) (st .args .inner) (lp .i) (lp .to) x (omega arith) (lp .inv .0) (lp .inv .1 .0) b
+              ∙ ap (λ k. k + x) (sym q)))
               (c .before .copy-row .ensures),
         ),
       ),
@@ -105,7 +109,7 @@ reverse-rows-spec =
     μ-loop
     loop-holds
     (λ c. search needs)
-    mul-fewer
+    mul-min
     (λ c κs. search needs)
     add-stop
     add-end

@@ -1,28 +1,31 @@
-use mathlib.Core.Path.{_≡_, refl, sym, ap, _∙_}
-use mathlib.Core.Bool.{true, _&&_}
+use mathlib.Core.Path.{_≡_, refl, sym, ap, ap₂, _∙_}
+use mathlib.Core.Bool.{_&&_}
 use native.Mathlib.Omega.{arith}
 use lib.ListN.{length}
-use lib.IntN.{_-ℤ_, natAbs}
 use borrow.Author.Needs.{needs, sfits-of}
 use mir.Facts.{toZ-ofZ}
-use Rattle.shape.specs.Shape.{maxRank, shapeOf}
-use Rattle.shape.proofs.Made.{made-is}
-use Rattle.signed.proofs.Reading.{read32, read-position}
-use Rattle.meaning.specs.Array.{arrayOf, goodForm}
-use Rattle.meaning.specs.Terms.{rank, asVector, isList, within}
+use Rattle.shape.specs.Shape.{maxRank, countOf}
+use Rattle.signed.proofs.Reading.{read32}
+use Rattle.signed.proofs.Finding.{read-from-zero}
+use Rattle.meaning.specs.Array.{Operand, arrayOf, goodForm}
+use Rattle.meaning.specs.Terms.{fromZero}
 use Rattle.meaning.specs.Primitives.{rotate}
-use Rattle.meaning.proofs.Positions.{positionOf, position-lt, position-none}
-use Rattle.answer.specs.Answer.{lent, early}
-use Rattle.answer.proofs.Order.{early-reply, own-reply, space-reply, given-reply, replied-refused, replied-given}
-use Rattle.answer.proofs.Lent.{FineTwo, fine-two}
-use Rattle.turns.proofs.Axes.{axes-are}
-use Rattle.turns.proofs.Rotation.{rotate-names, rotate-rank, rotate-axis, rotate-length, rotate-none, rotate-rule, rotate-lengths, rotate-out, list-yes, list-no, one-yes, one-no, amount-at}
+use Rattle.answer.specs.Answer.{lent, early, own}
+use Rattle.answer.proofs.Order.{early-replied, own-replied, Ready, as-result, late-replied, given-replied, Roomy, late-fine}
+use Rattle.answer.proofs.Lent.{FineTwo, fine-two, element-at}
+use Rattle.meaning.proofs.Positions.{within-below}
+use Rattle.turns.proofs.Calls.{axes-are, rotate-names, rotate-stands, Rotates, rotates, rotate-out}
 use Rattle.turns.proofs.rotate.Statement.{statement}
 use Rattle.turns.proofs.rotate.Tie as tie
 
--- FORM and ORIGIN, and what is known of L and R where neither was met.
-early-is : (c : tie.After-early-two)
-    → c .early-two .result ≡ early (goodForm (lent (c .before .args .ls) (c .before .args .l .now)) && goodForm (lent (c .before .args .rs) (c .before .args .r .now))) (c .before .args .g)
+abbrev left : tie.Start → Operand
+left st = lent (st .args .ls) (st .args .l .now)
+
+abbrev right : tie.Start → Operand
+right st = lent (st .args .rs) (st .args .r .now)
+
+-- FORM and ORIGIN, and what is known where neither was met.
+early-is : (c : tie.After-early-two) → c .early-two .result ≡ early (goodForm (left (c .before)) && goodForm (right (c .before))) (c .before .args .g)
 early-is c = c .early-two .ensures ∙ ap (early _) (read32 _ (c .before .fits .g))
 
 fine : (c : tie.Else1) → let st = c .before .before in FineTwo (st .args .g) (st .args .ls) (st .args .l .now) (st .args .rs) (st .args .r .now)
@@ -30,105 +33,92 @@ fine c =
     let st = c .before .before in
     let ll : length (st .args .ls .lens) ≡ maxRank = search needs in
     let rl : length (st .args .rs .lens) ≡ maxRank = search needs in
-    fine-two (st .args .g) (st .args .ls) (st .args .l .now) (st .args .rs) (st .args .r .now) ll rl (sym (early-is (c .before)) ∙ c .if1 .left)
+    fine-two _ _ _ _ _ ll rl (sym (early-is (c .before)) ∙ c .if1 .left)
 
--- L is a list.
-list : (c : tie.Else2) → isList (arrayOf (lent (c .before .before .before .before .args .ls) (c .before .before .before .before .args .l .now))) ≡ true
-list c = list-yes _ _ (fine (c .before .before) .left) (omega arith)
+-- RANK, AXIS and LENGTH.
+abbrev start : tie.After-rotate-refusal → tie.Start
+start c = c .before .before .before
 
--- Where the axis is.
-position-is : (c : tie.After-position) → c .position .result ≡ positionOf (c .before .before .before .before .before .before .args .k -ℤ c .before .before .before .before .before .before .args .g) (c .before .axes-of .result)
-position-is c =
-    let st = c .before .before .before .before .before .before in
-    c .position .ensures ∙ read-position (c .before .axes-of .result) _ _ (st .fits .k) (st .fits .g)
+own-is : (c : tie.After-rotate-refusal)
+    → let st = start c in
+    c .rotate-refusal .result ≡ own 25 (rotate (st .args .g) (st .args .k) (arrayOf (left st)) (arrayOf (right st)) .refusals)
+own-is c =
+    let st = start c in
+    c .rotate-refusal .ensures (st .args .r .now)
+    ∙ ap₂ (λ g k. own 25 (rotate g k (arrayOf (left st)) (arrayOf (right st)) .refusals)) (read32 _ (st .fits .g)) (read32 _ (st .fits .k))
 
-named : (c : tie.Else3) → (within (c .before .before .before .before .before .before .before .args .k -ℤ c .before .before .before .before .before .before .before .args .g) (rank (asVector (arrayOf (lent (c .before .before .before .before .before .before .before .args .rs) (c .before .before .before .before .before .before .before .args .r .now))))) ≡ true)
-    × (c .before .position .result ≡ natAbs (c .before .before .before .before .before .before .before .args .k -ℤ c .before .before .before .before .before .before .before .args .g))
-named c =
-    let st = c .before .before .before .before .before .before .before in
-    position-lt _ _ _ _ (axes-are (st .args .rs) (st .args .r .now) (fine (c .before .before .before .before .before) .right) _ (c .before .before .axes-of .ensures)) (position-is (c .before)) (omega arith)
+ready : (c : tie.Else2)
+    → let st = start (c .before) in
+    Ready 25 2 (st .args .g) (st .args .k) (left st) (right st) (rotate (st .args .g) (st .args .k) (arrayOf (left st)) (arrayOf (right st))) (st .args .rs)
+ready c =
+    let f = fine (c .before .before) in
+    record {
+      names = rotate-names _ _ _ _;
+      fine = f .none;
+      none = sym (own-is (c .before)) ∙ c .if2 .left;
+      stands = rotate-stands _ _ (f .right) _;
+    }
+
+known : (c : tie.Else2) → let st = start (c .before) in Rotates (st .args .g) (st .args .k) (arrayOf (left st)) (arrayOf (right st))
+known c = let st = start (c .before) in rotates _ _ (left st) (right st) (ready c .none)
+
+-- L's count.
+one : (c : tie.Else2) → countOf (start (c .before) .args .ls) ≡ 1
+one c = let g = fine (c .before .before) .left in g .count-is ∙ sym (g .whole) ∙ known c .one
+
+-- LIMIT and SPACE.
+roomy : (c : tie.Else3) → let st = start (c .before .before .before .before) in Roomy (st .args .rs) (length (st .args .out .now))
+roomy c = late-fine _ (c .before .late .ensures) (c .before .before .count .ensures) (c .if3 .left)
 
 returns : tie.Need-returns
-returns c =
-    let st = c .before .before .before in
-    replied-refused (c .refused .result) _ (st .args .out .now) (c .refused .ensures)
-    (early-reply (rotate-names (st .args .g) (st .args .k) (lent (st .args .ls) (st .args .l .now)) (lent (st .args .rs) (st .args .r .now))) (st .args .out .now) _ (early-is (c .before .before)) (c .before .if1 .taken))
+returns c = early-replied (rotate-names _ _ _ _) _ (early-is (c .before .before)) (c .before .if1 .taken) (c .refused .ensures)
 
 returns-2 : tie.Need-returns-2
 returns-2 c =
-    let e = c .before .before .before in
-    let st = e .before .before in
-    replied-refused (c .refused2 .result) 4 (st .args .out .now) (c .refused2 .ensures)
-    (own-reply (rotate-names (st .args .g) (st .args .k) (lent (st .args .ls) (st .args .l .now)) (lent (st .args .rs) (st .args .r .now))) (st .args .out .now) (fine e .none) 4
-    (rotate-rank (st .args .g) (st .args .k) _ _ (list-no _ _ (fine e .left) (omega arith))) (λ z. omega arith))
+    let o = c .before .before in
+    own-replied (rotate-names _ _ _ _) _ (fine (o .before) .none) (own-is o) (c .before .if2 .taken) (c .refused2 .ensures)
 
 returns-3 : tie.Need-returns-3
 returns-3 c =
-    let e2 = c .before .before .before .before in
-    let e = e2 .before .before in
-    let st = e .before .before in
-    replied-refused (c .refused3 .result) 5 (st .args .out .now) (c .refused3 .ensures)
-    (own-reply (rotate-names (st .args .g) (st .args .k) (lent (st .args .ls) (st .args .l .now)) (lent (st .args .rs) (st .args .r .now))) (st .args .out .now) (fine e .none) 5
-    (rotate-axis (st .args .g) (st .args .k) _ _ (list e2)
-    (position-none _ _ _ _ (axes-are (st .args .rs) (st .args .r .now) (fine e .right) _ (c .before .before .before .axes-of .ensures)) (position-is (c .before .before)) (omega arith)))
-    (λ z. omega arith))
+    let l =
+    c .before .before in late-replied (ready (l .before .before)) _ (l .late .ensures) (l .before .count .ensures) (c .before .if3 .taken)
+    (c .refused3 .ensures)
 
-returns-4 : tie.Need-returns-4
-returns-4 c =
-    let e3 = c .before .before .before in
-    let e2 = e3 .before .before .before in
-    let e = e2 .before .before in
-    let st = e .before .before in
-    replied-refused (c .refused4 .result) 6 (st .args .out .now) (c .refused4 .ensures)
-    (own-reply (rotate-names (st .args .g) (st .args .k) (lent (st .args .ls) (st .args .l .now)) (lent (st .args .rs) (st .args .r .now))) (st .args .out .now) (fine e .none) 6
-    (rotate-length (st .args .g) (st .args .k) _ _ (list e2) (named e3 .0) (one-no _ _ (fine e .left) (λ z. c .before .if4 .taken (c .before .before .count .ensures ∙ z))))
-    (λ z. omega arith))
+shared-slice-copy-out : tie.Need-shared-slice-copy-out-t17
+shared-slice-copy-out c =
+    let e = c .before .before .before .before in
+    let g = fine (e .before .before) .left in
+    omega (arith, g .room, g .count-is, one e)
 
-returns-5 : tie.Need-returns-5
-returns-5 c =
-    let e4 = c .before .before .before in
-    let e3 = e4 .before .before in
-    let e2 = e3 .before .before .before in
-    let e = e2 .before .before in
-    let st = e .before .before in
-    let a = arrayOf (lent (st .args .rs) (st .args .r .now)) in
-    replied-refused (c .refused5 .result) 10 (st .args .out .now) (c .refused5 .ensures)
-    (space-reply (rotate-names (st .args .g) (st .args .k) (lent (st .args .ls) (st .args .l .now)) (lent (st .args .rs) (st .args .r .now))) (st .args .out .now) (fine e .none)
-    (rotate-none (st .args .g) (st .args .k) _ _ (list e2) (named e3 .0) (one-yes _ _ (fine e .left) (sym (e4 .before .count .ensures) ∙ e4 .if4 .left)))
-    (rotate-rule (st .args .g) (st .args .k) _ a (fine e .right .rule))
-    (rw (rotate-lengths (st .args .g) (st .args .k) (arrayOf (lent (st .args .ls) (st .args .l .now))) a) (omega (arith, fine e .right .count-is, c .before .before .count2 .ensures))))
-
-shared-slice-copy-out-turn-into : tie.Need-shared-slice-copy-out-turn-into
-shared-slice-copy-out-turn-into c =
-    let e4 = c .before .before in
-    let e = e4 .before .before .before .before .before .before .before in
-    let g = fine e .left in
-    omega (arith, g .room, g .count-is, e4 .before .count .ensures)
+-- The axis that K names.
+axis-is : (c : tie.After-from-zero)
+    → let st = start (c .before .before .before .before .before) in c .from-zero .result ≡ fromZero (st .args .g) (st .args .k)
+axis-is c = let st = start (c .before .before .before .before .before) in c .from-zero .ensures ∙ read-from-zero _ _ (st .fits .k) (st .fits .g)
 
 turn-into-requires : tie.Need-turn-into-requires
 turn-into-requires c κs =
-    let e5 = c .before .before in
-    let e3 = e5 .before .before .before .before in
-    let e = e3 .before .before .before .before .before in
-    (fine e .right .form, (e5 .before .count2 .ensures, (omega arith, omega (arith, e3 .before .before .axes-of .ensures))))
+    let z = c .before .before in
+    let l = z .before .before in
+    let e = l .before .before in
+    let g = fine (e .before .before) .right in
+    record {
+      form = g .form;
+      count-is = l .before .count .ensures;
+      space = omega (arith, roomy (z .before) .space, l .before .count .ensures);
+      has = within-below _ _ _ _ (axes-are _ _ (g .rank-is) refl) (axis-is z) (known e .inside);
+    }
 
-returns-6 : tie.Need-returns-6
-returns-6 c =
-    let e5 = c .before .before .before .before .before .before in
-    let e4 = e5 .before .before in
-    let e3 = e4 .before .before in
-    let e2 = e3 .before .before .before in
-    let e = e2 .before .before in
-    let st = e .before .before in
-    let l = arrayOf (lent (st .args .ls) (st .args .l .now)) in
-    let a = arrayOf (lent (st .args .rs) (st .args .r .now)) in
-    let one = sym (e4 .before .count .ensures) ∙ e4 .if4 .left in
-    replied-given _ (rotate (st .args .g) (st .args .k) l a) (st .args .out .now) _
-    (ap (λ z. record { number = 0; shape = z }) (c .of-lengths .ensures ∙ made-is _ _ _ (fine e .right .high) refl ∙ sym (ap shapeOf (rotate-lengths (st .args .g) (st .args .k) l a))))
-    (rotate-out (st .args .g) (st .args .k) l a _ _ (named e3 .1) (toZ-ofZ (sfits-of (c .before .before .before .before .before .turn-into-arg .given)) ∙ amount-at _ _ (fine e .left) one) (st .args .out .now) _ (c .before .before .before .turn-into .ensures))
-    (given-reply (rotate-names (st .args .g) (st .args .k) (lent (st .args .ls) (st .args .l .now)) (lent (st .args .rs) (st .args .r .now))) (st .args .out .now) (fine e .none)
-    (rotate-none (st .args .g) (st .args .k) l a (list e2) (named e3 .0) (one-yes _ _ (fine e .left) one)) (rotate-rule (st .args .g) (st .args .k) l a (fine e .right .rule))
-    (rw (rotate-lengths (st .args .g) (st .args .k) l a) (omega (arith, fine e .right .count-is, e5 .before .count2 .ensures))))
+returns-4 : tie.Need-returns-4
+returns-4 c =
+    let t = c .before .before .before in
+    let z = t .before .before .before in
+    let l = z .before .before in
+    let e = l .before .before in
+    let st = start (e .before) in
+    given-replied (ready e) _ (l .late .ensures) (l .before .count .ensures) (z .before .if3 .left)
+    (as-result (ready e) (roomy (z .before) .good) (c .before .as-result .ensures) (c .given .ensures))
+    (t .turn-into .ensures ∙ rotate-out _ _ _ _ (axis-is z) (st .args .out .now) _ _
+    (toZ-ofZ (sfits-of (t .before .before .t17 .given)) ∙ element-at (fine (e .before .before) .left) 0 (omega (arith, one e))))
 
 pub rotate-spec : {M : Type 1} → statement M
 rotate-spec =
@@ -137,6 +127,7 @@ rotate-spec =
     (λ c κs. search needs)
     (λ c κs. search needs)
     returns
+    (λ c κs. (fine c .left .form, fine c .right .good))
     (λ c κs. search needs)
     returns-2
     (λ c κs. search needs)
@@ -144,13 +135,9 @@ rotate-spec =
     (λ c κs. search needs)
     returns-3
     (λ c κs. search needs)
-    (λ c κs. search needs)
-    returns-4
-    (λ c κs. search needs)
-    (λ c κs. search needs)
-    returns-5
-    shared-slice-copy-out-turn-into
+    shared-slice-copy-out
     turn-into-requires
     (λ c κs. search needs)
+    (λ c κs. search needs)
     (λ c. search needs)
-    returns-6)
+    returns-4)
