@@ -1,3 +1,4 @@
 pub mod Finding
-pub mod Lookup
 pub mod Chaining
+pub mod Entering
+pub mod Calls

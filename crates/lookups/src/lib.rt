@@ -1,20 +1,19 @@
 // Elements that are looked for among others: index of and member.
 ghost use mathlib.Core.Path.{_≡_};
-ghost use Prim.Native.Nat.{_+_, _*_, _≤_};
+ghost use Prim.Native.Nat.{_*_, _≤_};
 ghost use mathlib.Core.Bool.{false};
-ghost use lib.ListN.{length, drop};
+ghost use lib.ListN.{length};
 ghost use lib.IntN.{ℤ, pos};
 ghost use Rattle.shape.specs.Shape.{maxCount};
 ghost use Rattle.meaning.specs.Terms.{firstAt};
 ghost use Rattle.meaning.specs.Reply.{reply};
-ghost use Rattle.lookups.specs.Found.{positions, members, entry, entries};
-ghost use Rattle.lookups.specs.Chains.{Linked};
-ghost use Rattle.copying.proofs.Runs.{filled};
 ghost use Rattle.answer.specs.Answer.{lent, Replied};
+ghost use Rattle.lookups.specs.Steps.{entry, Looks, Entered, AllEntered, Passed, Table};
 use answer::Answer;
+use answer::refusal;
 use shape::Shape;
 
-mod chains;
+mod table;
 
 // 29, whatever K is: it is not looked at.
 pub fn index_of(g: i32, ls: Shape, l: &[i32], rs: Shape, r: &[i32], out: &mut [i32]) -> Answer
@@ -25,26 +24,17 @@ pub fn index_of(g: i32, ls: Shape, l: &[i32], rs: Shape, r: &[i32], out: &mut [i
         return Answer::refused(early);
     }
     if ls.rank != 1 {
-        return Answer::refused(4);
+        return Answer::refused(refusal::RANK);
+    }
+    let m = rs.count();
+    let late = answer::late(m, out.len());
+    if late != 0 {
+        return Answer::refused(late);
     }
     let n = ls.count();
-    let m = rs.count();
-    if out.len() < m {
-        return Answer::refused(10);
-    }
-    let first = signed::size(g);
-    put_positions(first, &l[0..n], &r[0..m], out);
-    let lens = rs.lens;
-    let shape = Shape::of_lengths(rs.rank, lens);
-    Answer { number: 0, shape }
-}
-
-// `first` and the first position in l of each element of r.
-fn put_positions(first: usize, l: &[i32], r: &[i32], out: &mut [i32])
-    requires { ⌜ (first ≤ 1) × ((length (now l) ≤ maxCount) × (length (now r) ≤ length (now out))) ⌝ }
-    ensures { λ _. ⌜ now (out .exit) ≡ filled (positions first (now (l .entry)) (now (r .entry))) (length (now (r .entry))) (now (out .entry)) ⌝ }
-{
-    put_each(false, first, l, r, out);
+    let first = signed::magnitude(g);
+    put_each(false, first, &l[0..n], &r[0..m], out);
+    Answer::given(rs.as_result())
 }
 
 // 30, whatever K is: it is not looked at.
@@ -56,40 +46,31 @@ pub fn member(g: i32, ls: Shape, l: &[i32], rs: Shape, r: &[i32], out: &mut [i32
         return Answer::refused(early);
     }
     let n = ls.count();
-    let m = rs.count();
-    if out.len() < n {
-        return Answer::refused(10);
+    let late = answer::late(n, out.len());
+    if late != 0 {
+        return Answer::refused(late);
     }
-    put_found(&l[0..n], &r[0..m], out);
-    let lens = ls.lens;
-    let shape = Shape::of_lengths(ls.rank, lens);
-    Answer { number: 0, shape }
+    let m = rs.count();
+    put_each(true, 0, &r[0..m], &l[0..n], out);
+    Answer::given(ls.as_result())
 }
 
-// Whether r has each element of l.
-fn put_found(l: &[i32], r: &[i32], out: &mut [i32])
-    requires { ⌜ (length (now r) ≤ maxCount) × (length (now l) ≤ length (now out)) ⌝ }
-    ensures { λ _. ⌜ now (out .exit) ≡ filled (members (now (l .entry)) (now (r .entry))) (length (now (l .entry))) (now (out .entry)) ⌝ }
-{
-    put_each(true, 0, r, l, out);
-}
-
-// What is written for each element of r, of its first position in l.
+// What is written for each element of r, looked for in l: whether l has it, or its first position counted from `first`.
 fn put_each(bits: bool, first: usize, l: &[i32], r: &[i32], out: &mut [i32])
-    requires { ⌜ (first ≤ 1) × ((length (now l) ≤ maxCount) × (length (now r) ≤ length (now out))) ⌝ }
-    ensures { λ _. ⌜ now (out .exit) ≡ filled (entries bits first (now (l .entry)) (now (r .entry))) (length (now (r .entry))) (now (out .entry)) ⌝ }
+    requires { ⌜ Looks first (now l) (now r) (length (now out)) ⌝ }
+    ensures { λ _. ⌜ AllEntered bits first (now (l .entry)) (now (r .entry)) (now (out .entry)) (now (out .exit)) ⌝ }
 {
     let m = r.len();
     let done = put_searched(bits, first, l, r, out);
     if done < m {
-        put_chained(bits, first, l, &r[done..m], &mut out[done..m]);
+        put_hashed(bits, first, l, &r[done..m], &mut out[done..m]);
     }
 }
 
-// So few elements never pay for chains.
+// So few elements never pay for a table.
 const FEW: usize = 16;
 
-// Elements that a search may pass over before chains are made. To pass over as many as a list can have takes about as long as clearing the chains.
+// Elements that a search may pass over before a table is made. To pass over as many as a list can have takes about as long as clearing the table.
 fn tests_allowed(m: usize) -> usize
     ensures { λ n. ⌜ n ≤ 16 * maxCount ⌝ }
 {
@@ -100,10 +81,10 @@ fn tests_allowed(m: usize) -> usize
     }
 }
 
-// The first elements of r, each searched for by itself, until chains would have paid. How many they are.
+// The first elements of r, each searched for by itself, until a table would have paid. How many they are.
 fn put_searched(bits: bool, first: usize, l: &[i32], r: &[i32], out: &mut [i32]) -> usize
-    requires { ⌜ (first ≤ 1) × ((length (now l) ≤ maxCount) × (length (now r) ≤ length (now out))) ⌝ }
-    ensures { λ n. ⌜ (n ≤ length (now (r .entry))) × (now (out .exit) ≡ filled (entries bits first (now (l .entry)) (now (r .entry))) n (now (out .entry))) ⌝ }
+    requires { ⌜ Looks first (now l) (now r) (length (now out)) ⌝ }
+    ensures { λ n. ⌜ Entered bits first (now (l .entry)) (now (r .entry)) (now (out .entry)) (now (out .exit)) n ⌝ }
 {
     let m = r.len();
     let allowed = tests_allowed(m);
@@ -121,15 +102,15 @@ fn put_searched(bits: bool, first: usize, l: &[i32], r: &[i32], out: &mut [i32])
     m
 }
 
-// Every element of r, looked for along the chain of its value.
-fn put_chained(bits: bool, first: usize, l: &[i32], r: &[i32], out: &mut [i32])
-    requires { ⌜ (first ≤ 1) × ((length (now l) ≤ maxCount) × (length (now r) ≤ length (now out))) ⌝ }
-    ensures { λ _. ⌜ now (out .exit) ≡ filled (entries bits first (now (l .entry)) (now (r .entry))) (length (now (r .entry))) (now (out .entry)) ⌝ }
+// Every element of r, looked for along its bucket's chain.
+fn put_hashed(bits: bool, first: usize, l: &[i32], r: &[i32], out: &mut [i32])
+    requires { ⌜ Looks first (now l) (now r) (length (now out)) ⌝ }
+    ensures { λ _. ⌜ AllEntered bits first (now (l .entry)) (now (r .entry)) (now (out .entry)) (now (out .exit)) ⌝ }
 {
-    let mut heads = [chains::NONE; chains::CHAINS];
-    let mut links = [chains::NONE; Shape::MAX_COUNT];
-    chains::link(l, &mut heads, &mut links);
-    // By constants, so that the compiler makes a loop for each.
+    let mut heads = [table::NONE; table::BUCKETS];
+    let mut links = [table::NONE; Shape::MAX_COUNT];
+    table::link(l, &mut heads, &mut links);
+    // By constants, so that the compiler makes a loop for each: one loop for both takes a tenth longer.
     if bits {
         put_looked_up(true, first, l, &heads, &links, r, out);
     } else {
@@ -141,24 +122,24 @@ fn put_looked_up(
     bits: bool,
     first: usize,
     l: &[i32],
-    heads: &[u16; chains::CHAINS],
+    heads: &[u16; table::BUCKETS],
     links: &[u16; Shape::MAX_COUNT],
     r: &[i32],
     out: &mut [i32],
 )
-    requires { ⌜ (first ≤ 1) × ((length (now l) ≤ maxCount) × ((length (now r) ≤ length (now out)) × Linked (now l) (now heads) (now links) 0)) ⌝ }
-    ensures { λ _. ⌜ now (out .exit) ≡ filled (entries bits first (now (l .entry)) (now (r .entry))) (length (now (r .entry))) (now (out .entry)) ⌝ }
+    requires { ⌜ Looks first (now l) (now r) (length (now out)) × Table (now l) (now heads) (now links) ⌝ }
+    ensures { λ _. ⌜ AllEntered bits first (now (l .entry)) (now (r .entry)) (now (out .entry)) (now (out .exit)) ⌝ }
 {
     let m = r.len();
     let mut j = 0;
     while j < m {
-        let at = chains::look(l, heads, links, r[j]);
+        let at = table::look(l, heads, links, r[j]);
         out[j] = entry(bits, first, l, at);
         j += 1;
     }
 }
 
-// What is written for an element whose first position in l is `at`: whether there is one, or the position counted from `first`.
+// What is written for an element whose first position in l is `at`.
 fn entry(bits: bool, first: usize, l: &[i32], at: usize) -> i32
     requires { ⌜ (first ≤ 1) × (at ≤ maxCount) ⌝ }
     ensures { λ e. ⌜ e ≡ entry bits first (length (now (l .entry))) at ⌝ }
@@ -189,14 +170,14 @@ fn position(l: &[i32], x: i32) -> usize
     position_from(l, near, x)
 }
 
-// The same of the elements from `from` on.
+// The same where the elements before `from` were passed over.
 fn position_from(l: &[i32], from: usize, x: i32) -> usize
-    requires { ⌜ from ≤ length (now l) ⌝ }
-    ensures { λ n. ⌜ n ≡ from + firstAt x (drop from (now (l .entry))) ⌝ }
+    requires { ⌜ Passed x (now l) from ⌝ }
+    ensures { λ n. ⌜ n ≡ firstAt x (now (l .entry)) ⌝ }
 {
     let n = l.len();
-    let k = passed(l, from, x);
-    k + first_at(&l[k..n], x)
+    let start = passed(l, from, x);
+    start + first_at(&l[start..n], x)
 }
 
 // The first position that holds x, the length where none does, element by element.
@@ -216,24 +197,24 @@ fn first_at(l: &[i32], x: i32) -> usize
 
 // Blocks from `from` on that do not have x are passed over.
 fn passed(l: &[i32], from: usize, x: i32) -> usize
-    requires { ⌜ from ≤ length (now l) ⌝ }
-    ensures { λ n. ⌜ (from ≤ n) × ((n ≤ length (now (l .entry))) × (from + firstAt x (drop from (now (l .entry))) ≡ n + firstAt x (drop n (now (l .entry))))) ⌝ }
+    requires { ⌜ Passed x (now l) from ⌝ }
+    ensures { λ n. ⌜ Passed x (now (l .entry)) n ⌝ }
 {
     let n = l.len();
-    let mut k = from;
-    while BLOCK <= n - k {
-        let end = k + BLOCK;
-        if may_have(&l[k..end], x) {
-            return k;
+    let mut start = from;
+    while BLOCK <= n - start {
+        let end = start + BLOCK;
+        if may_have(&l[start..end], x) {
+            return start;
         }
-        k = end;
+        start = end;
     }
-    k
+    start
 }
 
 // False only where l does not have x. Nothing leaves the loop early, so that many elements are tested at once.
 fn may_have(l: &[i32], x: i32) -> bool
-    ensures { λ b. ⌜ (b ≡ false → firstAt x (now (l .entry)) ≡ length (now (l .entry))) ⌝ }
+    ensures { λ b. ⌜ (b ≡ false → Passed x (now (l .entry)) (length (now (l .entry)))) ⌝ }
 {
     let n = l.len();
     let mut has = false;

@@ -1,7 +1,3 @@
 pub mod Vector
-pub mod Lengths
-pub mod Ravelling
-pub mod Counting
-pub mod Made
+pub mod Calls
 pub mod Cycling
-pub mod Reshaping

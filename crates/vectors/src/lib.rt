@@ -5,15 +5,16 @@ ghost use mathlib.Core.List.{map};
 ghost use Prim.Native.Nat.{_+_, _≤_, _<_};
 ghost use lib.ListN.{length, getD};
 ghost use lib.IntN.{ℤ, pos, natAbs};
-ghost use Rattle.shape.specs.Shape.{maxRank, maxCount, goodShape, shapeOf};
+ghost use Rattle.shape.specs.Shape.{maxCount, goodShape};
 ghost use Rattle.meaning.specs.Array.{Operand, Array, arrayOf, goodForm};
 ghost use Rattle.meaning.specs.Terms.{negative, every};
 ghost use Rattle.meaning.specs.Primitives.{interval, reshape};
 ghost use Rattle.meaning.specs.Reply.{reply};
-ghost use Rattle.copying.proofs.Runs.{filled};
-ghost use Rattle.vectors.specs.Cycle.{cycled};
+ghost use Rattle.copying.specs.Steps.{filled};
 ghost use Rattle.answer.specs.Answer.{lent, own, Replied};
+ghost use Rattle.vectors.specs.Steps.{cycled, Made};
 use answer::Answer;
+use answer::refusal;
 use shape::Shape;
 
 // 11, whatever K and L are: they are not looked at.
@@ -24,13 +25,12 @@ pub fn shape_of(g: i32, rs: Shape, r: &[i32], out: &mut [i32]) -> Answer
     if early != 0 {
         return Answer::refused(early);
     }
-    let rank = rs.rank;
-    if out.len() < rank {
-        return Answer::refused(10);
+    let late = answer::late(rs.rank, out.len());
+    if late != 0 {
+        return Answer::refused(late);
     }
     put_lengths(rs, out);
-    let shape = Shape::vector(rank);
-    Answer { number: 0, shape }
+    Answer::given(Shape::vector(rs.rank))
 }
 
 // The lengths as elements.
@@ -41,7 +41,7 @@ fn put_lengths(s: Shape, out: &mut [i32])
     let rank = s.rank;
     let mut i = 0;
     while i < rank {
-        out[i] = signed::whole(s.lens[i]);
+        out[i] = signed::element(s.lens[i]);
         i += 1;
     }
 }
@@ -55,12 +55,12 @@ pub fn ravel(g: i32, rs: Shape, r: &[i32], out: &mut [i32]) -> Answer
         return Answer::refused(early);
     }
     let count = rs.count();
-    if out.len() < count {
-        return Answer::refused(10);
+    let late = answer::late(count, out.len());
+    if late != 0 {
+        return Answer::refused(late);
     }
     copying::copy_run(&r[0..count], out);
-    let shape = Shape::vector(count);
-    Answer { number: 0, shape }
+    Answer::given(Shape::vector(count))
 }
 
 // 13, whatever K and L are: they are not looked at.
@@ -75,17 +75,16 @@ pub fn interval(g: i32, rs: Shape, r: &[i32], out: &mut [i32]) -> Answer
     if own != 0 {
         return Answer::refused(own);
     }
-    let n = signed::size(r[0]);
-    if Shape::MAX_COUNT < n {
-        return Answer::refused(9);
+    // Too large a number is too large a length: the shape is a bad one.
+    let shape = Shape::vector(signed::magnitude(r[0]));
+    let n = shape.count();
+    let late = answer::late(n, out.len());
+    if late != 0 {
+        return Answer::refused(late);
     }
-    if out.len() < n {
-        return Answer::refused(10);
-    }
-    let first = signed::size(g);
+    let first = signed::magnitude(g);
     count_up(first, n, out);
-    let shape = Shape::vector(n);
-    Answer { number: 0, shape }
+    Answer::given(shape)
 }
 
 // RANK, LENGTH and DOMAIN, which G does not touch.
@@ -94,13 +93,13 @@ fn interval_refusal(rs: Shape, r: &[i32]) -> usize
     ensures { λ n. ⌜ ((G : ℤ) → n ≡ own 13 (interval G (arrayOf (lent rs (now (r .entry)))) .refusals)) ⌝ }
 {
     if 1 < rs.rank {
-        return 4;
+        return refusal::RANK;
     }
-    let count = rs.count();
-    if count != 1 {
-        return 6;
+    if rs.count() != 1 {
+        return refusal::LENGTH;
     }
-    if signed::negative(r[0]) { 7 } else { 0 }
+    let below = signed::negative(r[0]);
+    if below { refusal::DOMAIN } else { 0 }
 }
 
 // The n numbers from `first` up.
@@ -131,20 +130,20 @@ pub fn reshape(g: i32, ls: Shape, l: &[i32], rs: Shape, r: &[i32], out: &mut [i3
         return Answer::refused(own);
     }
     let rank = ls.count();
-    if Shape::MAX_RANK < rank {
-        return Answer::refused(9);
-    }
     let shape = shape_from(&l[0..rank]);
     let total = shape.count();
-    if Shape::MAX_COUNT < total {
-        return Answer::refused(9);
-    }
-    if out.len() < total {
-        return Answer::refused(10);
+    let late = answer::late(total, out.len());
+    if late != 0 {
+        return Answer::refused(late);
     }
     let n = rs.count();
-    repeat_run(&r[0..n], total, out);
-    Answer { number: 0, shape }
+    // In three arms: in two the compiler takes the loop of `cycle_run` in here, and rows of 16 elements take half as long again.
+    match n {
+        0 => copying::fill_run(0, &mut out[0..total]),
+        1 => copying::fill_run(r[0], &mut out[0..total]),
+        _ => cycle_run(&r[0..n], total, out),
+    }
+    Answer::given(shape)
 }
 
 // RANK and DOMAIN, which R does not touch.
@@ -153,10 +152,11 @@ fn reshape_refusal(ls: Shape, l: &[i32]) -> usize
     ensures { λ n. ⌜ ((R : Array) → n ≡ own 21 (reshape (arrayOf (lent ls (now (l .entry)))) R .refusals)) ⌝ }
 {
     if 1 < ls.rank {
-        return 4;
+        return refusal::RANK;
     }
     let count = ls.count();
-    if none_negative(&l[0..count]) { 0 } else { 7 }
+    let fine = none_negative(&l[0..count]);
+    if fine { 0 } else { refusal::DOMAIN }
 }
 
 fn none_negative(l: &[i32]) -> bool
@@ -173,39 +173,19 @@ fn none_negative(l: &[i32]) -> bool
     true
 }
 
-// The shape whose lengths are the elements.
+// The shape whose lengths are the elements. Of more than a shape has it keeps the first: their number alone makes it a bad shape.
 fn shape_from(l: &[i32]) -> Shape
-    requires { ⌜ length (now l) ≤ maxRank ⌝ }
-    ensures { λ s. ⌜ s ≡ shapeOf (map natAbs (now (l .entry))) ⌝ }
+    ensures { λ s. ⌜ Made s (map natAbs (now (l .entry))) ⌝ }
 {
-    let n = l.len();
+    let rank = l.len();
+    let kept = copying::min(rank, Shape::MAX_RANK);
     let mut lens = [0; Shape::MAX_RANK];
     let mut i = 0;
-    while i < n {
-        lens[i] = signed::size(l[i]);
+    while i < kept {
+        lens[i] = signed::magnitude(l[i]);
         i += 1;
     }
-    Shape { rank: n, lens }
-}
-
-// n elements: those of `src` again and again, zeros where it has none.
-fn repeat_run(src: &[i32], n: usize, out: &mut [i32])
-    requires { ⌜ n ≤ length (now out) ⌝ }
-    ensures { λ _. ⌜ now (out .exit) ≡ filled (cycled (now (src .entry))) n (now (out .entry)) ⌝ }
-{
-    if 1 < src.len() {
-        cycle_run(src, n, out);
-        return;
-    }
-    let x = first_element(src);
-    copying::fill_run(x, &mut out[0..n]);
-}
-
-// 0 where there is none.
-fn first_element(src: &[i32]) -> i32
-    ensures { λ x. ⌜ x ≡ getD (now (src .entry)) 0 (pos 0) ⌝ }
-{
-    if 0 < src.len() { src[0] } else { 0 }
+    Shape { rank, lens }
 }
 
 // Whole runs of `src`, and its front for what is left.

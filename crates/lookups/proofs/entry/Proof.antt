@@ -5,7 +5,7 @@ use lib.ListN.{length}
 use borrow.Author.Needs.{needs}
 use borrow.Author.Tests.{lt-ltb, le-ltb}
 use Rattle.signed.proofs.Reading.{read-pos}
-use Rattle.lookups.specs.Found.{entry}
+use Rattle.lookups.specs.Steps.{entry}
 use Rattle.lookups.proofs.entry.Statement.{statement}
 use Rattle.lookups.proofs.entry.Tie as tie
 

@@ -1,25 +1,22 @@
-use borrow.Author.Needs.{needs}
 use native.Mathlib.Omega.{arith}
-use mathlib.Core.Path.{_≡_, refl, sym, ap, ap₂, _∙_}
+use mathlib.Core.Path.{_≡_, sym, ap, _∙_}
 use mathlib.Core.Bool.{_&&_}
+use lib.IntN.{ℤ, natAbs}
 use lib.ListN.{length}
+use borrow.Author.Needs.{needs}
+use borrow.Author.Tests.{eq-eqb, ne-eqb}
+use Rattle.shape.specs.Shape.{maxRank}
 use Rattle.signed.proofs.Reading.{read32}
-use Rattle.shape.specs.Shape.{maxRank, shapeOf}
-use Rattle.shape.proofs.Made.{made-is}
+use Rattle.signed.proofs.Equal.{origin-is}
 use Rattle.meaning.specs.Array.{Operand, arrayOf, goodForm}
 use Rattle.meaning.specs.Primitives.{indexOf}
-use Rattle.copying.proofs.Runs.{filled}
-use Rattle.answer.specs.Answer.{lent, early, own}
-use Rattle.answer.proofs.Order.{early-reply, own-reply, space-reply, given-reply, replied-refused, replied-given}
+use Rattle.answer.specs.Answer.{lent, early}
+use Rattle.answer.proofs.Order.{early-replied, own-replied, Ready, as-result, late-replied, given-replied, Roomy, late-fine}
 use Rattle.answer.proofs.Lent.{lent-part, FineTwo, fine-two}
-use lib.IntN.{natAbs}
-use Rattle.signed.proofs.Equal.{origin-is}
-use Rattle.lookups.specs.Found.{positions}
-use Rattle.lookups.proofs.Lookup.{index-names, index-rank, index-none, index-lengths, index-count, index-rule, index-out}
+use Rattle.lookups.proofs.Calls.{index-names, index-own, index-stands, index-out, part-long}
 use Rattle.lookups.proofs.index_of.Statement.{statement}
 use Rattle.lookups.proofs.index_of.Tie as tie
 
--- The operands.
 abbrev left : tie.Start → Operand
 left st = lent (st .args .ls) (st .args .l .now)
 
@@ -30,95 +27,97 @@ right st = lent (st .args .rs) (st .args .r .now)
 early-is : (c : tie.After-early-two) → c .early-two .result ≡ early (goodForm (left (c .before)) && goodForm (right (c .before))) (c .before .args .g)
 early-is c = c .early-two .ensures ∙ ap (early _) (read32 _ (c .before .fits .g))
 
-fine : (c : tie.Else1) → FineTwo (c .before .before .args .g) (c .before .before .args .ls) (c .before .before .args .l .now) (c .before .before .args .rs) (c .before .before .args .r .now)
+fine : (c : tie.Else1) → let st = c .before .before in FineTwo (st .args .g) (st .args .ls) (st .args .l .now) (st .args .rs) (st .args .r .now)
 fine c =
     let st = c .before .before in
-    let a : length (st .args .ls .lens) ≡ maxRank = search needs in
-    let b : length (st .args .rs .lens) ≡ maxRank = search needs in
-    fine-two (st .args .g) (st .args .ls) (st .args .l .now) (st .args .rs) (st .args .r .now) a b (sym (early-is (c .before)) ∙ c .if1 .left)
+    let ll : length (st .args .ls .lens) ≡ maxRank = search needs in
+    let rl : length (st .args .rs .lens) ≡ maxRank = search needs in
+    fine-two _ _ _ _ _ ll rl (sym (early-is (c .before)) ∙ c .if1 .left)
 
--- RANK was not met.
-none-own : (c : tie.Else2)
-    → own 29 (indexOf (c .before .before .before .before .args .g) (arrayOf (left (c .before .before .before .before))) (arrayOf (right (c .before .before .before .before))) .refusals) ≡ 0
-none-own c = index-none _ _ _ (fine (c .before .before) .left .rank-is ∙ c .if2 .left)
+-- RANK.
+abbrev asked : tie.Else2 → tie.Else1
+asked c = c .before .before
 
--- G as a number from 0 up.
-first-is : (c : tie.After-size) → c .size .result ≡ natAbs (c .before .before .before .before .before .before .before .before .args .g)
-first-is c = c .size .ensures ∙ ap natAbs (read32 _ (c .before .before .before .before .before .before .before .before .fits .g))
+abbrev start : tie.Else2 → tie.Start
+start c = asked c .before .before
+
+ready : (c : tie.Else2) (K : ℤ)
+    → let st = start c in
+    Ready 29 2 (st .args .g) K (left st) (right st) (indexOf (st .args .g) (arrayOf (left st)) (arrayOf (right st))) (st .args .rs)
+ready c K =
+    let f = fine (asked c) in
+    record {
+      names = index-names _ _ _ _;
+      fine = f .none;
+      none = index-own _ _ _ ∙ rw (eq-eqb _ 1 (f .left .rank-is ∙ c .if2 .left));
+      stands = index-stands (f .right) _ _;
+    }
+
+-- LIMIT and SPACE.
+abbrev ranked : tie.After-late → tie.Else2
+ranked c = c .before .before
+
+roomy : (c : tie.Else3) → let st = start (ranked (c .before)) in Roomy (st .args .rs) (length (st .args .out .now))
+roomy c = late-fine _ (c .before .late .ensures) (c .before .before .count .ensures) (c .if3 .left)
+
+-- L's count, and G as a number from 0 up.
+abbrev spaced : tie.After-magnitude → tie.Else3
+spaced c = c .before .before
+
+first-is : (c : tie.After-magnitude) → c .magnitude .result ≡ natAbs (start (ranked (spaced c .before)) .args .g)
+first-is c = c .magnitude .ensures ∙ ap natAbs (read32 _ (start (ranked (spaced c .before)) .fits .g))
+
+abbrev valued : tie.After-put-each-arg3 → tie.After-magnitude
+valued c = c .before .before .before
 
 returns : tie.Need-returns
-returns c K =
-    let st = c .before .before .before in
-    replied-refused (c .refused .result) _ (st .args .out .now) (c .refused .ensures)
-    (early-reply (index-names (st .args .g) K (left st) (right st)) (st .args .out .now) _ (early-is (c .before .before)) (c .before .if1 .taken))
+returns c K = early-replied (index-names _ _ _ _) _ (early-is (c .before .before)) (c .before .if1 .taken) (c .refused .ensures)
 
 returns-2 : tie.Need-returns-2
 returns-2 c K =
-    let e = c .before .before .before in
-    let st = e .before .before in
-    replied-refused (c .refused2 .result) 4 (st .args .out .now) (c .refused2 .ensures)
-    (own-reply (index-names (st .args .g) K (left st) (right st)) (st .args .out .now) (fine e .none) 4
-    (sym (index-rank (st .args .g) (arrayOf (left st)) (arrayOf (right st)) (λ h. c .before .if2 .taken (sym (fine e .left .rank-is) ∙ h)))) (λ z. omega arith))
+    let f = fine (c .before .before .before) in
+    let no = ne-eqb _ 1 (λ e. c .before .if2 .taken (sym (f .left .rank-is) ∙ e)) in
+    own-replied (index-names _ _ _ _) _ (f .none) (sym (index-own _ _ _ ∙ rw no)) (λ z. omega arith) (c .refused2 .ensures)
 
 returns-3 : tie.Need-returns-3
 returns-3 c K =
-    let m = c .before .before in
-    let o = m .before .before in
-    let e = o .before .before in
-    let st = e .before .before in
-    let g = fine e .right in
-    let l = arrayOf (left st) in
-    let r = arrayOf (right st) in
-    replied-refused (c .refused3 .result) 10 (st .args .out .now) (c .refused3 .ensures)
-    (space-reply (index-names (st .args .g) K (left st) (right st)) (st .args .out .now) (fine e .none) (none-own o) (index-rule (st .args .g) l r (g .rule))
-    (rw (index-count (st .args .g) l r) (omega (arith, g .count-is, m .count2 .ensures, c .before .if3 .taken))))
+    let l = c .before .before in
+    late-replied (ready (ranked l) K) _ (l .late .ensures) (l .before .count .ensures) (c .before .if3 .taken) (c .refused3 .ensures)
 
-part-put-positions-end : tie.Need-part-put-positions-end
-part-put-positions-end c =
-    let n = c .before .before .before in
-    let g = fine (n .before .before .before) .left in
-    omega (arith, g .room, g .count-is, n .count .ensures)
+part-put-each-end : tie.Need-part-put-each-end
+part-put-each-end c =
+    let g = fine (asked (ranked (spaced c .before))) .left in
+    omega (arith, g .room, g .count-is, c .before .count2 .ensures)
 
-part-put-positions-end-2 : tie.Need-part-put-positions-end-2
-part-put-positions-end-2 c =
-    let m = c .before .before .before in
-    let g = fine (m .before .before .before .before) .right in
-    omega (arith, g .room, g .count-is, m .count2 .ensures)
+part-put-each-end-2 : tie.Need-part-put-each-end-2
+part-put-each-end-2 c =
+    let l = spaced (c .before) .before in
+    let g = fine (asked (ranked l)) .right in
+    omega (arith, g .room, g .count-is, l .before .count .ensures)
 
-put-positions-requires : tie.Need-put-positions-requires
-put-positions-requires c κs =
-    let z = c .before .before .before in
-    let m = z .before .before in
-    let e = m .before .before .before .before in
-    let st = e .before .before in
-    let gl = fine e .left in
-    let gr = fine e .right in
-    let a = ap length (lent-part (st .args .ls) (st .args .l .now) gl _ (m .before .count .ensures)) ∙ gl .whole in
-    let b = ap length (lent-part (st .args .rs) (st .args .r .now) gr _ (m .count2 .ensures)) ∙ gr .whole in
-    let f = origin-is (st .args .g) (fine e .origin) in
-    (omega (arith, first-is z, f .1), (omega (arith, a, gl .count-small), omega (arith, b, gr .count-is, m .count2 .ensures, z .before .if3 .left)))
+put-each-requires : tie.Need-put-each-requires
+put-each-requires c κs =
+    let z = valued c in
+    let l = spaced z .before in
+    let f = fine (asked (ranked l)) in
+    let a = part-long (f .left) (z .before .count2 .ensures) in
+    let b = part-long (f .right) (l .before .count .ensures) in
+    record {
+      origin = omega (arith, first-is z, origin-is _ (f .origin) .1);
+      small = omega (arith, a, f .left .count-small);
+      space = omega (arith, b, f .right .count-is, roomy (spaced z) .space);
+    }
 
 returns-4 : tie.Need-returns-4
 returns-4 c K =
-    let z = c .before .before .before .before .before .before .before in
-    let m = z .before .before in
-    let o = m .before .before in
-    let e = o .before .before in
-    let st = e .before .before in
-    let G = st .args .g in
-    let out = st .args .out .now in
-    let g = fine e .right in
-    let l = arrayOf (left st) in
-    let r = arrayOf (right st) in
-    replied-given _ (indexOf G l r) out _
-    (ap (λ y. record { number = 0; shape = y }) (c .of-lengths .ensures ∙ made-is _ _ _ (g .high) refl ∙ ap shapeOf (sym (index-lengths G l r))))
-    (c .before .before .before .put-positions .ensures
-    ∙ ap₂ (λ x y. filled (positions (z .size .result) x y) (length y) out) (lent-part (st .args .ls) (st .args .l .now) (fine e .left) _ (m .before .count .ensures))
-    (lent-part (st .args .rs) (st .args .r .now) g _ (m .count2 .ensures))
-    ∙ ap (λ f. filled (positions f (l .elements) (r .elements)) (length (r .elements)) out) (first-is z)
-    ∙ index-out G l r out (fine e .origin) (g .whole))
-    (given-reply (index-names G K (left st) (right st)) out (fine e .none) (none-own o) (index-rule G l r (g .rule))
-    (rw (index-count G l r) (omega (arith, g .count-is, m .count2 .ensures, z .before .if3 .left))))
+    let p = c .before .before .before in
+    let z = valued (p .before) in
+    let l = spaced z .before in
+    let f = fine (asked (ranked l)) in
+    given-replied (ready (ranked l) K) _ (l .late .ensures) (l .before .count .ensures) (spaced z .if3 .left)
+    (as-result (ready (ranked l) K) (roomy (spaced z) .good) (c .before .as-result .ensures) (c .given .ensures))
+    (index-out _ _ _ _ (f .origin) (f .right .whole) (first-is z) (lent-part _ _ (f .left) _ (z .before .count2 .ensures))
+    (lent-part _ _ (f .right) _ (l .before .count .ensures)) (p .put-each .ensures))
 
 pub index-of-spec : {M : Type 1} → statement M
 index-of-spec =
@@ -134,13 +133,15 @@ index-of-spec =
     (λ c κs. search needs)
     returns-3
     (λ c κs. search needs)
+    (λ c κs. search needs)
     (λ c. search needs)
     (λ c. search needs)
-    part-put-positions-end
+    part-put-each-end
     (λ c. search needs)
     (λ c. search needs)
-    part-put-positions-end-2
-    put-positions-requires
+    part-put-each-end-2
+    put-each-requires
+    (λ c κs. search needs)
     (λ c κs. search needs)
     (λ c. search needs)
     returns-4)

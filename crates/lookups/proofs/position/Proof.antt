@@ -1,12 +1,9 @@
 use Prim.Native.Nat.{ℕ}
 use native.Mathlib.Omega.{arith}
-use mathlib.Core.Path.{_≡_, ap, _∙_}
 use lib.IntN.{ℤ}
 use mir.Syntax.{w32}
 use mir.Val.{toZ, ofZ}
-use Rattle.meaning.specs.Terms.{firstAt}
-use Rattle.signed.proofs.Reading.{read32}
-use Rattle.lookups.proofs.Finding.{first-part, first-part-none, first-block}
+use Rattle.lookups.proofs.Finding.{read-first, passed-none, passed-first, passed-part, found-part}
 use borrow.Author.Needs.{needs}
 use Rattle.lookups.proofs.position.Statement.{statement}
 use Rattle.lookups.proofs.position.Tie as tie
@@ -15,28 +12,31 @@ use Rattle.lookups.proofs.position.Tie as tie
 abbrev near : ℕ
 near = 8
 
--- What x is read as, and the position, as that of x itself.
+-- What x is read as.
 abbrev sought : tie.Start → ℤ
 sought st = toZ w32 (ofZ w32 (st .args .x))
 
-found : (st : tie.Start) (n : ℕ) → n ≡ firstAt (sought st) (st .args .l .now) → n ≡ firstAt (st .args .x) (st .args .l .now)
-found st n e = e ∙ ap (λ z. firstAt z (st .args .l .now)) (read32 (st .args .x) (st .fits .x))
-
 returns : tie.Need-returns
-returns c = found (c .before .before) (c .first-at .result) (c .first-at .ensures)
+returns c = read-first _ (c .before .before .fits .x) _ (c .first-at .ensures)
 
 returns-2 : tie.Need-returns-2
 returns-2 c =
     let f = c .before in
     let st = f .before .before .before in
-    found st (f .first-at2 .result) (omega (arith, f .first-at2 .ensures, first-part (sought st) (st .args .l .now) 0 near (omega arith) (omega arith) (omega arith)))
+    let none = passed-none (sought st) (st .args .l .now) in
+    read-first _ (st .fits .x) _ (found-part none near (f .first-at2 .result) (omega arith) (omega arith) (omega arith) (omega arith) (omega arith))
+
+position-from-requires : tie.Need-position-from-requires
+position-from-requires c κs =
+    let f = c .before in
+    let st = f .before .before .before in
+    let none = passed-none (sought st) (st .args .l .now) in
+    passed-part none near near (omega arith) (omega arith) (omega arith) (passed-first _ _ _ (omega arith))
 
 returns-3 : tie.Need-returns-3
 returns-3 c =
     let f = c .before .before in
-    let st = f .before .before .before in
-    let none = first-part-none (sought st) (st .args .l .now) 0 near (omega arith) (omega arith) (omega arith) in
-    found st (c .position-from .result) (omega (arith, c .position-from .ensures, first-block (sought st) (st .args .l .now) 0 near (omega arith) (omega arith) none))
+    read-first _ (f .before .before .before .fits .x) _ (c .position-from .ensures)
 
 pub position-spec : {M : Type 1} → statement M
 position-spec =
@@ -49,5 +49,5 @@ position-spec =
     (λ c. search needs)
     (λ c κs. search needs)
     returns-2
-    (λ c κs. search needs)
+    position-from-requires
     returns-3)

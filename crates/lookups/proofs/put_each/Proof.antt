@@ -1,24 +1,27 @@
 use native.Mathlib.Omega.{arith}
-use mathlib.Core.Path.{_≡_, refl, _∙_}
-use lib.ListN.{length}
-use Rattle.lookups.proofs.Lookup.{put-rest}
 use borrow.Author.Needs.{needs}
+use Rattle.lookups.proofs.Entering.{entered-all, entered-rest}
 use Rattle.lookups.proofs.put_each.Statement.{statement}
 use Rattle.lookups.proofs.put_each.Tie as tie
 
+abbrev start : tie.After-out → tie.Start
+start c = c .before .before .before
+
+abbrev searched : tie.After-put-hashed-arg2 → tie.After-out
+searched c = c .before .before .before
+
+put-hashed-requires : tie.Need-put-hashed-requires
+put-hashed-requires c κs =
+    let p = start (searched c) .pre in
+    record { origin = p .origin; small = p .small; space = search needs }
+
 returns : tie.Need-returns
 returns c =
-    let o = c .before .before .before .before .before in
-    let st = o .before .before .before in
-    let a = st .args in
-    put-rest (a .bits) (a .first) (a .l .now) (a .r .now) (a .out .now) (o .before .put-searched .result) (length (a .r .now)) _ _ (o .before .put-searched .ensures .0) refl (st .pre .1 .1)
-    (o .before .put-searched .ensures .1) (c .before .put-chained .ensures)
+    let o = searched (c .before .before) in
+    entered-rest (o .before .put-searched .ensures) _ (start o .pre .space) (c .before .put-hashed .ensures)
 
 returns-2 : tie.Need-returns-2
-returns-2 c =
-    let s = c .before .before in
-    let e : s .put-searched .result ≡ length (s .before .before .args .r .now) = omega arith in
-    s .put-searched .ensures .1 ∙ rw e
+returns-2 c = entered-all (c .before .before .put-searched .ensures) (omega arith) .done
 
 pub put-each-spec : {M : Type 1} → statement M
 put-each-spec =
@@ -33,7 +36,7 @@ put-each-spec =
     (λ c. search needs)
     (λ c. search needs)
     (λ c. search needs)
-    (λ c κs. search needs)
+    put-hashed-requires
     (λ c. search needs)
     returns
     (λ c. search needs)

@@ -3,11 +3,12 @@ use native.Mathlib.Omega.{arith}
 use Prim.Native.Nat.{_+_, _-_, _≤_}
 use mathlib.Core.Path.{_≡_, refl, ap, _∙_}
 use lib.IntN.{pos, _+ℤ_}
-use lib.ListN.{length, length-set}
+use lib.ListN.{length, set, length-set}
 use mir.Syntax.{w32}
 use mir.Val.{toZ, ofZ}
 use Rattle.signed.proofs.Reading.{read-pos}
-use Rattle.copying.proofs.Runs.{filled, filled-none, filled-one}
+use Rattle.copying.proofs.Runs.{filled-none, filled-one}
+use Rattle.copying.specs.Steps.{filled}
 use Rattle.vectors.proofs.count_up.Statement.{statement}
 use Rattle.vectors.proofs.count_up.Tie as tie
 
@@ -31,10 +32,10 @@ loop-again c =
     let st = c .before .before in
     let lp = c .before .loop in
     let e : toZ w32 (lp .x) ≡ pos (lp .x) = read-pos (lp .x) (omega arith) in
-    let next : ofZ w32 (toZ w32 (lp .x) +ℤ pos 1) ≡ st .args .first + (lp .i + 1) = rw e (omega arith) in (
-      omega arith,
-      (next, (simp length-set (lp .inv .1 .1 .0), rw (lp .inv .1 .1 .1) (filled-one _ (pos 0) _ (lp .i) (st .args .out .now) (omega arith) (e ∙ ap pos (lp .inv .1 .0))))),
-    )
+    let next : ofZ w32 (toZ w32 (lp .x) +ℤ pos 1) ≡ st .args .first + (lp .i + 1) = rw e (omega arith) in
+    let done : set (lp .out) (lp .i) (toZ w32 (lp .x)) ≡ filled (λ j. pos (st .args .first + j)) (lp .i + 1) (st .args .out .now) =
+    rw (lp .inv .1 .1 .1) (filled-one _ (pos 0) _ (lp .i) _ (omega arith) (e ∙ ap pos (lp .inv .1 .0))) in
+    (omega arith, (next, (simp length-set (lp .inv .1 .1 .0), done)))
 
 returns : tie.Need-returns Inv-loop μ-loop
 returns c =

@@ -1,65 +1,63 @@
-use borrow.Author.Needs.{needs, sfits-of}
-use Prim.Native.Nat.{_≤_}
 use native.Mathlib.Omega.{arith}
 use mathlib.Core.Path.{_≡_, sym, ap, _∙_}
-use lib.IntN.{pos}
-use lib.ListN.{length, getD}
+use mathlib.Core.Bool.{cond}
+use lib.IntN.{ℤ}
+use lib.ListN.{length}
+use borrow.Author.Needs.{needs, sfits-of}
 use Rattle.signed.proofs.Reading.{read32}
 use Rattle.shape.specs.Shape.{maxRank}
 use Rattle.meaning.specs.Array.{Array, arrayOf}
-use Rattle.meaning.specs.Terms.{rank, negative}
-use Rattle.answer.specs.Answer.{lent}
-use Rattle.answer.proofs.Lent.{Lent, lent-good}
-use Rattle.vectors.proofs.Counting.{ends, ends-is, interval-rank, interval-length, interval-domain, interval-none}
+use Rattle.meaning.specs.Refusal.{number}
+use Rattle.meaning.specs.Refusal.Refusal.{DOMAIN}
+use Rattle.meaning.specs.Terms.{negative}
+use Rattle.meaning.specs.Primitives.{interval}
+use Rattle.answer.specs.Answer.{lent, own}
+use Rattle.answer.proofs.Lent.{Lent, lent-good, list-yes, list-no, counts-yes, counts-no, element-at}
+use Rattle.vectors.proofs.Calls.{ends, interval-own}
 use Rattle.vectors.proofs.interval_refusal.Statement.{statement}
 use Rattle.vectors.proofs.interval_refusal.Tie as tie
 
 -- R, and what is known of it.
-abbrev of : tie.Start → Array
-of st = arrayOf (lent (st .args .rs) (st .args .r .now))
+abbrev right : tie.Start → Array
+right st = arrayOf (lent (st .args .rs) (st .args .r .now))
 
 good : (st : tie.Start) → Lent (st .args .rs) (st .args .r .now)
 good st =
     let long : length (st .args .rs .lens) ≡ maxRank = search needs in
-    lent-good (st .args .rs) (st .args .r .now) long (st .pre)
+    lent-good _ _ long (st .pre)
 
-list : (c : tie.Else1) → rank (of (c .before .before)) ≤ 1
-list c = omega (arith, good (c .before .before) .rank-is)
+abbrev start : tie.After-count → tie.Start
+start c = c .before .before .before
 
-one : (c : tie.Else2) → length (of (c .before .before .before .before) .elements) ≡ 1
-one c = let g = good (c .before .before .before .before) in omega (arith, g .whole, g .count-is, c .before .count .ensures)
-
-sign : (c : tie.After-negative) → c .negative .result ≡ negative (ends (of (c .before .before .before .before .before .before)))
-sign c =
-    let e = c .before .before in
-    let st = e .before .before .before .before in
-    let g = good st in
-    c .negative .ensures
-    ∙ ap negative (read32 (getD (st .args .r .now) 0 (pos 0)) (sfits-of (c .before .negative-arg .given)) ∙ sym (ends-is (st .args .rs) (st .args .r .now) (omega (arith, one e, g .whole))))
+-- R is a list of one element: what is left is DOMAIN.
+rest : (c : tie.After-negative) (G : ℤ)
+    → let st = start (c .before .before .before) in own 13 (interval G (right st) .refusals) ≡ cond (c .negative .result) (number DOMAIN) 0
+rest c G =
+    let n = c .before .before .before in
+    let st = start n in
+    let one = sym (n .count .ensures) ∙ c .before .before .if2 .left in
+    let z : c .negative .result ≡ negative (ends (right st)) =
+    c .negative .ensures ∙ ap negative (read32 _ (sfits-of (c .before .negative-arg .given)) ∙ element-at (good st) 0 (omega arith)) in
+    interval-own G (right st) ∙ rw (list-yes (good st) (omega arith), counts-yes (good st) 1 one, z)
 
 returns : tie.Need-returns
-returns c G = let st = c .before .before in sym (interval-rank G (of st) (omega (arith, good st .rank-is)))
+returns c G = let st = c .before .before in sym (interval-own G (right st) ∙ rw (list-no (good st) (omega arith)))
 
 returns-2 : tie.Need-returns-2
 returns-2 c G =
-    let e = c .before .before in
-    let g = good (e .before .before) in
-    sym (interval-length G (of (e .before .before)) (list e) (λ h. c .if2 .taken (omega (arith, g .whole, g .count-is, c .before .count .ensures))))
+    let n = c .before in
+    let st = start n in
+    let none = counts-no (good st) 1 (λ e. c .if2 .taken (n .count .ensures ∙ e)) in
+    sym (interval-own G (right st) ∙ rw (list-yes (good st) (omega arith), none))
 
 shared-slice-copy-out-negative : tie.Need-shared-slice-copy-out-negative
-shared-slice-copy-out-negative c = let g = good (c .before .before .before .before) in omega (arith, one c, g .whole, g .room)
+shared-slice-copy-out-negative c = let g = good (start (c .before)) in omega (arith, c .before .count .ensures, g .count-is, g .room)
 
 returns-3 : tie.Need-returns-3
-returns-3 c G =
-    let e = c .before .before .before in
-    let st = e .before .before .before .before in
-    sym (interval-domain G (of st) (list (e .before .before)) (one e) (sym (sign (c .before)) ∙ c .if3 .taken))
+returns-3 c G = sym (rest (c .before) G ∙ rw (c .if3 .taken))
 
 returns-4 : tie.Need-returns-4
-returns-4 c G =
-    let e = c .before .before .before in
-    let st = e .before .before .before .before in
-    sym (interval-none G (of st) (record { list = list (e .before .before); one = one e; not-below = sym (sign (c .before)) ∙ c .if3 .left }))
+returns-4 c G = sym (rest (c .before) G ∙ rw (c .if3 .left))
 
 pub interval-refusal-spec : {M : Type 1} → statement M
 interval-refusal-spec =

@@ -1,61 +1,73 @@
-use borrow.Author.Needs.{needs}
+use mathlib.Core.Path.{_≡_, refl, sym, ap, _∙_}
+use mathlib.Core.List.{[], _∷_}
 use native.Mathlib.Omega.{arith}
-use mathlib.Core.Path.{_≡_, sym, ap, _∙_}
+use lib.IntN.{ℤ, pos}
+use lib.ListN.{length, getD}
+use borrow.Author.Needs.{needs}
+use Rattle.shape.specs.Shape.{maxRank, countOf, shapeOf}
 use Rattle.signed.proofs.Reading.{read32}
-use lib.ListN.{length}
-use Rattle.shape.specs.Shape.{maxRank}
-use Rattle.meaning.specs.Array.{arrayOf, goodForm}
+use Rattle.meaning.specs.Array.{Operand, arrayOf, goodForm}
 use Rattle.meaning.specs.Primitives.{ravel}
 use Rattle.answer.specs.Answer.{lent, early}
-use Rattle.answer.proofs.Order.{early-reply, space-reply, given-reply, replied-refused, replied-given}
+use Rattle.answer.proofs.Order.{early-replied, Ready, late-replied, given-replied, late-fine}
 use Rattle.answer.proofs.Lent.{FineOne, fine-one}
-use Rattle.vectors.proofs.Ravelling.{ravel-names, ravel-count, ravel-rule, ravel-none, ravel-out, ravel-shape}
+use Rattle.vectors.proofs.Vector.{Vector, vector-stands, vector-counted, vector-given, vector-out}
+use Rattle.vectors.proofs.Calls.{ravel-names, ravel-own, ravel-vector, ravel-copied}
 use Rattle.vectors.proofs.ravel.Statement.{statement}
 use Rattle.vectors.proofs.ravel.Tie as tie
 
--- FORM and ORIGIN, and what is known of R where neither was met.
-early-is : (c : tie.After-early-one) → c .early-one .result ≡ early (goodForm (lent (c .before .args .rs) (c .before .args .r .now))) (c .before .args .g)
+abbrev right : tie.Start → Operand
+right st = lent (st .args .rs) (st .args .r .now)
+
+-- FORM and ORIGIN, and what is known where neither was met.
+early-is : (c : tie.After-early-one) → c .early-one .result ≡ early (goodForm (right (c .before))) (c .before .args .g)
 early-is c = c .early-one .ensures ∙ ap (early _) (read32 _ (c .before .fits .g))
 
-fine : (c : tie.Else1) → FineOne (c .before .before .args .g) (c .before .before .args .rs) (c .before .before .args .r .now)
+fine : (c : tie.Else1) → let st = c .before .before in FineOne (st .args .g) (st .args .rs) (st .args .r .now)
 fine c =
-    let st = c .before .before in
-    let long : length (st .args .rs .lens) ≡ maxRank = search needs in
-    fine-one (st .args .g) (st .args .rs) (st .args .r .now) long (sym (early-is (c .before)) ∙ c .if1 .left)
+    let long : length (c .before .before .args .rs .lens) ≡ maxRank = search needs in
+    fine-one _ _ _ long (sym (early-is (c .before)) ∙ c .if1 .left)
+
+-- The result is a vector of R's count.
+abbrev start : tie.After-count → tie.Start
+start c = c .before .before .before
+
+vector : (c : tie.After-count) → let a = arrayOf (right (start c)) in Vector (ravel a) (c .count .result) (λ i. getD (a .elements) i (pos 0))
+vector c = ravel-vector (fine (c .before) .operand) (c .count .ensures)
+
+count-is : (c : tie.After-count) → let n = c .count .result in n ≡ countOf (shapeOf (n ∷ []))
+count-is c = let g = fine (c .before) .operand in vector-counted _ (omega (arith, g .count-is, g .count-small, c .count .ensures))
+
+ready : (c : tie.After-count) (K : ℤ) (L : Operand)
+    → let st = start c in Ready 12 1 (st .args .g) K L (right st) (ravel (arrayOf (right st))) (shapeOf (c .count .result ∷ []))
+ready c K L = record { names = ravel-names _ _ _ _; fine = fine (c .before) .none; none = ravel-own _; stands = vector-stands (vector c) refl }
 
 returns : tie.Need-returns
-returns c K L =
-    let st = c .before .before .before in
-    replied-refused (c .refused .result) _ (st .args .out .now) (c .refused .ensures)
-    (early-reply (ravel-names (st .args .g) K L (lent (st .args .rs) (st .args .r .now))) (st .args .out .now) _ (early-is (c .before .before)) (c .before .if1 .taken))
+returns c K L = early-replied (ravel-names _ _ _ _) _ (early-is (c .before .before)) (c .before .if1 .taken) (c .refused .ensures)
 
 returns-2 : tie.Need-returns-2
 returns-2 c K L =
-    let st = c .before .before .before .before .before in
-    let g = fine (c .before .before .before) .operand in
-    let a = arrayOf (lent (st .args .rs) (st .args .r .now)) in
-    replied-refused (c .refused2 .result) 10 (st .args .out .now) (c .refused2 .ensures)
-    (space-reply (ravel-names (st .args .g) K L (lent (st .args .rs) (st .args .r .now))) (st .args .out .now) (fine (c .before .before .before) .none) (ravel-none a)
-    (ravel-rule a (omega (arith, g .whole, g .count-small)))
-    (rw (ravel-count a) (omega (arith, g .whole, g .count-is, c .before .before .count .ensures))))
+    let l = c .before .before in
+    late-replied (ready (l .before) K L) _ (l .late .ensures) (count-is (l .before)) (c .before .if2 .taken) (c .refused2 .ensures)
 
 part-copy-run-end : tie.Need-part-copy-run-end
-part-copy-run-end c = let g = fine (c .before .before) .operand in omega (arith, g .room, g .count-is, c .before .count .ensures)
+part-copy-run-end c =
+    let n = c .before .before in
+    let g = fine (n .before) .operand in
+    omega (arith, g .room, g .count-is, n .count .ensures)
 
 returns-3 : tie.Need-returns-3
 returns-3 c K L =
-    let st = c .before .before .before .before .before .before .before .before .before in
-    let e = c .before .before .before .before .before .before .before in
-    let s = st .args .rs in
-    let r = st .args .r .now in
-    let out = st .args .out .now in
-    let g = fine e .operand in
-    let a = arrayOf (lent s r) in
-    let n = c .before .before .before .before .before .before .count .ensures in
-    replied-given _ (ravel a) out _ (ap (λ z. record { number = 0; shape = z }) (c .vector .ensures ∙ ravel-shape s r g _ n))
-    (ravel-out s r out g _ n (omega arith) _ (c .before .before .copy-run .ensures))
-    (given-reply (ravel-names (st .args .g) K L (lent s r)) out (fine e .none) (ravel-none a) (ravel-rule a (omega (arith, g .whole, g .count-small)))
-    (rw (ravel-count a) (omega (arith, g .whole, g .count-is, n))))
+    let p = c .before .before .before in
+    let e = p .before .before .before in
+    let l = e .before in
+    let n = l .before in
+    let t = late-fine _ (l .late .ensures) (count-is n) (e .if2 .left) in
+    given-replied (ready n K L) _ (l .late .ensures) (count-is n) (e .if2 .left)
+    (vector-given (vector n) (c .before .vector .ensures) (c .given .ensures))
+    (p .copy-run .ensures
+    ∙ ravel-copied (fine (n .before) .operand) (n .count .ensures) _ (omega (arith, t .space, count-is n))
+    ∙ vector-out (vector n) _)
 
 pub ravel-spec : {M : Type 1} → statement M
 ravel-spec =
@@ -66,10 +78,12 @@ ravel-spec =
     returns
     (λ c κs. search needs)
     (λ c κs. search needs)
+    (λ c κs. search needs)
     returns-2
     (λ c. search needs)
     (λ c. search needs)
     part-copy-run-end
+    (λ c κs. search needs)
     (λ c κs. search needs)
     (λ c κs. search needs)
     (λ c. search needs)
