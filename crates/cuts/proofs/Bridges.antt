@@ -18,23 +18,25 @@ use Rattle.meaning.specs.Array.{Array, at, tab, build}
 use Rattle.meaning.specs.Terms.{negative, every, rank, asRank, isScalar}
 use Rattle.meaning.specs.Primitives.{takes, drops, takenFrom, takenPlace, atOrZero, droppedLengths, droppedPlace}
 use Rattle.meaning.proofs.Tab.{tab-ext}
-use Rattle.cuts.specs.Windows.{cutMeaning, sizeOf, endOf, sizesOf, tableOf, cutAt}
+use Rattle.cuts.specs.declared.CutKind.{CutKind}
+use Rattle.cuts.specs.declared.CutKind.the-variants.{Take, Drop}
+use Rattle.cuts.specs.Steps.{cutMeaning, cutLength, keepsEnd, cutLengths, tableOf, cutAt}
 
 -- Position i of the result lies in the window of an axis.
-abbrev seen : Bool → ℤ → ℕ → ℕ → Bool
-seen d z n i =
-    let m : ℕ = sizeOf d z n in
-    let lead : ℕ = cond (endOf d z) (m - n) 0 in
+abbrev seen : CutKind → ℤ → ℕ → ℕ → Bool
+seen kind z n i =
+    let m : ℕ = cutLength kind z n in
+    let lead : ℕ = cond (keepsEnd kind z) (m - n) 0 in
     leb lead i && ltb i (lead + min m n)
 
 -- And this position of R is seen there.
-abbrev source : Bool → ℤ → ℕ → ℕ → ℕ
-source d z n i =
-    let m : ℕ = sizeOf d z n in
-    cond (endOf d z) (n - m) 0 + (i - cond (endOf d z) (m - n) 0)
+abbrev seenAt : CutKind → ℤ → ℕ → ℕ → ℕ
+seenAt kind z n i =
+    let m : ℕ = cutLength kind z n in
+    cond (keepsEnd kind z) (n - m) 0 + (i - cond (keepsEnd kind z) (m - n) 0)
 
 -- 23 on one axis: a position inside, and one outside.
-taken-in : (z : ℤ) (n i : ℕ) → i < natAbs z → seen false z n i ≡ true → (takenFrom z n i ≡ pos (source false z n i)) × (source false z n i < n)
+taken-in : (z : ℤ) (n i : ℕ) → i < natAbs z → seen Take z n i ≡ true → (takenFrom z n i ≡ pos (seenAt Take z n i)) × (seenAt Take z n i < n)
 unfolding takenFrom negative
 taken-in (pos m) n i h s =
     let t = both (leb 0 i) (ltb i (0 + min m n)) s in
@@ -46,7 +48,7 @@ taken-in (negsuc k) n i h s =
     let there : n + i - suc k ≡ n - suc k + (i - (suc k - n)) = omega arith in
     (rw not-below (ap pos there), omega arith)
 
-taken-out : (z : ℤ) (n i : ℕ) → i < natAbs z → seen false z n i ≡ false → (not (negative (takenFrom z n i)) && ltb (natAbs (takenFrom z n i)) n) ≡ false
+taken-out : (z : ℤ) (n i : ℕ) → i < natAbs z → seen Take z n i ≡ false → (not (negative (takenFrom z n i)) && ltb (natAbs (takenFrom z n i)) n) ≡ false
 unfolding takenFrom negative
 taken-out (pos m) n i h s = by (decLt i n)
   where
@@ -60,7 +62,7 @@ taken-out (negsuc k) n i h s = by (decLt (n + i) (suc k))
     by (no l) = absurd (no-way (sym s ∙ rw (le-leb (suc k - n) i (omega arith), lt-ltb i (suc k - n + min (suc k) n) (omega arith))))
 
 -- 24 on one axis: no position is outside.
-dropped-in : (z : ℤ) (n i : ℕ) → i < n - natAbs z → (seen true z n i ≡ true) × (source true z n i ≡ cond (negative z) i (i + natAbs z))
+dropped-in : (z : ℤ) (n i : ℕ) → i < n - natAbs z → (seen Drop z n i ≡ true) × (seenAt Drop z n i ≡ cond (negative z) i (i + natAbs z))
 unfolding negative
 dropped-in (pos a) n i h =
     (rw (le-leb (n - a - n) i (omega arith), lt-ltb i (n - a - n + min (n - a) n) (omega arith)), omega arith)
@@ -76,62 +78,55 @@ outside false b c d h = refl
 outside true false c d h = refl
 outside true true c d h = rw h
 
-pub taken-cut : (zs : List ℤ) (ns : List ℕ) (xs : List ℤ) (at j : ℕ) → length zs ≡ length ns → j < count (sizesOf false zs ns)
-    → atOr ns xs at (takenPlace zs ns (place (sizesOf false zs ns) j)) ≡ cutAt (tableOf false zs ns) xs at j
-unfolding cutAt tableOf sizesOf count place index inside every takenPlace negative
+pub taken-cut : (zs : List ℤ) (ns : List ℕ) (xs : List ℤ) (at j : ℕ) → length zs ≡ length ns → j < count (cutLengths Take zs ns)
+    → atOr ns xs at (takenPlace zs ns (place (cutLengths Take zs ns) j)) ≡ cutAt (tableOf Take zs ns) xs at j
+unfolding cutAt tableOf cutLengths count place index inside every takenPlace negative
 taken-cut [] [] xs at j l h = let e : j ≡ 0 = omega arith in rw e
 taken-cut [] (n ∷ ns) xs at j l h = absurd (omega arith)
 taken-cut (z ∷ zs) [] xs at j l h = absurd (omega arith)
 taken-cut (z ∷ zs) (n ∷ ns) xs at j l h =
-    let c : ℕ = count (sizesOf false zs ns) in
+    let c : ℕ = count (cutLengths Take zs ns) in
     let r = row-in (natAbs z) c j h in
-    by-test z n zs ns xs at (j / c) (place (sizesOf false zs ns) (j % c)) _ (r .1)
-    (λ b. taken-cut zs ns xs b (j % c) (omega arith) (mod-lt j (r .0))) (seen false z n (j / c)) refl
+    by-test z n zs ns xs at (j / c) (place (cutLengths Take zs ns) (j % c)) _ (r .1)
+    (λ b. taken-cut zs ns xs b (j % c) (omega arith) (mod-lt j (r .0))) (seen Take z n (j / c)) refl
   where
     by-test : (z : ℤ) (n : ℕ) (zs : List ℤ) (ns : List ℕ) (xs : List ℤ) (at i : ℕ) (p : List ℕ) (rest : ℕ → ℤ) → i < natAbs z
-        → ((b : ℕ) → atOr ns xs b (takenPlace zs ns p) ≡ rest b) → (t : Bool) → seen false z n i ≡ t
-        → atOr (n ∷ ns) xs at (takenFrom z n i ∷ takenPlace zs ns p) ≡ cond t (rest (at + source false z n i * count ns)) (pos 0)
+        → ((b : ℕ) → atOr ns xs b (takenPlace zs ns p) ≡ rest b) → (t : Bool) → seen Take z n i ≡ t
+        → atOr (n ∷ ns) xs at (takenFrom z n i ∷ takenPlace zs ns p) ≡ cond t (rest (at + seenAt Take z n i * count ns)) (pos 0)
     by-test z n zs ns xs at i p rest h more true s =
         let w = taken-in z n i h s in
-        let to : (x : ℕ) → at + (source false z n i * count ns + x) ≡ at + source false z n i * count ns + x = λ x. omega arith in
-        rw (w .0, lt-ltb (source false z n i) n (w .1), to) (more (at + source false z n i * count ns))
+        let to : (x : ℕ) → at + (seenAt Take z n i * count ns + x) ≡ at + seenAt Take z n i * count ns + x = λ x. omega arith in
+        rw (w .0, lt-ltb (seenAt Take z n i) n (w .1), to) (more (at + seenAt Take z n i * count ns))
     by-test z n zs ns xs at i p rest h more false s =
         rw (outside (not (negative (takenFrom z n i))) _ (ltb (natAbs (takenFrom z n i)) n) _ (taken-out z n i h s))
 
-pub dropped-cut : (zs : List ℤ) (ns : List ℕ) (xs : List ℤ) (at j : ℕ) → length zs ≡ length ns → j < count (sizesOf true zs ns)
-    → getD xs (at + index ns (droppedPlace zs (place (sizesOf true zs ns) j))) (pos 0) ≡ cutAt (tableOf true zs ns) xs at j
-unfolding cutAt tableOf sizesOf count place index droppedPlace
+pub dropped-cut : (zs : List ℤ) (ns : List ℕ) (xs : List ℤ) (at j : ℕ) → length zs ≡ length ns → j < count (cutLengths Drop zs ns)
+    → getD xs (at + index ns (droppedPlace zs (place (cutLengths Drop zs ns) j))) (pos 0) ≡ cutAt (tableOf Drop zs ns) xs at j
+unfolding cutAt tableOf cutLengths count place index droppedPlace
 dropped-cut [] [] xs at j l h = let e : j ≡ 0 = omega arith in rw e
 dropped-cut [] (n ∷ ns) xs at j l h = absurd (omega arith)
 dropped-cut (z ∷ zs) [] xs at j l h = absurd (omega arith)
 dropped-cut (z ∷ zs) (n ∷ ns) xs at j l h =
-    let c : ℕ = count (sizesOf true zs ns) in
+    let c : ℕ = count (cutLengths Drop zs ns) in
     let r = row-in (n - natAbs z) c j h in
     let w = dropped-in z n (j / c) (r .1) in
-    let from : ℕ = source true z n (j / c) in
-    let x : ℕ = index ns (droppedPlace zs (place (sizesOf true zs ns) (j % c))) in
+    let from : ℕ = seenAt Drop z n (j / c) in
+    let x : ℕ = index ns (droppedPlace zs (place (cutLengths Drop zs ns) (j % c))) in
     let to : at + (from * count ns + x) ≡ at + from * count ns + x = omega arith in
     rw (w .0, ← w .1) (ap (λ y. getD xs y (pos 0)) to ∙ dropped-cut zs ns xs (at + from * count ns) (j % c) (omega arith) (mod-lt j (r .0)))
 
 -- The result's lengths.
-sizes-taken : (zs : List ℤ) (ns : List ℕ) → length zs ≡ length ns → map natAbs zs ≡ sizesOf false zs ns
-unfolding sizesOf
-sizes-taken [] ns l = refl
-sizes-taken (z ∷ zs) [] l = absurd (omega arith)
-sizes-taken (z ∷ zs) (n ∷ ns) l = ap (λ ms. natAbs z ∷ ms) (sizes-taken zs ns (omega arith))
+lengths-taken : (zs : List ℤ) (ns : List ℕ) → length zs ≡ length ns → map natAbs zs ≡ cutLengths Take zs ns
+unfolding cutLengths
+lengths-taken [] ns l = refl
+lengths-taken (z ∷ zs) [] l = absurd (omega arith)
+lengths-taken (z ∷ zs) (n ∷ ns) l = ap (λ ms. natAbs z ∷ ms) (lengths-taken zs ns (omega arith))
 
-sizes-dropped : (zs : List ℤ) (ns : List ℕ) → droppedLengths zs ns ≡ sizesOf true zs ns
-unfolding sizesOf droppedLengths
-sizes-dropped [] ns = refl
-sizes-dropped (z ∷ zs) [] = refl
-sizes-dropped (z ∷ zs) (n ∷ ns) = ap (λ ms. (n - natAbs z) ∷ ms) (sizes-dropped zs ns)
-
-pub size-length : (d : Bool) (zs : List ℤ) (ns : List ℕ) → length zs ≡ length ns → length (sizesOf d zs ns) ≡ length ns
-unfolding sizesOf
-size-length d [] [] l = refl
-size-length d [] (n ∷ ns) l = absurd (omega arith)
-size-length d (z ∷ zs) [] l = absurd (omega arith)
-size-length d (z ∷ zs) (n ∷ ns) l = ap suc (size-length d zs ns (omega arith))
+lengths-dropped : (zs : List ℤ) (ns : List ℕ) → droppedLengths zs ns ≡ cutLengths Drop zs ns
+unfolding cutLengths droppedLengths
+lengths-dropped [] ns = refl
+lengths-dropped (z ∷ zs) [] = refl
+lengths-dropped (z ∷ zs) (n ∷ ns) = ap (λ ms. (n - natAbs z) ∷ ms) (lengths-dropped zs ns)
 
 pub as-elements : (n : ℕ) (a : Array) → asRank n a .elements ≡ a .elements
 as-elements n a = by (isScalar a)
@@ -150,32 +145,34 @@ at-is : (a : Array) (p : List ℕ) → at a p ≡ getD (a .elements) (0 + index 
 unfolding at
 at-is a p = ap (λ i. getD (a .elements) i (pos 0)) (sym (zero-add (index (a .lengths) p)))
 
--- What both give, for a left operand L and a right operand of r's lengths.
-module _ (L R : Array) (l : length (L .elements) ≡ rank (asRank (length (L .elements)) R)) where
-  abbrev read : Array
-  read = asRank (length (L .elements)) R
+-- R as it is read: a scalar has as many axes as L has numbers.
+abbrev pub read : Array → Array → Array
+read L R = asRank (length (L .elements)) R
 
-  pub cut-lengths : (d : Bool) → cutMeaning d L R .lengths ≡ sizesOf d (L .elements) (read .lengths)
+-- What both give.
+module _ (L R : Array) (l : length (L .elements) ≡ rank (read L R)) where
+  pub cut-lengths : (kind : CutKind) → cutMeaning kind L R .lengths ≡ cutLengths kind (L .elements) (read L R .lengths)
   unfolding takes drops
-  cut-lengths false = sizes-taken (L .elements) (read .lengths) l
-  cut-lengths true = sizes-dropped (L .elements) (read .lengths)
+  cut-lengths Take = lengths-taken (L .elements) (read L R .lengths) l
+  cut-lengths Drop = lengths-dropped (L .elements) (read L R .lengths)
 
-  cut-element : (d : Bool) (j : ℕ) → j < count (sizesOf d (L .elements) (read .lengths))
-      → cutMeaning d L R .element (place (sizesOf d (L .elements) (read .lengths)) j) ≡ cutAt (tableOf d (L .elements) (read .lengths)) (R .elements) 0 j
+  cut-element : (kind : CutKind) (j : ℕ) → j < count (cutLengths kind (L .elements) (read L R .lengths))
+      → cutMeaning kind L R .element (place (cutLengths kind (L .elements) (read L R .lengths)) j)
+      ≡ cutAt (tableOf kind (L .elements) (read L R .lengths)) (R .elements) 0 j
   unfolding takes drops
-  cut-element false j h =
-      at-or read (takenPlace (L .elements) (read .lengths) (place (sizesOf false (L .elements) (read .lengths)) j))
-      ∙ taken-cut (L .elements) (read .lengths) (read .elements) 0 j l h
-      ∙ ap (λ xs. cutAt (tableOf false (L .elements) (read .lengths)) xs 0 j) (as-elements (length (L .elements)) R)
-  cut-element true j h =
-      at-is read (droppedPlace (L .elements) (place (sizesOf true (L .elements) (read .lengths)) j))
-      ∙ dropped-cut (L .elements) (read .lengths) (read .elements) 0 j l h
-      ∙ ap (λ xs. cutAt (tableOf true (L .elements) (read .lengths)) xs 0 j) (as-elements (length (L .elements)) R)
+  cut-element Take j h =
+      at-or (read L R) (takenPlace (L .elements) (read L R .lengths) (place (cutLengths Take (L .elements) (read L R .lengths)) j))
+      ∙ taken-cut (L .elements) (read L R .lengths) (read L R .elements) 0 j l h
+      ∙ ap (λ xs. cutAt (tableOf Take (L .elements) (read L R .lengths)) xs 0 j) (as-elements (length (L .elements)) R)
+  cut-element Drop j h =
+      at-is (read L R) (droppedPlace (L .elements) (place (cutLengths Drop (L .elements) (read L R .lengths)) j))
+      ∙ dropped-cut (L .elements) (read L R .lengths) (read L R .elements) 0 j l h
+      ∙ ap (λ xs. cutAt (tableOf Drop (L .elements) (read L R .lengths)) xs 0 j) (as-elements (length (L .elements)) R)
 
-  pub cut-elements : (d : Bool)
-      → build (cutMeaning d L R .lengths) (cutMeaning d L R .element) .elements
-      ≡ tab (count (sizesOf d (L .elements) (read .lengths))) (cutAt (tableOf d (L .elements) (read .lengths)) (R .elements) 0)
+  pub cut-elements : (kind : CutKind)
+      → build (cutMeaning kind L R .lengths) (cutMeaning kind L R .element) .elements
+      ≡ tab (count (cutMeaning kind L R .lengths)) (cutAt (tableOf kind (L .elements) (read L R .lengths)) (R .elements) 0)
   unfolding build
-  cut-elements d =
-      ap (λ ms. tab (count ms) (λ j. cutMeaning d L R .element (place ms j))) (cut-lengths d)
-      ∙ tab-ext (count (sizesOf d (L .elements) (read .lengths))) _ _ (cut-element d)
+  cut-elements kind =
+      tab-ext (count (cutMeaning kind L R .lengths)) _ _
+      (λ j h. ap (λ ms. cutMeaning kind L R .element (place ms j)) (cut-lengths kind) ∙ cut-element kind j (rw (cut-lengths kind) at h))

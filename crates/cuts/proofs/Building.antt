@@ -1,22 +1,24 @@
 -- The result's lengths and the table, as they are built axis by axis.
 use Prim.Native.Nat.{ℕ, zero, suc, _+_, _*_, _-_, _≤_, _<_, min}
 use native.Mathlib.Nat.{mul-comm, sub-zero}
-use native.Mathlib.Numerals.{add-one}
 use native.Mathlib.Omega.{arith}
 use mathlib.Core.Path.{_≡_, refl, sym, ap, ap₂, _∙_}
 use mathlib.Core.List.{List, [], _∷_, _++_, append-assoc}
-use mathlib.Core.Bool.{Bool}
-use lib.ListN.{length, getD, take, drop, set}
-use lib.Seq.{take-suc, take-suc-set, length-take-le, slice-empty, slice-cons, sets, length-sets, sets-eq, drop-at, take-nil}
+use lib.ListN.{length, getD, take, drop, set, replicate}
+use lib.Seq.{getD-take, take-all, length-take-le, slice-empty, slice-cons, sets, length-sets, sets-eq, drop-at, take-nil}
 use lib.IntN.{ℤ, pos}
-use Rattle.shape.specs.Shape.{maxRank, maxCount, count}
+use Rattle.shape.specs.declared.Shape.{Shape}
+use Rattle.shape.specs.Shape.{maxRank, maxCount, count, shapeOf}
 use Rattle.shape.proofs.Counts.{count-drop}
+use Rattle.shape.proofs.Padded.{padded-more}
 use Rattle.cuts.specs.declared.Window.{Window}
-use Rattle.cuts.specs.Windows.{sizeOf, windowOf, sizesOf, tableOf, Cut}
+use Rattle.cuts.specs.declared.CutKind.{CutKind}
+use Rattle.cuts.specs.Steps.{cutLength, cutLengths, CutShape, windowOf, tableOf, Nonempty}
 
 -- The window of an axis, as its code finds it from the result's length m and what of it lies beyond n.
 pub window-end : (m n size lead : ℕ) → size ≡ m → lead ≡ size - n
-    → _≡_ {A = Window} (record { lead = lead; from = n - (size - lead); len = size - lead; size = size }) (record { lead = m - n; from = n - m; len = min m n; size = m })
+    → _≡_ {A = Window} (record { lead = lead; from = n - (size - lead); len = size - lead; size = size })
+    (record { lead = m - n; from = n - m; len = min m n; size = m })
 window-end m n size lead e h =
     let a : lead ≡ m - n = omega arith in
     let b : n - (size - lead) ≡ n - m = omega arith in
@@ -29,37 +31,69 @@ window-front m n size lead e h =
     let c : size - lead ≡ min m n = omega arith in
     cc
 
--- One axis more, at the end.
-sizes-snoc : (d : Bool) (zs : List ℤ) (ns : List ℕ) (z : ℤ) (n : ℕ) → length zs ≡ length ns
-    → sizesOf d (zs ++ (z ∷ [])) (ns ++ (n ∷ [])) ≡ sizesOf d zs ns ++ (sizeOf d z n ∷ [])
-unfolding sizesOf
-sizes-snoc d [] [] z n l = refl
-sizes-snoc d [] (m ∷ ns) z n l = absurd (omega arith)
-sizes-snoc d (y ∷ zs) [] z n l = absurd (omega arith)
-sizes-snoc d (y ∷ zs) (m ∷ ns) z n l = ap (λ ms. sizeOf d y m ∷ ms) (sizes-snoc d zs ns z n (omega arith))
+-- The result's lengths: how many there are, one of them, and those of the later axes.
+pub lengths-long : (kind : CutKind) (zs : List ℤ) (ns : List ℕ) → length zs ≡ length ns → length (cutLengths kind zs ns) ≡ length ns
+unfolding cutLengths
+lengths-long kind [] [] l = refl
+lengths-long kind [] (n ∷ ns) l = absurd (omega arith)
+lengths-long kind (z ∷ zs) [] l = absurd (omega arith)
+lengths-long kind (z ∷ zs) (n ∷ ns) l = ap suc (lengths-long kind zs ns (omega arith))
 
-pub sizes-more : (d : Bool) (l : List ℤ) (lens sizes : List ℕ) (i v : ℕ) → i < length l → i < length lens → i < length sizes
-    → take i sizes ≡ sizesOf d (take i l) (take i lens) → v ≡ sizeOf d (getD l i (pos 0)) (getD lens i 0)
-    → take (i + 1) (set sizes i v) ≡ sizesOf d (take (i + 1) l) (take (i + 1) lens)
-sizes-more d l lens sizes i v a b c e q =
-    rw (add-one i, take-suc-set sizes i v c, take-suc l i (pos 0) a, take-suc lens i 0 b, e, q)
-    (sym (sizes-snoc d (take i l) (take i lens) (getD l i (pos 0)) (getD lens i 0) (length-take-le i l (omega arith) ∙ sym (length-take-le i lens (omega arith)))))
+lengths-at : (kind : CutKind) (zs : List ℤ) (ns : List ℕ) (i : ℕ) → i < length zs → i < length ns
+    → getD (cutLengths kind zs ns) i 0 ≡ cutLength kind (getD zs i (pos 0)) (getD ns i 0)
+unfolding cutLengths
+lengths-at kind [] ns i a b = absurd (omega arith)
+lengths-at kind (z ∷ zs) [] i a b = absurd (omega arith)
+lengths-at kind (z ∷ zs) (n ∷ ns) zero a b = refl
+lengths-at kind (z ∷ zs) (n ∷ ns) (suc i) a b = lengths-at kind zs ns i (omega arith) (omega arith)
+
+lengths-drop : (kind : CutKind) (k : ℕ) (zs : List ℤ) (ns : List ℕ) → length zs ≡ length ns
+    → cutLengths kind (drop k zs) (drop k ns) ≡ drop k (cutLengths kind zs ns)
+unfolding cutLengths
+lengths-drop kind zero zs ns l = refl
+lengths-drop kind (suc k) [] [] l = refl
+lengths-drop kind (suc k) [] (n ∷ ns) l = absurd (omega arith)
+lengths-drop kind (suc k) (z ∷ zs) [] l = absurd (omega arith)
+lengths-drop kind (suc k) (z ∷ zs) (n ∷ ns) l = lengths-drop kind k zs ns (omega arith)
+
+-- The lengths of the result's shape, as they are found axis by axis: the first i of n, and zeros.
+abbrev pub lengthsTo : CutKind → ℕ → List ℕ → List ℤ → ℕ → List ℕ
+lengthsTo kind n lens l i = take i (cutLengths kind (take n l) (take n lens)) ++ replicate (maxRank - i) 0
+
+module _ (kind : CutKind) (r : ℕ) (lens : List ℕ) (l : List ℤ) (a : r ≤ length l) (long : length lens ≡ maxRank) (n : ℕ) (q : n ≡ min r maxRank) where
+  abbrev ms : List ℕ
+  ms = cutLengths kind (take n l) (take n lens)
+
+  zs-long : length (take n l) ≡ n
+  zs-long = length-take-le n l (omega arith)
+
+  ns-long : length (take n lens) ≡ n
+  ns-long = length-take-le n lens (omega arith)
+
+  ms-long : length ms ≡ n
+  ms-long = lengths-long kind (take n l) (take n lens) (zs-long ∙ sym ns-long) ∙ ns-long
+
+  pub lengths-more : (i v : ℕ) (xs : List ℕ) → i < n → xs ≡ lengthsTo kind n lens l i → v ≡ cutLength kind (getD l i (pos 0)) (getD lens i 0)
+      → set xs i v ≡ lengthsTo kind n lens l (i + 1)
+  lengths-more i v xs h e f =
+      let here : getD ms i 0 ≡ v =
+      lengths-at kind (take n l) (take n lens) i (rw zs-long h) (rw ns-long h)
+      ∙ ap₂ (cutLength kind) (getD-take n l i (pos 0) h) (getD-take n lens i 0 h)
+      ∙ sym f in
+      rw (e, ← here) (padded-more ms maxRank i (omega (arith, ms-long)) (omega arith))
+
+  pub lengths-all : (i : ℕ) (xs : List ℕ) → i ≡ n → xs ≡ lengthsTo kind n lens l i → CutShape kind r lens l (record { rank = r; lens = xs })
+  lengths-all i xs e f =
+      let whole : _≡_ {A = Shape} (record { rank = n; lens = xs }) (shapeOf ms) =
+      ap₂ (λ x y. record { rank = x; lens = y }) (sym ms-long) (f ∙ rw (e, take-all n ms (omega (arith, ms-long)), ms-long)) in
+      record { rank-is = refl; made = λ h. let same : n ≡ r = omega arith in rw same at whole }
 
 -- Two lists of lengths that are the same from one axis on are so from the axis before it, if that is the same.
-pub same-more : (lens sizes : List ℕ) (rank k i : ℕ) → i ≡ suc k → k < rank → rank ≤ length lens → rank ≤ length sizes
-    → drop i (take rank lens) ≡ drop i (take rank sizes) → getD lens k 0 ≡ getD sizes k 0 → drop k (take rank lens) ≡ drop k (take rank sizes)
-same-more lens sizes rank k i e h a b s q =
-    let s′ : drop (suc k) (take rank lens) ≡ drop (suc k) (take rank sizes) = rw e at s in
-    slice-cons k rank lens 0 h a ∙ ap₂ (λ x xs. x ∷ xs) q s′ ∙ sym (slice-cons k rank sizes 0 h b)
-
--- The counts of the later axes.
-sizes-drop : (d : Bool) (k : ℕ) (zs : List ℤ) (ns : List ℕ) → length zs ≡ length ns → sizesOf d (drop k zs) (drop k ns) ≡ drop k (sizesOf d zs ns)
-unfolding sizesOf
-sizes-drop d zero zs ns l = refl
-sizes-drop d (suc k) [] [] l = refl
-sizes-drop d (suc k) [] (n ∷ ns) l = absurd (omega arith)
-sizes-drop d (suc k) (z ∷ zs) [] l = absurd (omega arith)
-sizes-drop d (suc k) (z ∷ zs) (n ∷ ns) l = sizes-drop d k zs ns (omega arith)
+pub same-more : (lens result : List ℕ) (rank k i : ℕ) → i ≡ suc k → k < rank → rank ≤ length lens → rank ≤ length result
+    → drop i (take rank lens) ≡ drop i (take rank result) → getD lens k 0 ≡ getD result k 0 → drop k (take rank lens) ≡ drop k (take rank result)
+same-more lens result rank k i e h a b s q =
+    let s′ : drop (suc k) (take rank lens) ≡ drop (suc k) (take rank result) = rw e at s in
+    slice-cons k rank lens 0 h a ∙ ap₂ (λ x xs. x ∷ xs) q s′ ∙ sym (slice-cons k rank result 0 h b)
 
 -- A part of a front.
 drop-take : {A : Type 0} (p n : ℕ) (xs : List A) → drop p (take n xs) ≡ take (n - p) (drop p xs)
@@ -97,16 +131,16 @@ module _ (t : List ℕ) (p : ℕ) where
       ∙ ap (λ x. a ∷ b ∷ c ∷ d ∷ e ∷ x) (sym (drop-take (p + 5) n t))
 
 -- What the table's loop has built when it comes to axis i.
-pub record Built (d : Bool) (rank : ℕ) (lens : List ℕ) (l : List ℤ) (table : List ℕ) (step block i : ℕ) : Type 0 where
+pub record Built (kind : CutKind) (rank : ℕ) (lens : List ℕ) (l : List ℤ) (table : List ℕ) (step block i : ℕ) : Type 0 where
   pub below : i ≤ rank
   pub long : length table ≡ 5 * maxRank
-  pub rows : drop (i * 5) (take (rank * 5) table) ≡ tableOf d (drop i (take rank l)) (drop i (take rank lens))
+  pub rows : drop (i * 5) (take (rank * 5) table) ≡ tableOf kind (drop i (take rank l)) (drop i (take rank lens))
   pub steps : step ≡ count (drop i (take rank lens))
-  pub blocks : block ≡ count (sizesOf d (drop i (take rank l)) (drop i (take rank lens)))
+  pub blocks : block ≡ count (cutLengths kind (drop i (take rank l)) (drop i (take rank lens)))
 
-module _ (d : Bool) (rank : ℕ) (lens : List ℕ) (l : List ℤ) (c : Cut d rank lens l) (long : length lens ≡ maxRank) where
-  pub built-none : (table : List ℕ) → length table ≡ 5 * maxRank → Built d rank lens l table 1 1 rank
-  unfolding tableOf sizesOf count
+module _ {kind : CutKind} {rank : ℕ} {lens : List ℕ} {l : List ℤ} (c : Nonempty kind rank lens l) (long : length lens ≡ maxRank) where
+  pub built-none : (table : List ℕ) → length table ≡ 5 * maxRank → Built kind rank lens l table 1 1 rank
+  unfolding tableOf cutLengths count
   built-none table t =
       let zs : drop rank (take rank l) ≡ [] = slice-empty rank l in
       let ns : drop rank (take rank lens) ≡ [] = slice-empty rank lens in
@@ -118,19 +152,19 @@ module _ (d : Bool) (rank : ℕ) (lens : List ℕ) (l : List ℤ) (c : Cut d ran
         blocks = sym (rw zs);
       }
 
-  pub built-all : (table : List ℕ) (step block i : ℕ) → i ≡ 0 → Built d rank lens l table step block i
-      → take (rank * 5) table ≡ tableOf d (take rank l) (take rank lens)
-  built-all table step block i e b = rw e at (b .rows)
+  pub built-all : {table : List ℕ} {step block i : ℕ} → i ≡ 0 → Built kind rank lens l table step block i
+      → take (rank * 5) table ≡ tableOf kind (take rank l) (take rank lens)
+  built-all e b = rw e at (b .rows)
 
   same : length (take rank l) ≡ length (take rank lens)
   same = length-take-le rank l (c .enough) ∙ sym (length-take-le rank lens (omega (arith, c .high)))
 
-  module _ (table : List ℕ) (step block i k : ℕ) (b : Built d rank lens l table step block i) (e : i ≡ suc k) where
+  module _ {table : List ℕ} {step block i : ℕ} (k : ℕ) (b : Built kind rank lens l table step block i) (e : i ≡ suc k) where
     abbrev n : ℕ
     n = getD lens k 0
 
     abbrev m : ℕ
-    m = sizeOf d (getD l k (pos 0)) n
+    m = cutLength kind (getD l k (pos 0)) n
 
     ns-cons : drop k (take rank lens) ≡ n ∷ drop i (take rank lens)
     ns-cons = slice-cons k rank lens 0 (omega (arith, b .below)) (omega (arith, c .high)) ∙ ap (λ x. n ∷ drop x (take rank lens)) (sym e)
@@ -142,8 +176,8 @@ module _ (d : Bool) (rank : ℕ) (lens : List ℕ) (l : List ℤ) (c : Cut d ran
     unfolding count
     next-step = rw (ns-cons, b .steps) (mul-comm _ _)
 
-    next-block : block * m ≡ count (sizesOf d (drop k (take rank l)) (drop k (take rank lens)))
-    unfolding count sizesOf
+    next-block : block * m ≡ count (cutLengths kind (drop k (take rank l)) (drop k (take rank lens)))
+    unfolding count cutLengths
     next-block = rw (ns-cons, zs-cons, b .blocks) (mul-comm _ _)
 
     -- The products stay within the limit.
@@ -152,17 +186,17 @@ module _ (d : Bool) (rank : ℕ) (lens : List ℕ) (l : List ℤ) (c : Cut d ran
 
     pub block-small : block * m ≤ maxCount
     block-small =
-        rw (next-block, sizes-drop d k (take rank l) (take rank lens) same)
-        (omega (arith, count-drop k (sizesOf d (take rank l) (take rank lens)) (c .result) .1, c .limit))
+        rw (next-block, lengths-drop kind k (take rank l) (take rank lens) same)
+        (omega (arith, count-drop k (cutLengths kind (take rank l) (take rank lens)) (c .result) .1, c .limit))
 
     pub built-more : (table′ : List ℕ) (w : Window) → table′ ≡ stored table (k * 5) (w .lead) (w .from) (w .len) step block
-        → w ≡ windowOf d (getD l k (pos 0)) n → Built d rank lens l table′ (step * n) (block * w .size) k
+        → w ≡ windowOf kind (getD l k (pos 0)) n → Built kind rank lens l table′ (step * n) (block * w .size) k
     unfolding tableOf
     built-more table′ w t q =
         let room : k * 5 + 5 ≤ rank * 5 = omega (arith, b .below) in
         let wide : k * 5 + 5 ≤ length table = omega (arith, b .long, c .high) in
         let next : k * 5 + 5 ≡ i * 5 = omega arith in
-        let rest : drop (k * 5 + 5) (take (rank * 5) table) ≡ tableOf d (drop i (take rank l)) (drop i (take rank lens)) =
+        let rest : drop (k * 5 + 5) (take (rank * 5) table) ≡ tableOf kind (drop i (take rank l)) (drop i (take rank lens)) =
         ap (λ x. drop x (take (rank * 5) table)) next ∙ b .rows in
         record {
           below = omega (arith, b .below);
@@ -174,7 +208,3 @@ module _ (d : Bool) (rank : ℕ) (lens : List ℕ) (l : List ℤ) (c : Cut d ran
           steps = next-step;
           blocks = ap (λ x. block * x .size) q ∙ next-block;
         }
-
-pub none : (d : Bool) → _≡_ {A = List ℕ} [] (sizesOf d [] [])
-unfolding sizesOf
-none d = refl

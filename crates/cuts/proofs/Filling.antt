@@ -4,7 +4,6 @@ use native.Mathlib.Nat.{sub-zero, zero-add}
 use native.Mathlib.Omega.{arith}
 use mathlib.Core.Path.{_≡_, refl, sym, ap, ap₂, _∙_}
 use mathlib.Core.List.{List, []}
-use mathlib.Core.Bool.{Bool}
 use lib.ListN.{length, getD, take, drop, replicate, drop-of-length-le}
 use lib.Seq.{take-take, length-take-le}
 use lib.IntN.{ℤ, pos}
@@ -13,7 +12,8 @@ use Rattle.meaning.specs.Array.{tab}
 use Rattle.meaning.proofs.Tab.{tab-ext, tab-same}
 use Rattle.copying.specs.Runs.{copied}
 use Rattle.copying.proofs.Runs.{tab-is, copied-whole}
-use Rattle.cuts.specs.Windows.{sizesOf, tableOf, cutAt, Fitting, Cut, Parts}
+use Rattle.cuts.specs.declared.CutKind.{CutKind}
+use Rattle.cuts.specs.Steps.{cutLengths, tableOf, cutAt, Fitting, Nonempty, Parts}
 use Rattle.cuts.proofs.Tables.{cut-empty, cut-whole, cut-front, table-fits}
 
 pub fill-none : (out : List ℤ) (g : ℕ → ℤ) → length out ≡ 0 → out ≡ tab (length out) g
@@ -25,7 +25,8 @@ fill-zeros t r out last e q =
     let none : [] ≡ r = sym (drop-of-length-le r {i = 0} (omega arith)) in
     q ∙ tab-same (length out) (pos 0) (cutAt t r 0) (λ i l. sym (ap (λ x. cutAt t x 0 i) none) ∙ cut-empty t 0 i)
 
-module _ (d : Bool) (rank : ℕ) (lens sizes : List ℕ) (l r out : List ℤ) (p : Parts d rank lens sizes l (length r) (length out)) (long : length lens ≡ maxRank) where
+module _ {kind : CutKind} {rank : ℕ} {lens result : List ℕ} {l : List ℤ} (r out : List ℤ) (p : Parts kind rank lens result l (length r) (length out))
+    (long : length lens ≡ maxRank) where
   abbrev zs : List ℤ
   zs = take rank l
 
@@ -35,7 +36,7 @@ module _ (d : Bool) (rank : ℕ) (lens sizes : List ℕ) (l r out : List ℤ) (p
   same : length zs ≡ length ns
   same = length-take-le rank l (p .enough) ∙ sym (length-take-le rank lens (omega (arith, p .high)))
 
-  pub fill-some : 0 < length r → 0 < length out → Cut d rank lens l
+  pub fill-some : 0 < length r → 0 < length out → Nonempty kind rank lens l
   fill-some a b = record {
     high = p .high;
     enough = p .enough;
@@ -45,33 +46,35 @@ module _ (d : Bool) (rank : ℕ) (lens sizes : List ℕ) (l r out : List ℤ) (p
     limit = omega (arith, p .result, p .limit);
   }
 
-  module _ (u : ℕ) (tail : drop u ns ≡ drop u (take rank sizes)) where
-    tail-is : drop u ns ≡ drop u (sizesOf d zs ns)
-    tail-is = tail ∙ ap (drop u) (p .cut)
+  module _ (u : ℕ) (tail : drop u ns ≡ drop u (take rank result)) where
+    tail-is : drop u ns ≡ drop u (cutLengths kind zs ns)
+    tail-is = tail ∙ ap (drop u) (p .made)
 
     -- Every axis is taken whole.
-    pub fill-whole : u ≡ 0 → (last : List ℤ) → last ≡ copied r out → last ≡ tab (length out) (cutAt (tableOf d zs ns) r 0)
+    pub fill-whole : u ≡ 0 → (last : List ℤ) → last ≡ copied r out → last ≡ tab (length out) (cutAt (tableOf kind zs ns) r 0)
     fill-whole e last q =
-        let all : ns ≡ sizesOf d zs ns = rw e at tail-is in
+        let all : ns ≡ cutLengths kind zs ns = rw e at tail-is in
         let even : length r ≡ length out = p .source ∙ ap count all ∙ sym (p .result) in
         let run : last ≡ r = q ∙ copied-whole r out even in
-        tab-is last (pos 0) (length out) (cutAt (tableOf d zs ns) r 0) (ap length run ∙ even)
-        (λ i k. cut-whole d zs ns r 0 i same all (omega (arith, even, p .source)) ∙ ap₂ (λ x y. getD x y (pos 0)) (sym run) (zero-add i))
+        tab-is last (pos 0) (length out) (cutAt (tableOf kind zs ns) r 0) (ap length run ∙ even)
+        (λ i k. cut-whole kind zs ns r 0 i same all (omega (arith, even, p .source)) ∙ ap₂ (λ x y. getD x y (pos 0)) (sym run) (zero-add i))
 
-    module _ (table : List ℕ) (t : take (rank * 5) table ≡ tableOf d zs ns) (a : u ≤ rank) where
-      front : take (u * 5 - 0) table ≡ take (u * 5) (tableOf d zs ns)
+    module _ (table : List ℕ) (t : take (rank * 5) table ≡ tableOf kind zs ns) (a : u ≤ rank) where
+      front : take (u * 5 - 0) table ≡ take (u * 5) (tableOf kind zs ns)
       front = ap (λ k. take k table) (sub-zero (u * 5)) ∙ sym (take-take (u * 5) (rank * 5) table (omega arith)) ∙ ap (take (u * 5)) t
 
       pub fill-fits : 0 < u → 0 < length r → 0 < length out → Fitting (take (u * 5 - 0) table) 0 (length r) (length out)
       fill-fits b n o = by u (omega arith) (omega (arith, length-take-le rank lens (omega (arith, p .high, long)))) tail-is front
         where
-          by : (v : ℕ) → 0 < v → v ≤ length ns → drop v ns ≡ drop v (sizesOf d zs ns) → take (u * 5 - 0) table ≡ take (v * 5) (tableOf d zs ns)
+          by : (v : ℕ) → 0 < v → v ≤ length ns → drop v ns ≡ drop v (cutLengths kind zs ns) → take (u * 5 - 0) table ≡ take (v * 5) (tableOf kind zs ns)
               → Fitting (take (u * 5 - 0) table) 0 (length r) (length out)
           by zero v w x y = absurd (omega arith)
-          by (suc v) z w x y = rw (y, p .result) (table-fits d v zs ns 0 (length r) same w (omega (arith, p .result)) (omega (arith, p .source)) (omega (arith, p .source)) x)
+          by (suc v) z w x y =
+              rw (y, p .result)
+              (table-fits kind v zs ns 0 (length r) same w (omega (arith, p .result)) (omega (arith, p .source)) (omega (arith, p .source)) x)
 
-      pub fill-cut : (last : List ℤ) → last ≡ tab (length out) (cutAt (take (u * 5 - 0) table) r 0) → last ≡ tab (length out) (cutAt (tableOf d zs ns) r 0)
+      pub fill-cut : (last : List ℤ) → last ≡ tab (length out) (cutAt (take (u * 5 - 0) table) r 0) → last ≡ tab (length out) (cutAt (tableOf kind zs ns) r 0)
       fill-cut last q =
           q
           ∙ tab-ext (length out) _ _
-          (λ j k. ap (λ x. cutAt x r 0 j) front ∙ cut-front d u zs ns r 0 j same tail-is (omega (arith, p .result)))
+          (λ j k. ap (λ x. cutAt x r 0 j) front ∙ cut-front kind u zs ns r 0 j same tail-is (omega (arith, p .result)))

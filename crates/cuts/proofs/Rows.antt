@@ -1,71 +1,26 @@
 -- The last two windows of a table t: the first of them chooses rows, and each row has one run of the same length.
 use Prim.Native.Nat.{ℕ, _+_, _*_, _-_, _≤_, _<_}
-use native.Mathlib.Nat.{mul-le-mul-right}
 use native.Mathlib.Omega.{arith}
 use mathlib.Core.Path.{_≡_, refl, sym, ap, ap₂, _∙_}
-use mathlib.Core.List.{List, _++_, append-assoc}
+use mathlib.Core.List.{List}
 use mathlib.Core.Bool.{Bool, true, false}
-use lib.ListN.{length, getD, take, drop, replicate, length-drop, length-replicate, getD-replicate, take-append-drop}
-use lib.Seq.{getD-take, getD-drop, length-take-le, drop-drop}
+use lib.ListN.{length, getD, take, drop, length-drop}
+use lib.Seq.{getD-drop}
 use lib.IntN.{ℤ, pos}
 use borrow.Rule.Slice.PartMut.{putMid}
-use Rattle.shape.proofs.Places.{row-fits}
-use Rattle.meaning.specs.Array.{tab}
-use Rattle.meaning.proofs.Tab.{tab-add}
 use Rattle.copying.specs.Runs.{copied}
-use Rattle.copying.proofs.Runs.{filled, filled-none, filled-whole, length-filled, tab-is, put-copied}
-use Rattle.cuts.specs.Windows.{cutAt, Cleared, Blank}
-use Rattle.cuts.proofs.Cutting.{Fits, fits, lead, from, len, step, block, cut-before, cut-after, cut-inside, cut-run}
+use Rattle.copying.proofs.Runs.{put-copied}
+use Rattle.copying.specs.Steps.{filled}
+use Rattle.cuts.specs.Steps.{cutAt, Blank}
+use Rattle.cuts.proofs.Cutting.{Fits, fits, lead, from, len, step, block, start, stop, cut-before, cut-after, cut-inside, cut-run, cut-room, filled-on}
 
--- Zeros around, and zeros everywhere.
-pub blank-around : (whole : Bool) (start stop n : ℕ) (out : List ℤ) → whole ≡ true → Cleared start stop n out → Blank whole start stop n out
-blank-around whole start stop n out w z = record {
-  long = z .long;
-  before = λ j h. sym (getD-take start out j (pos 0) h) ∙ ap (λ l. getD l j (pos 0)) (z .before) ∙ getD-replicate start j (pos 0) (pos 0) h;
-  after = λ j h k.
-      let there : stop + (j - stop) ≡ j = omega arith in
-      sym (getD-drop stop out (j - stop) (pos 0) ∙ ap (λ i. getD out i (pos 0)) there)
-      ∙ ap (λ l. getD l (j - stop) (pos 0)) (z .after)
-      ∙ getD-replicate (n - stop) (j - stop) (pos 0) (pos 0) (omega arith);
-  between = λ e. absurd (let no : _≡_ {A = ℕ} 0 1 = cc in omega arith);
-}
-
-pub blank-all : (whole : Bool) (start stop n : ℕ) (out : List ℤ) → start ≤ stop → stop ≤ n → out ≡ replicate n (pos 0) → Blank whole start stop n out
-blank-all whole start stop n out h k e =
-    let all : (j : ℕ) → j < n → getD out j (pos 0) ≡ pos 0 = λ j l. ap (λ x. getD x j (pos 0)) e ∙ getD-replicate n j (pos 0) (pos 0) l in
-    record {
-      long = ap length e ∙ length-replicate n (pos 0);
-      before = λ j l. all j (omega arith);
-      after = λ j a l. all j l;
-      between = λ f. all;
-    }
-
--- A buffer that is filled up to n, and already holds the next k elements.
-filled-on : (g : ℕ → ℤ) (n k : ℕ) (out : List ℤ) → n + k ≤ length out → ((i : ℕ) → i < k → g (n + i) ≡ getD out (n + i) (pos 0))
-    → filled g n out ≡ filled g (n + k) out
-filled-on g n k out h same =
-    let rest : List ℤ = drop n out in
-    ap (λ x. tab n g ++ x) (sym (take-append-drop k rest))
-    ∙ sym (append-assoc (tab n g) (take k rest) (drop k rest))
-    ∙ ap₂ (λ x y. (tab n g ++ x) ++ y)
-    (tab-is (take k rest) (pos 0) k (λ i. g (n + i)) (length-take-le k rest (rw length-drop (omega arith)))
-    (λ i l. same i l ∙ sym (getD-take k rest i (pos 0) l ∙ getD-drop n out i (pos 0))))
-    (drop-drop k n out)
-    ∙ ap (λ x. x ++ drop (n + k) out) (sym (tab-add n k g))
-
-module _ (t : List ℕ) (r : List ℤ) (at m : ℕ) (f : Fits t at (length r) m) (ten : length t ≡ 10) where
+module _ {t : List ℕ} (r : List ℤ) {at m : ℕ} (f : Fits t at (length r) m) (ten : length t ≡ 10) where
   -- The zeros before a run in its row, its length, and where the first of them stands in both buffers.
   abbrev pub skip : ℕ
   skip = getD t 5 0 * getD t 9 0
 
   abbrev pub width : ℕ
   width = getD t 7 0 * getD t 9 0
-
-  abbrev start : ℕ
-  start = lead t * block t
-
-  abbrev stop : ℕ
-  stop = lead t * block t + len t * block t
 
   abbrev pub front : ℕ
   front = lead t * block t + getD t 5 0 * getD t 9 0
@@ -100,12 +55,9 @@ module _ (t : List ℕ) (r : List ℤ) (at m : ℕ) (f : Fits t at (length r) m)
   pub row-room : skip + width ≤ block t
   row-room = omega (arith, inner 0 (f .more) .room, zeros-wide, run-wide)
 
-  -- Row i lies in both buffers.
+  -- Row i lies in r.
   pub row-reads : (i : ℕ) → i < len t → first + i * step t + width ≤ length r
   row-reads i h = omega (arith, inner i h .inner, from-wide, run-reads)
-
-  pub row-writes : (i : ℕ) → i < len t → lead t * block t + i * block t + block t ≤ m
-  row-writes i h = omega (arith, f .room, row-fits i (len t) (block t) h)
 
   -- What it holds.
   row-run : (i k : ℕ) → i < len t → k < width → cutAt t r at (front + i * block t + k) ≡ getD r (first + i * step t + k) (pos 0)
@@ -121,14 +73,14 @@ module _ (t : List ℕ) (r : List ℤ) (at m : ℕ) (f : Fits t at (length r) m)
   row-before : (i k : ℕ) → i < len t → k < skip → cutAt t r at (lead t * block t + i * block t + k) ≡ pos 0
   row-before i k h l =
       cut-inside t r at i k (f .five) h (omega (arith, row-room))
-      ∙ cut-before (drop 5 t) r _ k (inner i h .five) (inner i h .some) (omega (arith, zeros-wide))
+      ∙ cut-before (drop 5 t) r _ k (inner i h .five) (omega (arith, zeros-wide))
 
   row-after : (i k : ℕ) → i < len t → skip + width ≤ k → k < block t → cutAt t r at (lead t * block t + i * block t + k) ≡ pos 0
   row-after i k h a l =
       cut-inside t r at i k (f .five) h l
       ∙ cut-after (drop 5 t) r _ k (inner i h .five) (inner i h .some) (omega (arith, zeros-wide, run-wide))
 
-  module _ (whole : Bool) (w : whole ≡ true → width ≡ block t) (out₀ : List ℤ) (z : Blank whole start stop m out₀) where
+  module _ {whole : Bool} (w : whole ≡ true → width ≡ block t) {out₀ : List ℤ} (z : Blank whole (start t) (stop t) m out₀) where
     abbrev g : ℕ → ℤ
     g = cutAt t r at
 
@@ -140,53 +92,26 @@ module _ (t : List ℕ) (r : List ℤ) (at m : ℕ) (f : Fits t at (length r) m)
         by true e = absurd (n (w e))
         by false e = z .between e j h
 
-    pub rows-long : (i : ℕ) (out : List ℤ) → i ≤ len t → out ≡ filled g (start + i * block t) out₀ → length out ≡ m
-    rows-long i out h o =
-        ap length o
-        ∙ length-filled g (start + i * block t) out₀ (omega (arith, f .room, z .long, mul-le-mul-right {m = i} {n = len t} (block t) h))
-        ∙ z .long
-
-    -- Before row 0 and after the last.
-    pub rows-begin : out₀ ≡ filled g (start + 0 * block t) out₀
-    rows-begin =
-        let same : 0 + start ≡ start + 0 * block t = omega arith in
-        let at-zero : (i : ℕ) → 0 + i ≡ i = λ i. omega arith in
-        filled-none g out₀
-        ∙ filled-on g 0 start out₀ (omega (arith, f .room, z .long))
-        (λ i l. ap g (at-zero i) ∙ cut-before t r at i (f .five) (f .some) l ∙ sym (ap (λ x. getD out₀ x (pos 0)) (at-zero i) ∙ z .before i l))
-        ∙ ap (λ n. filled g n out₀) same
-
-    pub rows-end : (i : ℕ) (out : List ℤ) → i ≡ len t → out ≡ filled g (start + i * block t) out₀ → out ≡ tab m g
-    rows-end i out e o =
-        let room : stop ≤ m = omega (arith, f .room) in
-        let all : stop + (m - stop) ≡ m = omega arith in
-        o
-        ∙ ap (λ n. filled g (start + n * block t) out₀) e
-        ∙ filled-on g stop (m - stop) out₀ (omega (arith, z .long))
-        (λ k l. cut-after t r at (stop + k) (f .five) (f .some) (omega arith) ∙ sym (z .after (stop + k) (omega arith) (omega arith)))
-        ∙ filled-whole g (stop + (m - stop)) out₀ (omega (arith, z .long))
-        ∙ ap (λ k. tab k g) all
-
     -- The run of row i.
-    pub rows-step : (i a b c d : ℕ) (out last : List ℤ) → i < len t → out ≡ filled g (start + i * block t) out₀
+    pub rows-step : (i a b c d : ℕ) (out last : List ℤ) → i < len t → out ≡ filled g (start t + i * block t) out₀
         → a ≡ first + i * step t → b ≡ a + width → c ≡ front + i * block t → d ≡ c + width
         → last ≡ copied (take (b - a) (drop a r)) (take (d - c) (drop c out))
-        → putMid c (d - c) out last ≡ filled g (start + (i + 1) * block t) out₀
+        → putMid c (d - c) out last ≡ filled g (start t + (i + 1) * block t) out₀
     rows-step i a b c d out last h o ea eb ec ed q =
-        let room = row-writes i h in
+        let room = cut-room r f i h .0 in
         let fit = row-room in
         let rest : ℕ = block t - (skip + width) in
-        let at-front : start + i * block t + skip ≡ c = omega arith in
-        let before : filled g (start + i * block t) out₀ ≡ filled g c out₀ =
-        filled-on g (start + i * block t) skip out₀ (omega (arith, z .long))
-        (λ k l. row-before i k h l ∙ sym (blank-row (start + i * block t + k) (omega arith) (λ e. omega arith)))
+        let at-front : start t + i * block t + skip ≡ c = omega arith in
+        let before : filled g (start t + i * block t) out₀ ≡ filled g c out₀ =
+        filled-on g (start t + i * block t) skip out₀ (omega (arith, z .long))
+        (λ k l. row-before i k h l ∙ sym (blank-row (start t + i * block t + k) (omega arith) (λ e. omega arith)))
         ∙ ap (λ n. filled g n out₀) at-front in
         let run : putMid c (d - c) out last ≡ filled g (c + width) out₀ =
         put-copied g c width d out out₀ last (o ∙ before) ed (omega (arith, z .long)) r a b (pos 0) eb (omega (arith, row-reads i h))
         (λ k l. ap (λ x. g (x + k)) ec ∙ row-run i k h l ∙ ap (λ x. getD r (x + k) (pos 0)) (sym ea))
         q in
-        let next : c + width + rest ≡ start + (i + 1) * block t = omega arith in
-        let place : (k : ℕ) → c + width + k ≡ start + i * block t + (skip + width + k) = λ k. omega arith in
+        let next : c + width + rest ≡ start t + (i + 1) * block t = omega arith in
+        let place : (k : ℕ) → c + width + k ≡ start t + i * block t + (skip + width + k) = λ k. omega arith in
         run
         ∙ filled-on g (c + width) rest out₀ (omega (arith, z .long))
         (λ k l.

@@ -4,31 +4,38 @@ ghost use mathlib.Core.Bool.{true};
 ghost use Prim.Native.Nat.{_-_, _*_, _≤_, _<_};
 ghost use lib.IntN.{ℤ, pos};
 ghost use lib.ListN.{length, take, drop};
-ghost use Rattle.shape.specs.Shape.{maxRank, count};
+ghost use Rattle.shape.specs.Shape.{maxRank};
 ghost use Rattle.meaning.specs.Array.{tab};
 ghost use Rattle.meaning.specs.Reply.{reply};
 ghost use Rattle.answer.specs.Answer.{lent, Replied};
-ghost use Rattle.cuts.specs.Windows.{numberOf, refusalOf, lengthsOf, sizeOf, endOf, windowOf, sizesOf, tableOf, cutAt, Fitting, Cleared, Blank, Cut, Parts};
+ghost use Rattle.cuts.specs.Steps.{cutNumber, CutRefusal, readLengths, cutLength, keepsEnd, CutShape, windowOf, tableOf, cutAt};
+ghost use Rattle.cuts.specs.Steps.{Fitting, Blank, Nonempty, Parts};
 use answer::Answer;
+use answer::refusal;
 use shape::Shape;
 
 // 23, whatever K is: it is not looked at.
 pub fn take(g: i32, ls: Shape, l: &[i32], rs: Shape, r: &[i32], out: &mut [i32]) -> Answer
     ensures { λ a. ⌜ ((K : ℤ) → Replied a (now (out .exit)) (reply (pos 23) g K (lent ls (now (l .entry))) (lent rs (now (r .entry))) (now (out .entry)))) ⌝ }
 {
-    take_or_drop(false, g, ls, l, rs, r, out)
+    take_or_drop(CutKind::Take, g, ls, l, rs, r, out)
 }
 
 // 24, whatever K is: it is not looked at.
 pub fn drop(g: i32, ls: Shape, l: &[i32], rs: Shape, r: &[i32], out: &mut [i32]) -> Answer
     ensures { λ a. ⌜ ((K : ℤ) → Replied a (now (out .exit)) (reply (pos 24) g K (lent ls (now (l .entry))) (lent rs (now (r .entry))) (now (out .entry)))) ⌝ }
 {
-    take_or_drop(true, g, ls, l, rs, r, out)
+    take_or_drop(CutKind::Drop, g, ls, l, rs, r, out)
 }
 
-// 24 if positions are dropped, else 23.
+// What L's numbers say of an axis: how many positions are taken, or how many are dropped.
+enum CutKind {
+    Take,
+    Drop,
+}
+
 fn take_or_drop(
-    dropping: bool,
+    kind: CutKind,
     g: i32,
     ls: Shape,
     l: &[i32],
@@ -37,7 +44,8 @@ fn take_or_drop(
     out: &mut [i32],
 ) -> Answer
     ensures { λ a.
-        ⌜ ((K : ℤ) → Replied a (now (out .exit)) (reply (pos (numberOf dropping)) g K (lent ls (now (l .entry))) (lent rs (now (r .entry))) (now (out .entry)))) ⌝ }
+        ⌜ ((K : ℤ)
+        → Replied a (now (out .exit)) (reply (pos (cutNumber kind)) g K (lent ls (now (l .entry))) (lent rs (now (r .entry))) (now (out .entry)))) ⌝ }
 {
     let early = answer::early_two(g, ls, l, rs, r);
     if early != 0 {
@@ -48,40 +56,39 @@ fn take_or_drop(
         return Answer::refused(own);
     }
     let rank = ls.count();
-    if Shape::MAX_RANK < rank {
-        return Answer::refused(9);
-    }
-    let lens = lengths_of(rs);
-    let sizes = sizes_of(dropping, rank, lens, l);
-    let shape = Shape::of_lengths(rank, sizes);
-    let m = shape.count();
-    if Shape::MAX_COUNT < m {
-        return Answer::refused(9);
-    }
-    if out.len() < m {
-        return Answer::refused(10);
+    let lens = read_lengths(rs);
+    let shape = cut_shape(kind, rank, lens, l);
+    let count = shape.count();
+    let late = answer::late(count, out.len());
+    if late != 0 {
+        return Answer::refused(late);
     }
     let n = rs.count();
-    fill(dropping, rank, lens, sizes, l, &r[0..n], &mut out[0..m]);
-    Answer { number: 0, shape }
+    let result = shape.lens;
+    fill(kind, rank, lens, result, l, &r[0..n], &mut out[0..count]);
+    Answer::given(shape)
 }
 
 // RANK and LENGTH: L is a list with one number for each axis of R, and a scalar R has as many as L has numbers.
 fn cut_refusal(ls: Shape, rs: Shape) -> usize
-    ensures { λ n. ⌜ n ≡ refusalOf ls rs ⌝ }
+    ensures { λ n. ⌜ CutRefusal ls rs n ⌝ }
 {
     if 1 < ls.rank {
-        return 4;
+        return refusal::RANK;
     }
     if rs.rank == 0 {
         return 0;
     }
-    if ls.count() == rs.rank { 0 } else { 6 }
+    if ls.count() == rs.rank {
+        0
+    } else {
+        refusal::LENGTH
+    }
 }
 
 // The lengths of R, a scalar's read as ones.
-fn lengths_of(rs: Shape) -> [usize; Shape::MAX_RANK]
-    ensures { λ ns. ⌜ ns ≡ lengthsOf rs ⌝ }
+fn read_lengths(rs: Shape) -> [usize; Shape::MAX_RANK]
+    ensures { λ ns. ⌜ ns ≡ readLengths rs ⌝ }
 {
     if rs.rank == 0 {
         return [1; Shape::MAX_RANK];
@@ -89,35 +96,34 @@ fn lengths_of(rs: Shape) -> [usize; Shape::MAX_RANK]
     rs.lens
 }
 
-// The result's lengths.
-fn sizes_of(
-    dropping: bool,
-    rank: usize,
-    lens: [usize; Shape::MAX_RANK],
-    l: &[i32],
-) -> [usize; Shape::MAX_RANK]
-    requires { ⌜ (rank ≤ maxRank) × (rank ≤ length (now l)) ⌝ }
-    ensures { λ ms. ⌜ take rank ms ≡ sizesOf dropping (take rank (now (l .entry))) (take rank lens) ⌝ }
+// The result's shape. Of more axes than a shape can have, as a scalar R may be read with, it is bad by its rank, whatever the lengths.
+fn cut_shape(kind: CutKind, rank: usize, lens: [usize; Shape::MAX_RANK], l: &[i32]) -> Shape
+    requires { ⌜ rank ≤ length (now l) ⌝ }
+    ensures { λ s. ⌜ CutShape kind rank lens (now (l .entry)) s ⌝ }
 {
-    let mut sizes = [0; Shape::MAX_RANK];
-    let mut i = 0;
-    while i < rank {
-        sizes[i] = size_on(dropping, l[i], lens[i]);
-        i += 1;
+    let axes = copying::min(rank, Shape::MAX_RANK);
+    let mut result = [0; Shape::MAX_RANK];
+    let mut axis = 0;
+    while axis < axes {
+        result[axis] = cut_length(kind, l[axis], lens[axis]);
+        axis += 1;
     }
-    sizes
+    Shape { rank, lens: result }
 }
 
 // The result's length on an axis of length n.
-fn size_on(dropping: bool, z: i32, n: usize) -> usize
-    ensures { λ r. ⌜ r ≡ sizeOf dropping z n ⌝ }
+fn cut_length(kind: CutKind, z: i32, n: usize) -> usize
+    ensures { λ r. ⌜ r ≡ cutLength kind z n ⌝ }
 {
-    let size = signed::size(z);
-    if dropping { beyond(n, size) } else { size }
+    let magnitude = signed::magnitude(z);
+    match kind {
+        CutKind::Take => magnitude,
+        CutKind::Drop => saturating_sub(n, magnitude),
+    }
 }
 
 // a less b, and 0 where b is larger.
-fn beyond(a: usize, b: usize) -> usize
+fn saturating_sub(a: usize, b: usize) -> usize
     ensures { λ r. ⌜ r ≡ a - b ⌝ }
 {
     if b < a { a - b } else { 0 }
@@ -125,18 +131,17 @@ fn beyond(a: usize, b: usize) -> usize
 
 // The elements of a result: `r` and `out` are R and the result, whole.
 fn fill(
-    dropping: bool,
+    kind: CutKind,
     rank: usize,
     lens: [usize; Shape::MAX_RANK],
-    sizes: [usize; Shape::MAX_RANK],
+    result: [usize; Shape::MAX_RANK],
     l: &[i32],
     r: &[i32],
     out: &mut [i32],
 )
-    requires { ⌜ Parts dropping rank lens sizes (now l) (length (now r)) (length (now out)) ⌝ }
+    requires { ⌜ Parts kind rank lens result (now l) (length (now r)) (length (now out)) ⌝ }
     ensures { λ _.
-        ⌜ now (out .exit)
-        ≡ tab (length (now (out .entry))) (cutAt (tableOf dropping (take rank (now (l .entry))) (take rank lens)) (now (r .entry)) 0) ⌝ }
+        ⌜ now (out .exit) ≡ tab (length (now (out .entry))) (cutAt (tableOf kind (take rank (now (l .entry))) (take rank lens)) (now (r .entry)) 0) ⌝ }
 {
     if out.len() == 0 {
         return;
@@ -145,30 +150,30 @@ fn fill(
         copying::fill_run(0, out);
         return;
     }
-    let used = cut_axes(rank, lens, sizes);
+    let used = cut_axes(rank, lens, result);
     if used == 0 {
         copying::copy_run(r, out);
         return;
     }
-    let table = table_of(dropping, rank, lens, l);
+    let table = table_of(kind, rank, lens, l);
     let end = used * WIDTH;
     cut(&table[0..end], 0, r, out);
 }
 
 // How many axes there are up to the last that is not taken whole.
-fn cut_axes(rank: usize, lens: [usize; Shape::MAX_RANK], sizes: [usize; Shape::MAX_RANK]) -> usize
+fn cut_axes(rank: usize, lens: [usize; Shape::MAX_RANK], result: [usize; Shape::MAX_RANK]) -> usize
     requires { ⌜ rank ≤ maxRank ⌝ }
-    ensures { λ u. ⌜ (u ≤ rank) × (drop u (take rank lens) ≡ drop u (take rank sizes)) ⌝ }
+    ensures { λ u. ⌜ (u ≤ rank) × (drop u (take rank lens) ≡ drop u (take rank result)) ⌝ }
 {
-    let mut i = rank;
-    while 0 < i {
-        let k = i - 1;
-        if lens[k] != sizes[k] {
-            return i;
+    let mut axes = rank;
+    while 0 < axes {
+        let axis = axes - 1;
+        if lens[axis] != result[axis] {
+            return axes;
         }
-        i = k;
+        axes = axis;
     }
-    i
+    axes
 }
 
 // How many numbers a table has for each axis.
@@ -176,28 +181,28 @@ const WIDTH: usize = 5;
 
 // From the last axis to the first, since a position's elements are those of the axes after it.
 fn table_of(
-    dropping: bool,
+    kind: CutKind,
     rank: usize,
     lens: [usize; Shape::MAX_RANK],
     l: &[i32],
 ) -> [usize; WIDTH * Shape::MAX_RANK]
-    requires { ⌜ Cut dropping rank lens (now l) ⌝ }
-    ensures { λ t. ⌜ take (rank * 5) t ≡ tableOf dropping (take rank (now (l .entry))) (take rank lens) ⌝ }
+    requires { ⌜ Nonempty kind rank lens (now l) ⌝ }
+    ensures { λ t. ⌜ take (rank * 5) t ≡ tableOf kind (take rank (now (l .entry))) (take rank lens) ⌝ }
 {
     let mut table = [0; WIDTH * Shape::MAX_RANK];
     let mut step = 1;
     let mut block = 1;
-    let mut i = rank;
-    while 0 < i {
-        i -= 1;
-        let n = lens[i];
-        let w = window_on(dropping, l[i], n);
-        let k = i * WIDTH;
-        table[k] = w.lead;
-        table[k + 1] = w.from;
-        table[k + 2] = w.len;
-        table[k + 3] = step;
-        table[k + 4] = block;
+    let mut axis = rank;
+    while 0 < axis {
+        axis -= 1;
+        let n = lens[axis];
+        let w = window_on(kind, l[axis], n);
+        let first = axis * WIDTH;
+        table[first] = w.lead;
+        table[first + 1] = w.from;
+        table[first + 2] = w.len;
+        table[first + 3] = step;
+        table[first + 4] = block;
         step *= n;
         block *= w.size;
     }
@@ -212,13 +217,13 @@ struct Window {
     size: usize,
 }
 
-fn window_on(dropping: bool, z: i32, n: usize) -> Window
-    ensures { λ w. ⌜ w ≡ windowOf dropping z n ⌝ }
+fn window_on(kind: CutKind, z: i32, n: usize) -> Window
+    ensures { λ w. ⌜ w ≡ windowOf kind z n ⌝ }
 {
-    let size = size_on(dropping, z, n);
-    let lead = beyond(size, n);
+    let size = cut_length(kind, z, n);
+    let lead = saturating_sub(size, n);
     let len = size - lead;
-    if keeps_end(dropping, z) {
+    if keeps_end(kind, z) {
         Window {
             lead,
             from: n - len,
@@ -236,11 +241,14 @@ fn window_on(dropping: bool, z: i32, n: usize) -> Window
 }
 
 // Whether the end of an axis is kept and not its front.
-fn keeps_end(dropping: bool, z: i32) -> bool
-    ensures { λ r. ⌜ r ≡ endOf dropping z ⌝ }
+fn keeps_end(kind: CutKind, z: i32) -> bool
+    ensures { λ r. ⌜ r ≡ keepsEnd kind z ⌝ }
 {
     let negative = signed::negative(z);
-    if dropping { !negative } else { negative }
+    match kind {
+        CutKind::Take => negative,
+        CutKind::Drop => !negative,
+    }
 }
 
 // Rows from this length on have their zeros written one by one. Those of shorter rows are written all at once, under the runs too.
@@ -334,7 +342,7 @@ fn clear_rows(whole: bool, start: usize, stop: usize, out: &mut [i32])
 // Zeros before `start` and from `stop` on.
 fn clear_outside(start: usize, stop: usize, out: &mut [i32])
     requires { ⌜ (start ≤ stop) × (stop ≤ length (now out)) ⌝ }
-    ensures { λ _. ⌜ Cleared start stop (length (now (out .entry))) (now (out .exit)) ⌝ }
+    ensures { λ _. ⌜ Blank true start stop (length (now (out .entry))) (now (out .exit)) ⌝ }
 {
     let end = out.len();
     copying::fill_run(0, &mut out[0..start]);

@@ -7,9 +7,9 @@ use borrow.Rule.Slice.PartMut.{mid-len}
 use denote.Ref.{now}
 use borrow.Author.Needs.{needs}
 use Rattle.meaning.proofs.Tab.{length-tab}
-use Rattle.copying.proofs.Runs.{filled}
-use Rattle.cuts.specs.Windows.{cutAt}
-use Rattle.cuts.proofs.Cutting.{Fits, Turn, fits, cut-room, cut-rest, cut-long, after-first, cut-begin, cut-end, cut-last, cut-step}
+use Rattle.copying.specs.Steps.{filled}
+use Rattle.cuts.specs.Steps.{cutAt}
+use Rattle.cuts.proofs.Cutting.{Fits, Reaches, fits, cut-room, cut-rest, cut-long, after-first, cut-begin, cut-end, cut-last, cut-step}
 use borrow.Fn.Kinds.{In}
 use borrow.Fn.PlainCycle.{Measures, is, falls, and}
 use Rattle.cuts.proofs.cut.Reads as cut
@@ -32,7 +32,18 @@ abbrev cut-below : ℕ → In 3 cut-kinds.ps
 cut-below t = and 3 cut-kinds.ps (falls 3 cut-kinds.ps _<_ μ-cut t) cut.Pre
 
 abbrev claims : ℕ → cut-lts.Claims
-claims t = (by-rows-reads.Asked, by-rows-reads.Learnt, cut-rows-reads.Asked, cut-rows-reads.Learnt, clear-outside-reads.Asked, clear-outside-reads.Learnt, copy-run-reads.Asked, copy-run-reads.Learnt, cut-below t, cut.Post)
+claims t = (
+  by-rows-reads.Asked,
+  by-rows-reads.Learnt,
+  cut-rows-reads.Asked,
+  cut-rows-reads.Learnt,
+  clear-outside-reads.Asked,
+  clear-outside-reads.Learnt,
+  copy-run-reads.Asked,
+  copy-run-reads.Learnt,
+  cut-below t,
+  cut.Post,
+)
 
 abbrev cut-Inv-loop : cut-lts.InvT-loop
 cut-Inv-loop table at r out₀ block step len start stop first rest i₀ out i = (i ≤ len) × (out ≡ filled (cutAt table r at) (start + i * block) out₀)
@@ -40,163 +51,87 @@ cut-Inv-loop table at r out₀ block step len start stop first rest i₀ out i =
 abbrev cut-μ-loop : cut-lts.MeasureT-loop
 cut-μ-loop table at r out₀ block step len start stop first rest i₀ out i = len - i
 
-known : (t : ℕ) → (c : cut-lts.Start (claims t) (cut-at t) cut.Post cut-Inv-loop cut-μ-loop) → Fits (c .args .table .now) (c .args .at) (length (c .args .r .now)) (length (c .args .out .now))
-known t c = fits _ _ _ _ (c .pre .1)
+module _ (t : ℕ) where
+  abbrev Start : Type 0
+  Start = cut-lts.Start (claims t) (cut-at t) cut.Post cut-Inv-loop cut-μ-loop
 
--- The position of a turn lies in both buffers, and `out` keeps its length.
-turn : (t : ℕ) → (c : cut-lts.In-loop (claims t) (cut-at t) cut.Post cut-Inv-loop cut-μ-loop)
-    → Turn (c .before .before .before .before .before .before .before .before .before .before .before .before .before .before .args .table .now) (c .before .before .before .before .before .before .before .before .before .before .before .before .before .before .args .at) (length (c .before .before .before .before .before .before .before .before .before .before .before .before .before .before .args .r .now)) (length (c .before .before .before .before .before .before .before .before .before .before .before .before .before .before .args .out .now)) (c .before .loop .i)
-turn t c =
-    let s = c .before .before .before .before .before .before .before .before .before .before .before .before .before .before in
-    cut-room _ (s .args .r .now) (s .args .at) _ (known t s) (c .before .loop .i) (omega arith)
+  abbrev In-loop : Type 0
+  In-loop = cut-lts.In-loop (claims t) (cut-at t) cut.Post cut-Inv-loop cut-μ-loop
 
-long : (t : ℕ) → (c : cut-lts.At-loop (claims t) (cut-at t) cut.Post cut-Inv-loop cut-μ-loop) → length (c .loop .out) ≡ length (c .before .before .before .before .before .before .before .before .before .before .before .before .before .args .out .now)
-long t c =
-    let s = c .before .before .before .before .before .before .before .before .before .before .before .before .before in
-    cut-long _ (s .args .r .now) (s .args .at) _ (known t s) _ (c .before .before .before .before .clear-outside .ensures) (c .loop .i) (c .loop .out) (c .loop .inv .0) (c .loop .inv .1)
+  -- Not by rows, the first numbers read, the zeros written, and the window's start found.
+  abbrev alone : cut-lts.Else1 (claims t) (cut-at t) cut.Post cut-Inv-loop cut-μ-loop → Start
+  alone c = c .before .before .before
 
-more : (t : ℕ) → (c : cut-lts.Else2 (claims t) (cut-at t) cut.Post cut-Inv-loop cut-μ-loop) → 5 < length (c .before .before .before .before .before .before .before .before .before .before .before .before .args .table .now)
-more t c =
-    let five = known t (c .before .before .before .before .before .before .before .before .before .before .before .before) .five in
-    lt-of-le-ne five (λ e. c .if2 .left (sym e))
+  abbrev opened : cut-lts.After-shared-slice-known4 (claims t) (cut-at t) cut.Post cut-Inv-loop cut-μ-loop → Start
+  opened c = alone (c .before .before .before)
 
-cut-cut-rows-requires : (t : ℕ) → cut-lts.Need-cut-rows-requires (claims t) (cut-at t) cut.Post cut-Inv-loop cut-μ-loop
-cut-cut-rows-requires t c κs = let b = c .before .before in (b .by-rows .ensures (c .before .if1 .taken), b .before .before .pre .1)
+  abbrev cleared : cut-lts.After-clear-outside (claims t) (cut-at t) cut.Post cut-Inv-loop cut-μ-loop → Start
+  cleared c = opened (c .before .before .before)
 
-cut-same-length : (t : ℕ) → cut-lts.Need-same-length (claims t) (cut-at t) cut.Post cut-Inv-loop cut-μ-loop
-cut-same-length t c = ap length (c .before .cut-rows .ensures) ∙ length-tab _ _
+  abbrev placed : cut-lts.After-shared-slice-known6 (claims t) (cut-at t) cut.Post cut-Inv-loop cut-μ-loop → Start
+  placed c = cleared (c .before .before)
 
-cut-returns : (t : ℕ) → cut-lts.Need-returns (claims t) (cut-at t) cut.Post cut-Inv-loop cut-μ-loop
-cut-returns t c = c .before .cut-rows .ensures
+  abbrev entered : In-loop → cut-lts.After-shared-slice-known6 (claims t) (cut-at t) cut.Post cut-Inv-loop cut-μ-loop
+  entered c = c .before .before .before
 
-cut-shared-slice-read-block : (t : ℕ) → cut-lts.Need-shared-slice-read-block (claims t) (cut-at t) cut.Post cut-Inv-loop cut-μ-loop
-cut-shared-slice-read-block t c = omega (arith, known t (c .before .before .before .before) .five)
+  abbrev called : cut-lts.After-cut (claims t) (cut-at t) cut.Post cut-Inv-loop cut-μ-loop → In-loop
+  called c = c .before .before .before
 
-cut-shared-slice-read-step : (t : ℕ) → cut-lts.Need-shared-slice-read-step (claims t) (cut-at t) cut.Post cut-Inv-loop cut-μ-loop
-cut-shared-slice-read-step t c = omega (arith, known t (c .before .before .before .before .before) .five)
+  known : (c : Start) → Fits (c .args .table .now) (c .args .at) (length (c .args .r .now)) (length (c .args .out .now))
+  known c = fits _ _ _ _ (c .pre .1)
 
-cut-shared-slice-read-len : (t : ℕ) → cut-lts.Need-shared-slice-read-len (claims t) (cut-at t) cut.Post cut-Inv-loop cut-μ-loop
-cut-shared-slice-read-len t c = omega (arith, known t (c .before .before .before .before .before .before) .five)
+  -- The position of a turn lies in both buffers, and `out` keeps its length.
+  turn : (c : In-loop)
+      → let s = placed (entered c) in
+      Reaches (s .args .table .now) (s .args .at) (length (s .args .r .now)) (length (s .args .out .now)) (c .before .loop .i)
+  turn c = let s = placed (entered c) in cut-room (s .args .r .now) (known s) (c .before .loop .i) (omega arith)
 
-cut-shared-slice-read-start : (t : ℕ) → cut-lts.Need-shared-slice-read-start (claims t) (cut-at t) cut.Post cut-Inv-loop cut-μ-loop
-cut-shared-slice-read-start t c = omega (arith, known t (c .before .before .before .before .before .before .before) .five)
+  long : (c : cut-lts.At-loop (claims t) (cut-at t) cut.Post cut-Inv-loop cut-μ-loop)
+      → length (c .loop .out) ≡ length (placed (c .before .before) .args .out .now)
+  long c =
+      let k = c .before .before in
+      cut-long _ (known (placed k)) (k .before .before .clear-outside .ensures) (c .loop .i) (c .loop .out) (c .loop .inv .0) (c .loop .inv .1)
 
-cut-mul-start : (t : ℕ) → cut-lts.Need-mul-start (claims t) (cut-at t) cut.Post cut-Inv-loop cut-μ-loop
-cut-mul-start t c = omega (arith, known t (c .before .before .before .before .before .before .before) .room)
+  more : (c : cut-lts.Else2 (claims t) (cut-at t) cut.Post cut-Inv-loop cut-μ-loop) → 5 < length (placed (c .before) .args .table .now)
+  more c = lt-of-le-ne (known (placed (c .before)) .five) (λ e. c .if2 .left (sym e))
 
-cut-mul-stop : (t : ℕ) → cut-lts.Need-mul-stop (claims t) (cut-at t) cut.Post cut-Inv-loop cut-μ-loop
-cut-mul-stop t c = omega (arith, known t (c .before .before .before .before .before .before .before) .room)
+  returns-2 : cut-lts.Need-returns-2 (claims t) (cut-at t) cut.Post cut-Inv-loop cut-μ-loop
+  returns-2 c =
+      let l = c .before .before .before in
+      let k = l .before .before in
+      cut-last _ (known (placed k)) (k .before .before .clear-outside .ensures) (l .before .if2 .taken) _ _ _ refl refl (c .before .copy-run .ensures)
 
-cut-add-stop : (t : ℕ) → cut-lts.Need-add-stop (claims t) (cut-at t) cut.Post cut-Inv-loop cut-μ-loop
-cut-add-stop t c = omega (arith, known t (c .before .before .before .before .before .before .before) .room)
+  cut-requires : cut-lts.Need-cut-requires (claims t) (cut-at t) cut.Post cut-Inv-loop cut-μ-loop
+  cut-requires c κs =
+      let i = c .before .before in
+      let lp = i .before .loop in
+      let s = placed (entered i) in
+      let tab = s .args .table .now in
+      let a = getD tab 0 0 * getD tab 4 0 + lp .i * getD tab 4 0 in
+      let part : length (take (a + getD tab 4 0 - a) (drop a (lp .out))) ≡ getD tab 4 0 =
+      mid-len a (a + getD tab 4 0) (lp .out) (omega (arith, turn i .0, long (i .before))) ∙ omega arith in (
+        omega (arith, s .pre .0, ap length (after-first tab), length-drop 5 tab, more (i .before .before)),
+        cut-rest (s .args .r .now) (known s) (more (i .before .before)) (lp .i) (omega arith) _ _ _ (after-first tab) refl part,
+      )
 
-cut-clear-outside-requires : (t : ℕ) → cut-lts.Need-clear-outside-requires (claims t) (cut-at t) cut.Post cut-Inv-loop cut-μ-loop
-cut-clear-outside-requires t c κs = omega (arith, known t (c .before .before .before .before .before .before .before .before) .room)
+  loop-again : cut-lts.Need-loop-again (claims t) (cut-at t) cut.Post cut-Inv-loop cut-μ-loop
+  loop-again c =
+      let i = called (c .before) in
+      let lp = i .before .loop in
+      let k = entered i in
+      let s = placed k in (
+        omega arith,
+        cut-step _ (known s) (k .before .before .clear-outside .ensures) (more (i .before .before)) (lp .i) _ _ _ _ _ _ (omega arith) (lp .inv .1)
+            refl refl (after-first (s .args .table .now)) refl (c .before .cut .ensures),
+      )
 
-cut-shared-slice-read-first : (t : ℕ) → cut-lts.Need-shared-slice-read-first (claims t) (cut-at t) cut.Post cut-Inv-loop cut-μ-loop
-cut-shared-slice-read-first t c = omega (arith, known t (c .before .before .before .before .before .before .before .before .before .before .before) .five)
-
-cut-mul-first : (t : ℕ) → cut-lts.Need-mul-first (claims t) (cut-at t) cut.Post cut-Inv-loop cut-μ-loop
-cut-mul-first t c = omega (arith, known t (c .before .before .before .before .before .before .before .before .before .before .before) .inner)
-
-cut-add-first : (t : ℕ) → cut-lts.Need-add-first (claims t) (cut-at t) cut.Post cut-Inv-loop cut-μ-loop
-cut-add-first t c = omega (arith, known t (c .before .before .before .before .before .before .before .before .before .before .before) .inner)
-
-cut-mul-last : (t : ℕ) → cut-lts.Need-mul-last (claims t) (cut-at t) cut.Post cut-Inv-loop cut-μ-loop
-cut-mul-last t c = omega (arith, known t (c .before .before .before .before .before .before .before .before .before .before .before .before) .inner)
-
-cut-add-last : (t : ℕ) → cut-lts.Need-add-last (claims t) (cut-at t) cut.Post cut-Inv-loop cut-μ-loop
-cut-add-last t c = omega (arith, known t (c .before .before .before .before .before .before .before .before .before .before .before .before) .inner)
-
-cut-mul-copy-run : (t : ℕ) → cut-lts.Need-mul-copy-run (claims t) (cut-at t) cut.Post cut-Inv-loop cut-μ-loop
-cut-mul-copy-run t c = omega (arith, known t (c .before .before .before .before .before .before .before .before .before .before .before .before) .inner)
-
-cut-sub-copy-run : (t : ℕ) → cut-lts.Need-sub-copy-run (claims t) (cut-at t) cut.Post cut-Inv-loop cut-μ-loop
-cut-sub-copy-run t c = omega (arith, known t (c .before .before .before .before .before .before .before .before .before .before .before .before) .inner)
-
-cut-part-copy-run-end : (t : ℕ) → cut-lts.Need-part-copy-run-end (claims t) (cut-at t) cut.Post cut-Inv-loop cut-μ-loop
-cut-part-copy-run-end t c = omega (arith, known t (c .before .before .before .before .before .before .before .before .before .before .before .before) .inner)
-
-cut-mul-copy-run-2 : (t : ℕ) → cut-lts.Need-mul-copy-run-2 (claims t) (cut-at t) cut.Post cut-Inv-loop cut-μ-loop
-cut-mul-copy-run-2 t c = omega (arith, known t (c .before .before .before .before .before .before .before .before .before .before .before .before .before) .room)
-
-cut-sub-copy-run-2 : (t : ℕ) → cut-lts.Need-sub-copy-run-2 (claims t) (cut-at t) cut.Post cut-Inv-loop cut-μ-loop
-cut-sub-copy-run-2 t c = omega (arith, known t (c .before .before .before .before .before .before .before .before .before .before .before .before .before) .room)
-
-cut-part-copy-run-end-2 : (t : ℕ) → cut-lts.Need-part-copy-run-end-2 (claims t) (cut-at t) cut.Post cut-Inv-loop cut-μ-loop
-cut-part-copy-run-end-2 t c = omega (arith, known t (c .before .before .before .before .before .before .before .before .before .before .before .before .before) .room, c .before .before .before .before .clear-outside .ensures .long)
-
-cut-returns-2 : (t : ℕ) → cut-lts.Need-returns-2 (claims t) (cut-at t) cut.Post cut-Inv-loop cut-μ-loop
-cut-returns-2 t c =
-    let s = c .before .before .before .before .before .before .before .before .before .before .before .before .before .before .before .before in
-    cut-last (s .args .table .now) (s .args .r .now) (s .args .at) _ (known t s) _ (c .before .before .before .before .before .before .before .clear-outside .ensures) (c .before .before .before .before .if2 .taken) _ _ _ refl refl (c .before .copy-run .ensures)
-
-cut-loop-holds : (t : ℕ) → cut-lts.Need-loop-holds (claims t) (cut-at t) cut.Post cut-Inv-loop cut-μ-loop
-cut-loop-holds t c =
-    let s = c .before .before .before .before .before .before .before .before .before .before .before .before in
-    (omega arith, cut-begin (s .args .table .now) (s .args .r .now) (s .args .at) _ (known t s) _ (c .before .before .before .clear-outside .ensures))
-
-cut-mul-a : (t : ℕ) → cut-lts.Need-mul-a (claims t) (cut-at t) cut.Post cut-Inv-loop cut-μ-loop
-cut-mul-a t c = omega (arith, turn t c .0)
-
-cut-add-a : (t : ℕ) → cut-lts.Need-add-a (claims t) (cut-at t) cut.Post cut-Inv-loop cut-μ-loop
-cut-add-a t c = omega (arith, turn t c .0)
-
-cut-add-b : (t : ℕ) → cut-lts.Need-add-b (claims t) (cut-at t) cut.Post cut-Inv-loop cut-μ-loop
-cut-add-b t c = omega (arith, turn t c .0)
-
-cut-sub-cut : (t : ℕ) → cut-lts.Need-sub-cut (claims t) (cut-at t) cut.Post cut-Inv-loop cut-μ-loop
-cut-sub-cut t c = omega (arith, known t (c .before .before .before .before .before .before .before .before .before .before .before .before .before .before) .five)
-
-cut-part-cut-start : (t : ℕ) → cut-lts.Need-part-cut-start (claims t) (cut-at t) cut.Post cut-Inv-loop cut-μ-loop
-cut-part-cut-start t c = omega (arith, known t (c .before .before .before .before .before .before .before .before .before .before .before .before .before .before) .five)
-
-cut-mul-cut : (t : ℕ) → cut-lts.Need-mul-cut (claims t) (cut-at t) cut.Post cut-Inv-loop cut-μ-loop
-cut-mul-cut t c = omega (arith, turn t (c .before) .1)
-
-cut-add-cut : (t : ℕ) → cut-lts.Need-add-cut (claims t) (cut-at t) cut.Post cut-Inv-loop cut-μ-loop
-cut-add-cut t c = omega (arith, turn t (c .before) .1)
-
-cut-mul-cut-2 : (t : ℕ) → cut-lts.Need-mul-cut-2 (claims t) (cut-at t) cut.Post cut-Inv-loop cut-μ-loop
-cut-mul-cut-2 t c = omega (arith, turn t (c .before) .0)
-
-cut-sub-cut-2 : (t : ℕ) → cut-lts.Need-sub-cut-2 (claims t) (cut-at t) cut.Post cut-Inv-loop cut-μ-loop
-cut-sub-cut-2 t c = omega (arith, turn t (c .before) .0)
-
-cut-part-cut-end-2 : (t : ℕ) → cut-lts.Need-part-cut-end-2 (claims t) (cut-at t) cut.Post cut-Inv-loop cut-μ-loop
-cut-part-cut-end-2 t c = omega (arith, turn t (c .before) .0, long t (c .before .before))
-
-cut-cut-requires : (t : ℕ) → cut-lts.Need-cut-requires (claims t) (cut-at t) cut.Post cut-Inv-loop cut-μ-loop
-cut-cut-requires t c κs =
-    let s = c .before .before .before .before .before .before .before .before .before .before .before .before .before .before .before .before in
-    let tab = s .args .table .now in
-    let l = more t (c .before .before .before .before) in
-    let a = getD tab 0 0 * getD tab 4 0 + c .before .before .before .loop .i * getD tab 4 0 in
-    let part : length (take (a + getD tab 4 0 - a) (drop a (c .before .before .before .loop .out))) ≡ getD tab 4 0 = mid-len a (a + getD tab 4 0) (c .before .before .before .loop .out) (omega (arith, turn t (c .before .before) .0, long t (c .before .before .before))) ∙ omega arith in (
-      omega (arith, s .pre .0, ap length (after-first tab), length-drop 5 tab),
-      cut-rest tab (s .args .r .now) (s .args .at) _ (known t s) l (c .before .before .before .loop .i) (omega arith) _ _ _ (after-first tab) refl part,
-    )
-
-cut-add-i : (t : ℕ) → cut-lts.Need-add-i (claims t) (cut-at t) cut.Post cut-Inv-loop cut-μ-loop
-cut-add-i t c = omega (arith, c .before .before .before .before .before .before .before .before .before .before .before .before .before .before .before .before .before .shared-slice-known .given 2)
-
-cut-loop-again : (t : ℕ) → cut-lts.Need-loop-again (claims t) (cut-at t) cut.Post cut-Inv-loop cut-μ-loop
-cut-loop-again t c =
-    let s = c .before .before .before .before .before .before .before .before .before .before .before .before .before .before .before .before .before .before in
-    let tab = s .args .table .now in (
-      omega arith,
-      cut-step tab (s .args .r .now) (s .args .at) _ (known t s) _ (c .before .before .before .before .before .before .before .before .before .clear-outside .ensures) (more t (c .before .before .before .before .before .before)) (c .before .before .before .before .before .loop .i) _ _ _ _ _ _ (omega arith) (c .before .before .before .before .before .loop .inv .1) refl refl (after-first tab) refl (c .before .cut .ensures),
-    )
-
-cut-same-length-3 : (t : ℕ) → cut-lts.Need-same-length-3 (claims t) (cut-at t) cut.Post cut-Inv-loop cut-μ-loop
-cut-same-length-3 t c = long t (c .before)
-
-cut-returns-3 : (t : ℕ) → cut-lts.Need-returns-3 (claims t) (cut-at t) cut.Post cut-Inv-loop cut-μ-loop
-cut-returns-3 t c =
-    let s = c .before .before .before .before .before .before .before .before .before .before .before .before .before .before in
-    let tab = s .args .table .now in
-    let all : c .before .loop .i ≡ getD tab 2 0 = omega arith in
-    cut-end tab (s .args .r .now) (s .args .at) _ (known t s) _ (c .before .before .before .before .before .clear-outside .ensures) (c .before .loop .i) _ all (c .before .loop .inv .1)
+  returns-3 : cut-lts.Need-returns-3 (claims t) (cut-at t) cut.Post cut-Inv-loop cut-μ-loop
+  returns-3 c =
+      let lp = c .before .loop in
+      let k = c .before .before .before in
+      let s = placed k in
+      let all : lp .i ≡ getD (s .args .table .now) 2 0 = omega arith in
+      cut-end _ (known s) (k .before .before .clear-outside .ensures) (lp .i) _ all (lp .inv .1)
 
 pub +cut-spec : {M : Type 1} → statement M
 +cut-spec = close μ-cut λ t. cut-lts.spec (claims t)
@@ -205,49 +140,49 @@ pub +cut-spec : {M : Type 1} → statement M
     cut-Inv-loop
     cut-μ-loop
     (λ c κs. search needs)
-    (cut-cut-rows-requires t)
-    (cut-same-length t)
-    (cut-returns t)
-    (cut-shared-slice-read-block t)
-    (cut-shared-slice-read-step t)
-    (cut-shared-slice-read-len t)
-    (cut-shared-slice-read-start t)
-    (cut-mul-start t)
-    (cut-mul-stop t)
-    (cut-add-stop t)
-    (cut-clear-outside-requires t)
-    (cut-shared-slice-read-first t)
-    (cut-mul-first t)
-    (cut-add-first t)
-    (cut-mul-last t)
-    (cut-add-last t)
-    (cut-mul-copy-run t)
-    (cut-sub-copy-run t)
+    (λ c κs. let b = c .before .before in (b .by-rows .ensures (c .before .if1 .taken), b .before .before .pre .1))
+    (λ c. ap length (c .before .cut-rows .ensures) ∙ length-tab _ _)
+    (λ c. c .before .cut-rows .ensures)
+    (λ c. omega (arith, known t (alone t (c .before)) .five))
+    (λ c. omega (arith, known t (alone t (c .before .before)) .five))
+    (λ c. omega (arith, known t (opened t c) .five))
+    (λ c. omega (arith, known t (opened t (c .before)) .five))
+    (λ c. omega (arith, known t (opened t (c .before)) .room))
+    (λ c. omega (arith, known t (opened t (c .before)) .room))
+    (λ c. omega (arith, known t (opened t (c .before)) .room))
+    (λ c κs. omega (arith, known t (opened t (c .before .before)) .room))
+    (λ c. omega (arith, known t (placed t c) .five))
+    (λ c. omega (arith, known t (placed t c) .inner))
+    (λ c. omega (arith, known t (placed t c) .inner))
+    (λ c. omega (arith, known t (placed t (c .before)) .inner))
+    (λ c. omega (arith, known t (placed t (c .before)) .inner))
+    (λ c. omega (arith, known t (placed t (c .before)) .inner))
+    (λ c. omega (arith, known t (placed t (c .before)) .inner))
     (λ c. search needs)
-    (cut-part-copy-run-end t)
-    (cut-mul-copy-run-2 t)
-    (cut-sub-copy-run-2 t)
+    (λ c. omega (arith, known t (placed t (c .before)) .inner))
+    (λ c. omega (arith, known t (placed t (c .before .before)) .room))
+    (λ c. omega (arith, known t (placed t (c .before .before)) .room))
     (λ c. search needs)
-    (cut-part-copy-run-end-2 t)
+    (λ c. let k = c .before .before in omega (arith, known t (placed t k) .room, k .before .before .clear-outside .ensures .long))
     (λ c κs. search needs)
     (λ c. search needs)
-    (cut-returns-2 t)
-    (cut-loop-holds t)
-    (cut-mul-a t)
-    (cut-add-a t)
-    (cut-add-b t)
-    (cut-sub-cut t)
-    (cut-part-cut-start t)
+    (returns-2 t)
+    (λ c. (omega arith, cut-begin _ (known t (placed t (c .before))) (c .before .before .before .clear-outside .ensures)))
+    (λ c. omega (arith, turn t c .0))
+    (λ c. omega (arith, turn t c .0))
+    (λ c. omega (arith, turn t c .0))
+    (λ c. omega (arith, known t (placed t (entered t c)) .five))
+    (λ c. omega (arith, known t (placed t (entered t c)) .five))
     (λ c. search needs)
-    (cut-mul-cut t)
-    (cut-add-cut t)
-    (cut-mul-cut-2 t)
-    (cut-sub-cut-2 t)
+    (λ c. omega (arith, turn t (c .before) .1))
+    (λ c. omega (arith, turn t (c .before) .1))
+    (λ c. omega (arith, turn t (c .before) .0))
+    (λ c. omega (arith, turn t (c .before) .0))
     (λ c. search needs)
-    (cut-part-cut-end-2 t)
-    (cut-cut-requires t)
-    (cut-add-i t)
+    (λ c. omega (arith, turn t (c .before) .0, long t (c .before .before)))
+    (cut-requires t)
+    (λ c. omega (arith, entered t (called t (c .before)) .shared-slice-known6 .given 2))
     (λ c. search needs)
-    (cut-loop-again t)
-    (cut-same-length-3 t)
-    (cut-returns-3 t)
+    (loop-again t)
+    (λ c. long t (c .before))
+    (returns-3 t)

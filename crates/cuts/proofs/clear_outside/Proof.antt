@@ -6,8 +6,9 @@ use Rattle.cuts.proofs.clear_outside.Tie as tie
 
 returns : tie.Need-returns
 returns c =
-    let a = c .before .before .before .before .before .before .args in
-    cleared (a .out .now) _ _ (a .start) (a .stop) (omega arith) (omega arith) (c .before .before .before .before .fill-run .ensures) (c .before .fill-run2 .ensures)
+    let o = c .before .before .before in
+    let a = o .before .before .before .args in
+    cleared (a .out .now) _ _ (a .start) (a .stop) (omega arith) (omega arith) (o .before .fill-run .ensures) (c .before .fill-run2 .ensures)
 
 pub clear-outside-spec : {M : Type 1} → statement M
 clear-outside-spec =

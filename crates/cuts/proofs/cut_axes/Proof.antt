@@ -10,10 +10,10 @@ use Rattle.cuts.proofs.cut_axes.Statement.{statement}
 use Rattle.cuts.proofs.cut_axes.Tie as tie
 
 abbrev Inv-loop : tie.InvT-loop
-Inv-loop rank lens sizes i₀ i = (i ≤ rank) × (drop i (take rank lens) ≡ drop i (take rank sizes))
+Inv-loop rank lens result i₀ i = (i ≤ rank) × (drop i (take rank lens) ≡ drop i (take rank result))
 
 abbrev μ-loop : tie.MeasureT-loop
-μ-loop rank lens sizes i₀ i = i
+μ-loop rank lens result i₀ i = i
 
 loop-holds : tie.Need-loop-holds Inv-loop μ-loop
 loop-holds c = (omega arith, slice-empty (c .args .rank) (c .args .t2) ∙ sym (slice-empty (c .args .rank) (c .args .t3)))
@@ -23,8 +23,11 @@ loop-again c =
     let st = c .before .before .before in
     let lp = c .before .before .loop in
     let a : length (st .args .t2) ≡ maxRank = search needs in
-    let b : length (st .args .t3) ≡ maxRank = search needs in
-    (omega arith, same-more (st .args .t2) (st .args .t3) (st .args .rank) (lp .i - 1) (lp .i) (omega arith) (omega arith) (omega arith) (omega arith) (lp .inv .1) (c .if1 .left))
+    let b : length (st .args .t3) ≡ maxRank = search needs in (
+      omega arith,
+      same-more (st .args .t2) (st .args .t3) (st .args .rank) (lp .axes - 1) (lp .axes) (omega arith) (omega arith) (omega arith) (omega arith)
+          (lp .inv .1) (c .if1 .left),
+    )
 
 pub cut-axes-spec : {M : Type 1} → statement M
 cut-axes-spec =

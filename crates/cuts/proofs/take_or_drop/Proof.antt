@@ -1,129 +1,126 @@
-use Prim.Native.Nat.{_≤_}
-use native.Mathlib.Omega.{arith}
 use mathlib.Core.Path.{_≡_, sym, ap, _∙_}
 use mathlib.Core.Bool.{_&&_}
+use native.Mathlib.Omega.{arith}
+use lib.IntN.{ℤ}
 use lib.ListN.{length}
-use Rattle.shape.specs.Shape.{maxRank, maxCount, countOf, shapeOf}
-use Rattle.shape.proofs.Made.{made-rule, made-no-rule, made-count}
-use Rattle.meaning.specs.Array.{arrayOf, goodForm}
-use Rattle.meaning.specs.Terms.{rank, asRank}
-use Rattle.signed.proofs.Reading.{read32}
-use Rattle.answer.specs.Answer.{lent, early}
-use Rattle.answer.proofs.Order.{early-reply, own-reply, limit-reply, space-reply, given-reply, replied-refused, replied-given}
-use Rattle.answer.proofs.Lent.{FineTwo, fine-two}
-use Rattle.cuts.specs.Windows.{cutMeaning}
-use Rattle.cuts.proofs.Calls.{cut-names, own-is, own-none, too-many, enough, shape-is, parts-are, result-out}
 use borrow.Author.Needs.{needs}
+use Rattle.shape.specs.Shape.{maxRank}
+use Rattle.signed.proofs.Reading.{read32}
+use Rattle.meaning.specs.Array.{Operand, arrayOf, goodForm}
+use Rattle.answer.specs.Answer.{lent, early, own}
+use Rattle.answer.proofs.Order.{early-replied, own-replied, Ready, late-replied, given-replied, Roomy, late-fine}
+use Rattle.answer.proofs.Lent.{FineTwo, fine-two}
+use Rattle.cuts.specs.Steps.{cutNumber, cutMeaning}
+use Rattle.cuts.proofs.Calls.{cut-names, cut-fits, Cuts, stands, parts, given-is, out-is}
 use Rattle.cuts.proofs.take_or_drop.Statement.{statement}
 use Rattle.cuts.proofs.take_or_drop.Tie as tie
 
--- FORM and ORIGIN, and what is known of L and R where neither was met.
-early-is : (c : tie.After-early-two)
-    → c .early-two .result
-    ≡ early (goodForm (lent (c .before .args .ls) (c .before .args .l .now)) && goodForm (lent (c .before .args .rs) (c .before .args .r .now))) (c .before .args .g)
+abbrev left : tie.Start → Operand
+left st = lent (st .args .ls) (st .args .l .now)
+
+abbrev right : tie.Start → Operand
+right st = lent (st .args .rs) (st .args .r .now)
+
+-- FORM and ORIGIN, and what is known where neither was met.
+early-is : (c : tie.After-early-two) → c .early-two .result ≡ early (goodForm (left (c .before)) && goodForm (right (c .before))) (c .before .args .g)
 early-is c = c .early-two .ensures ∙ ap (early _) (read32 _ (c .before .fits .g))
 
-fine : (c : tie.Else1) → let a = c .before .before .args in FineTwo (a .g) (a .ls) (a .l .now) (a .rs) (a .r .now)
+fine : (c : tie.Else1) → let st = c .before .before in FineTwo (st .args .g) (st .args .ls) (st .args .l .now) (st .args .rs) (st .args .r .now)
 fine c =
-    let a = c .before .before .args in
-    let left : length (a .ls .lens) ≡ maxRank = search needs in
-    let right : length (a .rs .lens) ≡ maxRank = search needs in
-    fine-two (a .g) (a .ls) (a .l .now) (a .rs) (a .r .now) left right (sym (early-is (c .before)) ∙ c .if1 .left)
+    let st = c .before .before in
+    let ll : length (st .args .ls .lens) ≡ maxRank = search needs in
+    let rl : length (st .args .rs .lens) ≡ maxRank = search needs in
+    fine-two _ _ _ _ _ ll rl (sym (early-is (c .before)) ∙ c .if1 .left)
 
--- RANK and LENGTH were not met.
-fit : (c : tie.Else2)
-    → length (arrayOf (lent (c .before .before .before .before .args .ls) (c .before .before .before .before .args .l .now)) .elements)
-    ≡ rank (asRank (length (arrayOf (lent (c .before .before .before .before .args .ls) (c .before .before .before .before .args .l .now)) .elements)) (arrayOf (lent (c .before .before .before .before .args .rs) (c .before .before .before .before .args .r .now))))
-fit c =
-    let a = c .before .before .before .before .args in
-    let g = fine (c .before .before) in
-    own-none (a .ls) (a .l .now) (a .rs) (a .r .now) (g .left) (g .right) (sym (c .before .cut-refusal .ensures) ∙ c .if2 .left)
+-- RANK and LENGTH, and what is known where neither was met.
+abbrev start : tie.After-cut-refusal → tie.Start
+start c = c .before .before .before
 
--- The result's shape, and its count.
-shape : (c : tie.After-count2)
-    → c .before .of-lengths .result
-    ≡ shapeOf (cutMeaning (c .before .before .before .before .before .before .before .before .before .before .args .dropping) (arrayOf (lent (c .before .before .before .before .before .before .before .before .before .before .args .ls) (c .before .before .before .before .before .before .before .before .before .before .args .l .now))) (arrayOf (lent (c .before .before .before .before .before .before .before .before .before .before .args .rs) (c .before .before .before .before .before .before .before .before .before .before .args .r .now))) .lengths)
-shape c =
-    let a = c .before .before .before .before .before .before .before .before .before .before .args in
-    let g = fine (c .before .before .before .before .before .before .before .before) in
-    shape-is (a .ls) (a .l .now) (a .rs) (a .r .now) (g .left) (g .right) (a .dropping) (fit (c .before .before .before .before .before .before)) (c .before .before .before .before .before .count .result) (c .before .before .before .before .before .count .ensures) (omega arith) _ _
-    (c .before .before .before .lengths-of .ensures) (c .before .before .sizes-of .ensures) _ (c .before .of-lengths .ensures)
+own-is : (c : tie.After-cut-refusal)
+    → let st = start c in
+    c .cut-refusal .result ≡ own (cutNumber (st .args .kind)) (cutMeaning (st .args .kind) (arrayOf (left st)) (arrayOf (right st)) .refusals)
+own-is c =
+    let st = start c in
+    let f = fine (c .before) in
+    c .cut-refusal .ensures (st .args .kind) (st .args .l .now) (st .args .r .now) (f .left .form) (f .right .form)
 
-counted : (c : tie.After-count2)
-    → c .count2 .result
-    ≡ countOf (shapeOf (cutMeaning (c .before .before .before .before .before .before .before .before .before .before .args .dropping) (arrayOf (lent (c .before .before .before .before .before .before .before .before .before .before .args .ls) (c .before .before .before .before .before .before .before .before .before .before .args .l .now))) (arrayOf (lent (c .before .before .before .before .before .before .before .before .before .before .args .rs) (c .before .before .before .before .before .before .before .before .before .before .args .r .now))) .lengths))
-counted c = c .count2 .ensures ∙ ap countOf (shape c)
+-- The result's shape, and what is known there.
+abbrev asked : tie.After-cut-shape → tie.Else2
+asked c = c .before .before .before
+
+abbrev begun : tie.After-cut-shape → tie.Start
+begun c = start (asked c .before)
+
+known : (c : tie.After-cut-shape)
+    → let a = begun c .args in
+    Cuts (a .kind) (a .ls) (a .rs) (a .l .now) (a .r .now) (c .before .before .count .result) (c .before .read-lengths .result) (c .cut-shape .result)
+known c =
+    let e = asked c in
+    let f = fine (e .before .before) in
+    record {
+      left = f .left;
+      right = f .right;
+      fit = cut-fits (begun c .args .kind) (left (begun c)) (right (begun c)) (sym (own-is (e .before)) ∙ e .if2 .left);
+      numbers = c .before .before .count .ensures;
+      lens-are = c .before .read-lengths .ensures;
+      shape = c .cut-shape .ensures;
+    }
+
+ready : (c : tie.After-cut-shape) (K : ℤ)
+    → let st = begun c in
+    Ready (cutNumber (st .args .kind)) 2 (st .args .g) K (left st) (right st) (cutMeaning (st .args .kind) (arrayOf (left st)) (arrayOf (right st)))
+    (c .cut-shape .result)
+ready c K =
+    let e = asked c in
+    record {
+      names = cut-names (begun c .args .kind) _ _ _ _;
+      fine = fine (e .before .before) .none;
+      none = sym (own-is (e .before)) ∙ e .if2 .left;
+      stands = stands (known c);
+    }
+
+-- LIMIT and SPACE.
+abbrev shaped : tie.After-late → tie.After-cut-shape
+shaped c = c .before .before
+
+roomy : (c : tie.Else3) → let s = shaped (c .before) in Roomy (s .cut-shape .result) (length (begun s .args .out .now))
+roomy c = late-fine _ (c .before .late .ensures) (c .before .before .count2 .ensures) (c .if3 .left)
 
 returns : tie.Need-returns
 returns c K =
-    let a = c .before .before .before .args in
-    replied-refused (c .refused .result) _ (a .out .now) (c .refused .ensures)
-    (early-reply (cut-names (a .dropping) (a .g) K (lent (a .ls) (a .l .now)) (lent (a .rs) (a .r .now))) (a .out .now) _ (early-is (c .before .before)) (c .before .if1 .taken))
+    early-replied (cut-names (c .before .before .before .args .kind) _ _ _ _) _ (early-is (c .before .before)) (c .before .if1 .taken) (c .refused .ensures)
 
 returns-2 : tie.Need-returns-2
 returns-2 c K =
-    let a = c .before .before .before .before .before .args in
-    let g = fine (c .before .before .before) in
-    replied-refused (c .refused2 .result) _ (a .out .now) (c .refused2 .ensures)
-    (own-reply (cut-names (a .dropping) (a .g) K (lent (a .ls) (a .l .now)) (lent (a .rs) (a .r .now))) (a .out .now) (fine (c .before .before .before) .none) _ (c .before .before .cut-refusal .ensures ∙ own-is (a .ls) (a .l .now) (a .rs) (a .r .now) (g .left) (g .right) (a .dropping)) (c .before .if2 .taken))
+    let o = c .before .before in
+    own-replied (cut-names (start o .args .kind) _ _ _ _) _ (fine (o .before) .none) (own-is o) (c .before .if2 .taken) (c .refused2 .ensures)
 
 returns-3 : tie.Need-returns-3
 returns-3 c K =
-    let a = c .before .before .before .before .before .before .before .args in
-    let g = fine (c .before .before .before .before .before) in
-    replied-refused (c .refused3 .result) 9 (a .out .now) (c .refused3 .ensures)
-    (limit-reply (cut-names (a .dropping) (a .g) K (lent (a .ls) (a .l .now)) (lent (a .rs) (a .r .now))) (a .out .now) (fine (c .before .before .before .before .before) .none) (sym (own-is (a .ls) (a .l .now) (a .rs) (a .r .now) (g .left) (g .right) (a .dropping)) ∙ sym (c .before .before .before .before .cut-refusal .ensures) ∙ c .before .before .before .if2 .left)
-    (too-many (a .ls) (a .l .now) (a .rs) (a .r .now) (g .left) (g .right) (a .dropping) (fit (c .before .before .before)) (c .before .before .count .result) (c .before .before .count .ensures) (omega arith)))
+    let l = c .before .before in
+    late-replied (ready (shaped l) K) _ (l .late .ensures) (l .before .count2 .ensures) (c .before .if3 .taken) (c .refused3 .ensures)
 
-sizes-of-requires : tie.Need-sizes-of-requires
-sizes-of-requires c κs =
-    let a = c .before .before .before .before .before .before .before .args in
-    let g = fine (c .before .before .before .before .before) in
-    (omega arith, enough (a .ls) (a .l .now) (a .rs) (a .r .now) (g .left) (g .right) (a .dropping) (fit (c .before .before .before)) (c .before .before .count .result) (c .before .before .count .ensures))
-
-returns-4 : tie.Need-returns-4
-returns-4 c K =
-    let a = c .before .before .before .before .before .before .before .before .before .before .before .before .args in
-    let ms = cutMeaning (a .dropping) (arrayOf (lent (a .ls) (a .l .now))) (arrayOf (lent (a .rs) (a .r .now))) .lengths in
-    let g = fine (c .before .before .before .before .before .before .before .before .before .before) in
-    replied-refused (c .refused4 .result) 9 (a .out .now) (c .refused4 .ensures)
-    (limit-reply (cut-names (a .dropping) (a .g) K (lent (a .ls) (a .l .now)) (lent (a .rs) (a .r .now))) (a .out .now) (fine (c .before .before .before .before .before .before .before .before .before .before) .none) (sym (own-is (a .ls) (a .l .now) (a .rs) (a .r .now) (g .left) (g .right) (a .dropping)) ∙ sym (c .before .before .before .before .before .before .before .before .before .cut-refusal .ensures) ∙ c .before .before .before .before .before .before .before .before .if2 .left)
-    (made-no-rule ms _ (counted (c .before .before)) (omega arith)))
-
-returns-5 : tie.Need-returns-5
-returns-5 c K =
-    let a = c .before .before .before .before .before .before .before .before .before .before .before .before .before .args in
-    let ms = cutMeaning (a .dropping) (arrayOf (lent (a .ls) (a .l .now))) (arrayOf (lent (a .rs) (a .r .now))) .lengths in
-    let g = fine (c .before .before .before .before .before .before .before .before .before .before .before) in
-    let n = counted (c .before .before .before) in
-    replied-refused (c .refused5 .result) 10 (a .out .now) (c .refused5 .ensures)
-    (space-reply (cut-names (a .dropping) (a .g) K (lent (a .ls) (a .l .now)) (lent (a .rs) (a .r .now))) (a .out .now) (fine (c .before .before .before .before .before .before .before .before .before .before .before) .none) (sym (own-is (a .ls) (a .l .now) (a .rs) (a .r .now) (g .left) (g .right) (a .dropping)) ∙ sym (c .before .before .before .before .before .before .before .before .before .before .cut-refusal .ensures) ∙ c .before .before .before .before .before .before .before .before .before .if2 .left)
-    (made-rule ms _ n (omega arith)) (omega (arith, made-count ms _ n (omega arith))))
-
-part-fill-end : tie.Need-part-fill-end
-part-fill-end c =
-    let g = fine (c .before .before .before .before .before .before .before .before .before .before .before) .right in
-    omega (arith, g .room, g .count-is, c .count3 .ensures)
+-- R's count, and what is handed on.
+abbrev measured : tie.After-fill-arg2 → tie.After-count3
+measured c = c .before .before .before
 
 fill-requires : tie.Need-fill-requires
 fill-requires c κs =
-    let a = c .before .before .before .before .before .before .before .before .before .before .before .before .before .before .before .args in
-    let g = fine (c .before .before .before .before .before .before .before .before .before .before .before .before .before) in
-    parts-are (a .ls) (a .l .now) (a .rs) (a .r .now) (g .left) (g .right) (a .dropping) (fit (c .before .before .before .before .before .before .before .before .before .before .before)) (c .before .before .before .before .before .before .before .before .before .before .count .result) (c .before .before .before .before .before .before .before .before .before .before .count .ensures) (omega arith) _ _ (c .before .before .before .before .before .before .before .before .lengths-of .ensures) (c .before .before .before .before .before .before .before .sizes-of .ensures)
-    (a .out .now) (c .before .before .count3 .result) (c .before .before .before .before .before .count2 .result) (c .before .before .count3 .ensures) (omega arith) (omega arith) (made-count _ _ (counted (c .before .before .before .before .before)) (omega arith))
+    let n = measured c in
+    let l = n .before .before in
+    parts (known (shaped l)) _ (roomy (n .before)) (n .count3 .ensures) (l .before .count2 .ensures)
 
-returns-6 : tie.Need-returns-6
-returns-6 c K =
-    let a = c .before .before .before .before .before .before .before .before .before .before .before .before .before .before .before .before .before .args in
-    let ms = cutMeaning (a .dropping) (arrayOf (lent (a .ls) (a .l .now))) (arrayOf (lent (a .rs) (a .r .now))) .lengths in
-    let g = fine (c .before .before .before .before .before .before .before .before .before .before .before .before .before .before .before) in
-    let n = counted (c .before .before .before .before .before .before .before) in
-    let small : c .before .before .before .before .before .before .before .count2 .result ≤ maxCount = omega arith in
-    let e = made-count ms _ n small in
-    replied-given _ (cutMeaning (a .dropping) (arrayOf (lent (a .ls) (a .l .now))) (arrayOf (lent (a .rs) (a .r .now)))) (a .out .now) _ (ap (λ z. record { number = 0; shape = z }) (shape (c .before .before .before .before .before .before .before)))
-    (result-out (a .ls) (a .l .now) (a .rs) (a .r .now) (g .left) (g .right) (a .dropping) (fit (c .before .before .before .before .before .before .before .before .before .before .before .before .before)) (c .before .before .before .before .before .before .before .before .before .before .before .before .count .result) (c .before .before .before .before .before .before .before .before .before .before .before .before .count .ensures) (omega arith) _ _ (c .before .before .before .before .before .before .before .before .before .before .lengths-of .ensures) (c .before .before .before .before .before .before .before .before .before .sizes-of .ensures)
-    (a .out .now) (c .before .before .before .before .count3 .result) (c .before .before .before .before .before .before .before .count2 .result) (c .before .before .before .before .count3 .ensures) small (omega arith) e (c .before .fill .last .1 .1 .1 .1 .1 .1 .0) (c .before .fill .ensures))
-    (given-reply (cut-names (a .dropping) (a .g) K (lent (a .ls) (a .l .now)) (lent (a .rs) (a .r .now))) (a .out .now) (fine (c .before .before .before .before .before .before .before .before .before .before .before .before .before .before .before) .none) (sym (own-is (a .ls) (a .l .now) (a .rs) (a .r .now) (g .left) (g .right) (a .dropping)) ∙ sym (c .before .before .before .before .before .before .before .before .before .before .before .before .before .before .cut-refusal .ensures) ∙ c .before .before .before .before .before .before .before .before .before .before .before .before .before .if2 .left) (made-rule ms _ n small) (omega (arith, e)))
+returns-4 : tie.Need-returns-4
+returns-4 c K =
+    let f = c .before .before in
+    let n = measured (f .before) in
+    let e = n .before in
+    let l = e .before in
+    let s = shaped l in
+    let out = begun s .args .out .now in
+    given-replied (ready s K) out (l .late .ensures) (l .before .count2 .ensures) (e .if3 .left)
+    (given-is (known s) out (roomy e) (n .count3 .ensures) (l .before .count2 .ensures) (c .given .ensures))
+    (out-is (known s) out (roomy e) (n .count3 .ensures) (l .before .count2 .ensures) (f .fill .ensures))
 
 pub take-or-drop-spec : {M : Type 1} → statement M
 take-or-drop-spec =
@@ -137,22 +134,19 @@ take-or-drop-spec =
     returns-2
     (λ c κs. search needs)
     (λ c κs. search needs)
+    (λ c κs. let n = c .before in let g = fine (n .before .before .before) .left in omega (arith, g .room, g .count-is, n .count .ensures))
+    (λ c κs. search needs)
+    (λ c κs. search needs)
+    (λ c κs. search needs)
     returns-3
     (λ c κs. search needs)
-    sizes-of-requires
-    (λ c κs. search needs)
-    (λ c κs. search needs)
-    (λ c κs. search needs)
-    returns-4
-    (λ c κs. search needs)
-    returns-5
-    (λ c κs. search needs)
     (λ c. search needs)
     (λ c. search needs)
-    part-fill-end
+    (λ c. let g = known (shaped (c .before .before .before)) .right in omega (arith, g .room, g .count-is, c .before .count3 .ensures))
     (λ c. search needs)
     (λ c. search needs)
-    (λ c. search needs)
+    (λ c. let e = c .before .before .before in omega (arith, roomy e .space, e .before .before .count2 .ensures))
     fill-requires
+    (λ c κs. search needs)
     (λ c. search needs)
-    returns-6)
+    returns-4)
