@@ -1,93 +1,110 @@
--- The higher shape and the extents beside it, of two operands.
-use mathlib.Core.Path.{_≡_, refl, sym, ap, _∙_}
+-- The shape against which K is read, and what 22 asks by it.
+use mathlib.Core.Path.{_≡_, refl, sym, ap, ap₂, subst, _∙_}
 use mathlib.Core.List.{List, [], _∷_}
-use mathlib.Core.Bool.{true, cond}
+use mathlib.Core.Bool.{Bool, true, not, cond, _&&_}
 use Prim.Native.Nat.{ℕ, _≤_, _<_}
-use native.Mathlib.Decide.{decLt, ℕ-discrete}
+use native.Mathlib.Decide.{decLt}
 use native.Mathlib.Omega.{arith}
 use borrow.Author.Tests.{lt-ltb, le-ltb, eq-eqb, ne-eqb}
-use lib.Dec.{eqb}
 use lib.ListN.{length}
-use lib.Seq.{getD-take}
-use lib.IntN.{ℤ}
+use lib.IntN.{ℤ, _-ℤ_}
 use Rattle.shape.specs.declared.Shape.{Shape}
-use Rattle.shape.specs.Shape.{maxRank, maxCount, counted, goodShape, shapeOf}
-use Rattle.shape.proofs.Rule.{rule-length}
-use Rattle.meaning.specs.Array.{Array, arrayOf}
-use Rattle.meaning.specs.Terms.{rank, axis}
-use Rattle.meaning.specs.Primitives.{side, higher, ranksFit}
-use Rattle.meaning.proofs.Sides.{higher-left, higher-right, higher-scalars, Beside, fit, side-extent}
-use Rattle.answer.specs.Answer.{lent}
+use Rattle.shape.specs.Shape.{maxRank, counted, goodShape}
+use Rattle.shape.proofs.Counts.{good-rank}
 use Rattle.shape.proofs.Made.{made-counted}
-use Rattle.joins.specs.Joined.{higherShape, extentOf}
+use Rattle.signed.proofs.Finding.{IsAt}
+use Rattle.meaning.specs.Array.{Operand, Array, arrayOf}
+use Rattle.meaning.specs.Refusal.{number, precedence}
+use Rattle.meaning.specs.Refusal.Refusal.{RANK, AXIS, LENGTH}
+use Rattle.meaning.specs.Terms.{rank, eqZ, within, fromZero}
+use Rattle.meaning.specs.Primitives.{higher, ranksFit, catenate}
+use Rattle.meaning.specs.Reply.{primitives, named}
+use Rattle.meaning.specs.Steps.{Beside, fit}
+use Rattle.meaning.proofs.Sides.{higher-left, higher-right, higher-scalars, ranks-beside, beside-as}
+use Rattle.answer.specs.Answer.{lent, own}
+use Rattle.answer.proofs.Lent.{rank-of}
+use Rattle.answer.proofs.Order.{Names, own-first}
+use Rattle.joins.specs.Steps.{higherShape, agree}
 
-pub ranks-fit-is : (L R : Array) → ranksFit L R ≡ fit (rank L) (rank R)
-unfolding ranksFit
-ranks-fit-is L R = refl
+-- A good shape, as the program has it.
+pub record Good (s : Shape) : Type 0 where
+  pub good : goodShape s ≡ true
+  pub long : length (s .lens) ≡ maxRank
 
--- What is known of the shape against which K is read.
-pub record High (hs : Shape) (L R : Array) : Type 0 where
+pub low : {s : Shape} → Good s → s .rank ≤ maxRank
+low {s} g = good-rank s (g .good)
+
+ranked : {s : Shape} → Good s → (x : List ℤ) → rank (arrayOf (lent s x)) ≡ s .rank
+ranked {s} g x = rank-of s x (g .long) (g .good)
+
+-- Two good shapes, and the higher.
+pub record High (ls rs hs : Shape) : Type 0 where
+  pub left : Good ls
+  pub right : Good rs
+  pub is : hs ≡ higherShape ls rs
+
+-- What is known of it beside the operands.
+pub record Higher (hs : Shape) (L R : Array) : Type 0 where
   pub counts : counted hs ≡ higher L R
   pub high : hs .rank ≤ maxRank
-  pub rank-is : length (higher L R) ≡ hs .rank
+  pub rank-is : length (counted hs) ≡ hs .rank
 
-module _ (ls rs : Shape) (x y : List ℤ) (hl : ls .rank ≤ maxRank) (hr : rs .rank ≤ maxRank)
-    (el : rank (arrayOf (lent ls x)) ≡ ls .rank) (er : rank (arrayOf (lent rs y)) ≡ rs .rank) where
-  abbrev L : Array
-  L = arrayOf (lent ls x)
+module _ {ls rs hs : Shape} (h : High ls rs hs) where
+  module _ (x y : List ℤ) where
+    abbrev L : Array
+    L = arrayOf (lent ls x)
 
-  abbrev R : Array
-  R = arrayOf (lent rs y)
+    abbrev R : Array
+    R = arrayOf (lent rs y)
 
-  is-right : ls .rank < rs .rank → higherShape ls rs ≡ rs
-  is-right h = rw (lt-ltb (ls .rank) (rs .rank) h)
+    pub higher-is : Higher hs L R
+    higher-is = subst (λ s. Higher s L R) (sym (h .is)) (by (decLt (ls .rank) (rs .rank)) (decLt 0 (ls .rank)) (ranked (h .left) x) (ranked (h .right) y))
+      where
+        by : Dec (ls .rank < rs .rank) → Dec (0 < ls .rank) → rank L ≡ ls .rank → rank R ≡ rs .rank → Higher (higherShape ls rs) L R
+        by (yes p) d l r =
+            rw (lt-ltb (ls .rank) (rs .rank) p) (record { counts = sym (higher-right L R (omega arith)); high = low (h .right); rank-is = r })
+        by (no p) (yes d) l r =
+            rw (le-ltb (ls .rank) (rs .rank) (omega arith), ne-eqb (ls .rank) 0 (λ z. omega arith))
+            (record { counts = sym (higher-left L R (omega arith) (omega arith)); high = low (h .left); rank-is = l })
+        by (no p) (no d) l r =
+            rw (le-ltb (ls .rank) (rs .rank) (omega arith), eq-eqb (ls .rank) 0 (omega arith))
+            (record { counts = made-counted (1 ∷ []) ∙ sym (higher-scalars L R (omega arith) (omega arith)); high = omega arith; rank-is = refl })
 
-  is-scalars : rs .rank ≤ ls .rank → ls .rank ≡ 0 → higherShape ls rs ≡ shapeOf (1 ∷ [])
-  is-scalars h z = rw (le-ltb (ls .rank) (rs .rank) h, eq-eqb (ls .rank) 0 z)
+    fit-is : ranksFit L R ≡ fit (ls .rank) (rs .rank)
+    unfolding ranksFit
+    fit-is = ap₂ fit (ranked (h .left) x) (ranked (h .right) y)
 
-  is-left : rs .rank ≤ ls .rank → (ls .rank ≡ 0 → ⊥) → higherShape ls rs ≡ ls
-  is-left h z = rw (le-ltb (ls .rank) (rs .rank) h, ne-eqb (ls .rank) 0 z)
+  -- Ranks that fit, beside its rank.
+  pub besides : fit (ls .rank) (rs .rank) ≡ true → Beside (ls .rank) (hs .rank) × Beside (rs .rank) (hs .rank)
+  besides f =
+      let n = higher-is [] [] in
+      let e = ap length (sym (n .counts)) ∙ n .rank-is in
+      let b = ranks-beside (L [] []) (R [] []) (fit-is [] [] ∙ f) in
+      (beside-as (b .0) (ranked (h .left) []) e, beside-as (b .1) (ranked (h .right) []) e)
 
-  by-rank : Dec (ls .rank < rs .rank) → Dec (0 < ls .rank) → High (higherShape ls rs) L R
-  by-rank (yes h) d =
-      let e : higherShape ls rs ≡ rs = is-right h in
-      let q : higher L R ≡ counted rs = higher-right L R (omega arith) in
-      record { counts = ap counted e ∙ sym q; high = rw (ap (λ (s : Shape). s .rank) e) hr; rank-is = ap length q ∙ er ∙ sym (ap (λ (s : Shape). s .rank) e) }
-  by-rank (no h) (yes d) =
-      let e : higherShape ls rs ≡ ls = is-left (omega arith) (λ z. omega arith) in
-      let q : higher L R ≡ counted ls = higher-left L R (omega arith) (omega arith) in
-      record { counts = ap counted e ∙ sym q; high = rw (ap (λ (s : Shape). s .rank) e) hl; rank-is = ap length q ∙ el ∙ sym (ap (λ (s : Shape). s .rank) e) }
-  by-rank (no h) (no d) =
-      let e : higherShape ls rs ≡ shapeOf (1 ∷ []) = is-scalars (omega arith) (omega arith) in
-      let q : higher L R ≡ 1 ∷ [] = higher-scalars L R (omega arith) (omega arith) in
-      record {
-        counts = ap counted e ∙ made-counted (1 ∷ []) ∙ sym q;
-        high = rw (ap (λ (s : Shape). s .rank) e) (omega arith);
-        rank-is = ap length q ∙ sym (ap (λ (s : Shape). s .rank) e);
-      }
+pub catenate-names : (G K : ℤ) (L R : Operand) → Names 22 2 G K L R (catenate G K (arrayOf L) (arrayOf R))
+unfolding primitives named eqZ catenate precedence
+catenate-names G K L R = record { number = refl; takes = refl; meaning = refl; own = refl }
 
-  pub high-is : (hs : Shape) → hs ≡ higherShape ls rs → High hs L R
-  high-is hs e =
-      let h = by-rank (decLt (ls .rank) (rs .rank)) (decLt 0 (ls .rank)) in
-      record {
-        counts = ap counted e ∙ h .counts;
-        high = rw (ap (λ (s : Shape). s .rank) e) (h .high);
-        rank-is = h .rank-is ∙ sym (ap (λ (s : Shape). s .rank) e);
-      }
+-- What it asks, in turn: ranks that fit, an axis, and lengths that agree.
+abbrev pub asked : Bool → Bool → Bool → ℕ
+asked fit inside same = cond (not fit) (number RANK) (cond (not inside) (number AXIS) (cond (not same) (number LENGTH) 0))
 
--- The length that an operand counts as.
-module _ (s : Shape) (x : List ℤ) (ns : List ℕ) (n k : ℕ) (e : rank (arrayOf (lent s x)) ≡ s .rank) (en : length ns ≡ n) (l : k < n) where
-  by-length : Dec (s .rank ≡ n) → extentOf (s .rank) (s .lens) n k ≡ cond (eqb (rank (arrayOf (lent s x))) (length ns)) (axis (arrayOf (lent s x)) k) 1
-  by-length (yes q) =
-      rw (eq-eqb (s .rank) n q) (sym (getD-take (s .rank) (s .lens) k 0 (omega arith)) ∙ sym (rw (eq-eqb (rank (arrayOf (lent s x))) (length ns) (omega arith))))
-  by-length (no q) = rw (ne-eqb (s .rank) n q) (sym (rw (ne-eqb (rank (arrayOf (lent s x))) (length ns) (λ z. q (omega arith)))))
+module _ {ls rs hs : Shape} (h : High ls rs hs) (G K : ℤ) (x y : List ℤ) where
+  pub catenate-own : own 22 (catenate G K (arrayOf (lent ls x)) (arrayOf (lent rs y)) .refusals)
+      ≡ asked (fit (ls .rank) (rs .rank)) (within (K -ℤ G) (hs .rank))
+      (agree (counted hs) (fromZero G K) (arrayOf (lent ls x)) && agree (counted hs) (fromZero G K) (arrayOf (lent rs y)))
+  unfolding catenate
+  catenate-own =
+      let n = higher-is h x y in
+      let same : List ℕ → Bool =
+      λ ns. agree ns (fromZero G K) (arrayOf (lent ls x)) && agree ns (fromZero G K) (arrayOf (lent rs y)) in
+      own-first 22 _ (catenate-names G K (lent ls x) (lent rs y) .own)
+      ∙ ap₂ (λ f ns. asked f (within (K -ℤ G) (length ns)) (same ns)) (fit-is h x y) (sym (n .counts))
+      ∙ ap (λ m. asked (fit (ls .rank) (rs .rank)) (within (K -ℤ G) m) (same (counted hs))) (n .rank-is)
 
-  pub extent-is : Beside (rank (arrayOf (lent s x))) (length ns) → extentOf (s .rank) (s .lens) n k ≡ side ns k (arrayOf (lent s x)) .extent
-  extent-is b = by-length (ℕ-discrete (s .rank) n) ∙ sym (side-extent ns k (arrayOf (lent s x)) (omega arith) b)
-
-  pub extent-small : goodShape s ≡ true → extentOf (s .rank) (s .lens) n k ≤ maxCount
-  extent-small g = by (ℕ-discrete (s .rank) n)
-    where
-      by : Dec (s .rank ≡ n) → extentOf (s .rank) (s .lens) n k ≤ maxCount
-      by (yes q) = rw (eq-eqb (s .rank) n q) (rule-length (s .rank) (s .lens) k g e (omega arith))
-      by (no q) = rw (ne-eqb (s .rank) n q) (omega arith)
+  -- Where the ranks fit and K names axis k, LENGTH is left.
+  pub catenate-rest : {k : ℕ} → fit (ls .rank) (rs .rank) ≡ true → IsAt K G (hs .rank) k
+      → own 22 (catenate G K (arrayOf (lent ls x)) (arrayOf (lent rs y)) .refusals)
+      ≡ cond (not (agree (counted hs) k (arrayOf (lent ls x)) && agree (counted hs) k (arrayOf (lent rs y)))) (number LENGTH) 0
+  catenate-rest f a = catenate-own ∙ rw (f, a .inside, a .is)

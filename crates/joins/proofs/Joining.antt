@@ -1,7 +1,7 @@
--- What 22 gives, as its code finds it.
-use mathlib.Core.Path.{_≡_, refl, sym, ap, _∙_}
+-- The bridge: lengths ns with v + w positions on axis k, the first v of which take their elements from f and the others from g, both row by row.
+use mathlib.Core.Path.{_≡_, sym, ap, _∙_}
 use mathlib.Core.List.{List}
-use mathlib.Core.Bool.{Bool, true, false, not, cond, _&&_, _||_}
+use mathlib.Core.Bool.{cond}
 use Prim.Native.Nat.{ℕ, suc, _+_, _-_, _*_, _/_, _%_, _<_}
 use native.Mathlib.Nat.{mod-lt, div-add-mod'}
 use native.Mathlib.Decide.{decLt}
@@ -11,88 +11,22 @@ use lib.Arith.{digits-div, digits-mod, digits-lt}
 use lib.Dec.{ltb}
 use lib.ListN.{length, getD, set, take, drop, length-set}
 use lib.Seq.{set-set, set-getD, getD-set-same, drop-set-lt}
-use lib.IntN.{ℤ, pos, natAbs, _-ℤ_}
-use Rattle.shape.specs.Shape.{count, without}
+use lib.IntN.{ℤ}
+use Rattle.shape.specs.Shape.{count}
 use Rattle.shape.specs.Place.{index, place}
 use Rattle.shape.proofs.Places.{In, place-in, row-in}
 use Rattle.shape.proofs.Axis.{in-set, axis-position, axis-position-lt, axis-index}
 use Rattle.shape.proofs.Surround.{count-set}
-use Rattle.meaning.specs.Array.{Operand, Array, arrayOf, tab, build}
-use Rattle.meaning.specs.Refusal.{number, precedence, meets, winner}
-use Rattle.meaning.specs.Terms.{isScalar, eqZ, within, sameLengths}
-use Rattle.meaning.specs.Primitives.{side, higher, ranksFit, catenate}
-use Rattle.meaning.specs.Reply.{Primitive, primitives, named}
+use Rattle.meaning.specs.Array.{tab, build}
 use Rattle.meaning.proofs.Tab.{tab-ext}
-use Rattle.meaning.proofs.Positions.{within-lt}
-use Rattle.meaning.proofs.Sides.{ranks-beside, same-is, side-flat, sideAt}
-use Rattle.answer.specs.Answer.{own}
-use Rattle.answer.proofs.Order.{Names}
-use Rattle.joins.specs.Joined.{joinedAt}
+use Rattle.joins.specs.Steps.{joinedAt}
 
-abbrev pub catenating : Primitive
-catenating = record { number = 22; operands = 2; meaning = λ G K L R. catenate G K L R }
+-- Elements at places that are those of a flat list, row by row.
+abbrev pub RowByRow : List ℕ → (ℕ → ℤ) → (List ℕ → ℤ) → Type 0
+RowByRow ns f e = (p : List ℕ) → In ns p → e p ≡ f (index ns p)
 
-pub catenate-names : (G K : ℤ) (L R : Operand) → Names (pos 22) G K L R catenating (catenate G K (arrayOf L) (arrayOf R))
-unfolding primitives named eqZ catenate number meets
-catenate-names G K L R = record {
-  primitive = refl;
-  meaning = refl;
-  own = record { no-number = refl; no-form = refl; no-origin = refl; no-limit = refl; no-space = refl };
-}
-
--- The test of a side's other lengths.
-abbrev pub agree : List ℕ → ℕ → Array → Bool
-agree ns k a = sameLengths (side ns k a .others) (without k ns)
-
--- No refusal is met.
-pub record Joins (G K : ℤ) (L R : Array) : Type 0 where
-  pub fit : ranksFit L R ≡ true
-  pub on-axis : within (K -ℤ G) (length (higher L R)) ≡ true
-  pub left : agree (higher L R) (natAbs (K -ℤ G)) L ≡ true
-  pub right : agree (higher L R) (natAbs (K -ℤ G)) R ≡ true
-
-module _ (G K : ℤ) (L R : Array) where
-  pub catenate-rank : ranksFit L R ≡ false → own 22 (catenate G K L R .refusals) ≡ 4
-  unfolding catenate precedence winner meets number
-  catenate-rank h = rw h
-
-  module _ (fit : ranksFit L R ≡ true) where
-    pub catenate-axis : within (K -ℤ G) (length (higher L R)) ≡ false → own 22 (catenate G K L R .refusals) ≡ 5
-    unfolding catenate precedence winner meets number
-    catenate-axis h = rw (fit, h)
-
-    module _ (on-axis : within (K -ℤ G) (length (higher L R)) ≡ true) where
-      pub catenate-left : agree (higher L R) (natAbs (K -ℤ G)) L ≡ false → own 22 (catenate G K L R .refusals) ≡ 6
-      unfolding catenate precedence winner meets number
-      catenate-left h = rw (fit, on-axis, h)
-
-      pub catenate-right : agree (higher L R) (natAbs (K -ℤ G)) L ≡ true → agree (higher L R) (natAbs (K -ℤ G)) R ≡ false → own 22 (catenate G K L R .refusals) ≡ 6
-      unfolding catenate precedence winner meets number
-      catenate-right g h = rw (fit, on-axis, g, h)
-
-      pub catenate-none : agree (higher L R) (natAbs (K -ℤ G)) L ≡ true → agree (higher L R) (natAbs (K -ℤ G)) R ≡ true → own 22 (catenate G K L R .refusals) ≡ 0
-      unfolding catenate precedence winner meets number
-      catenate-none g h = rw (fit, on-axis, g, h)
-
-  pub catenate-fits : own 22 (catenate G K L R .refusals) ≡ 0 → Joins G K L R
-  unfolding catenate precedence winner meets number
-  catenate-fits =
-      by (ranksFit L R) (within (K -ℤ G) (length (higher L R))) (agree (higher L R) (natAbs (K -ℤ G)) L) (agree (higher L R) (natAbs (K -ℤ G)) R) refl refl refl refl
-    where
-      by : (a b c d : Bool) → ranksFit L R ≡ a → within (K -ℤ G) (length (higher L R)) ≡ b → agree (higher L R) (natAbs (K -ℤ G)) L ≡ c
-          → agree (higher L R) (natAbs (K -ℤ G)) R ≡ d
-          → _≡_ {A = ℕ} (cond (not a || false) 4 (cond (not b || false) 5 (cond (not (c && d) || false) 6 0))) 0
-          → Joins G K L R
-      by false b c d p q r s e = absurd (omega arith)
-      by true false c d p q r s e = absurd (omega arith)
-      by true true false d p q r s e = absurd (omega arith)
-      by true true true false p q r s e = absurd (omega arith)
-      by true true true true p q r s e = record { fit = p; on-axis = q; left = r; right = s }
-
--- The bridge: lengths ns with v + w positions on axis k, the first v of which take their elements from f and the others from g, both row by row.
-module _ (ns : List ℕ) (k v w : ℕ) (l : k < length ns) (f g : ℕ → ℤ) (ef eg : List ℕ → ℤ)
-    (hf : (p : List ℕ) → In (set ns k v) p → ef p ≡ f (index (set ns k v) p))
-    (hg : (p : List ℕ) → In (set ns k w) p → eg p ≡ g (index (set ns k w) p)) where
+module _ (ns : List ℕ) (k v w : ℕ) (l : k < length ns) (f g : ℕ → ℤ) {ef eg : List ℕ → ℤ}
+    (hf : RowByRow (set ns k v) f ef) (hg : RowByRow (set ns k w) g eg) where
   abbrev c : ℕ
   c = count (drop (suc k) ns)
 
@@ -133,8 +67,10 @@ module _ (ns : List ℕ) (k v w : ℕ) (l : k < length ns) (f g : ℕ → ℤ) (
         let i : ℕ = getD p k 0 in
         let d : j / c / m * m + j / c % m ≡ j / c = div-add-mod' (j / c) m in
         let q : j / c * c + j % c ≡ j = div-add-mod' j c in
-        let split : j ≡ j / c / m * (v * c + w * c) + (i * c + j % c) = sym q ∙ ap (λ x. x * c + j % c) (sym d ∙ ap (λ x. j / c / m * m + x) (sym position)) ∙ omega arith in
-        let small : i * c + j % c < v * c + w * c = rw (let z : v * c + w * c ≡ m * c = omega arith in z) (digits-lt below (mod-lt j some)) in
+        let row : j / c ≡ j / c / m * m + i = sym d ∙ ap (λ x. j / c / m * m + x) (sym position) in
+        let split : j ≡ j / c / m * (v * c + w * c) + (i * c + j % c) = sym q ∙ ap (λ x. x * c + j % c) row ∙ omega arith in
+        let z : v * c + w * c ≡ m * c = omega arith in
+        let small : i * c + j % c < v * c + w * c = rw z (digits-lt below (mod-lt j some)) in
         (ap (λ x. x / (v * c + w * c)) split ∙ digits-div (j / c / m) small, ap (λ x. x % (v * c + w * c)) split ∙ digits-mod (j / c / m) small)
 
     at-left : getD p k 0 < v → element p ≡ joinedAt (v * c) (w * c) f g j
@@ -163,28 +99,3 @@ module _ (ns : List ℕ) (k v w : ℕ) (l : k < length ns) (f g : ℕ → ℤ) (
   pub joined-flat : build (set ns k (v + w)) element .elements ≡ tab (count (set ns k (v + w))) (joinedAt (v * c) (w * c) f g)
   unfolding build
   joined-flat = tab-ext (count (set ns k (v + w))) _ _ (λ j h. at-either j h)
-
--- A call that is not refused by 22 itself.
-module _ (G K : ℤ) (L R : Array) (j : Joins G K L R) where
-  abbrev k : ℕ
-  k = natAbs (K -ℤ G)
-
-  abbrev ns : List ℕ
-  ns = higher L R
-
-  pub axis-below : k < length ns
-  axis-below = within-lt (K -ℤ G) (length ns) (j .on-axis)
-
-  pub catenate-lengths : catenate G K L R .lengths ≡ set ns k (side ns k L .extent + side ns k R .extent)
-  unfolding catenate
-  catenate-lengths = refl
-
-  pub catenate-elements : build (catenate G K L R .lengths) (catenate G K L R .element) .elements
-      ≡ tab (count (set ns k (side ns k L .extent + side ns k R .extent)))
-      (joinedAt (side ns k L .extent * count (drop (suc k) ns)) (side ns k R .extent * count (drop (suc k) ns)) (sideAt (isScalar L) (L .elements)) (sideAt (isScalar R) (R .elements)))
-  unfolding catenate
-  catenate-elements =
-      let b = ranks-beside L R (j .fit) in
-      joined-flat ns k (side ns k L .extent) (side ns k R .extent) axis-below (sideAt (isScalar L) (L .elements)) (sideAt (isScalar R) (R .elements)) (side ns k L .element) (side ns k R .element)
-      (side-flat ns k L axis-below (b .0) (same-is _ _ (j .left)))
-      (side-flat ns k R axis-below (b .1) (same-is _ _ (j .right)))

@@ -1,5 +1,6 @@
 pub mod Blocks
+pub mod Into
 pub mod Agreeing
-pub mod Joining
 pub mod Heights
+pub mod Joining
 pub mod Catenating

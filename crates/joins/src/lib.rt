@@ -2,21 +2,23 @@
 ghost use mathlib.Core.Path.{_≡_};
 ghost use mathlib.Core.List.{List};
 ghost use mathlib.Core.Bool.{true};
-ghost use Prim.Native.Nat.{suc, _+_, _-_, _*_, _≤_, _<_};
-ghost use lib.ListN.{length, set, drop};
+ghost use Prim.Native.Nat.{_+_, _*_, _≤_, _<_};
+ghost use lib.ListN.{length};
 ghost use lib.Seq.{slice};
 ghost use lib.IntN.{ℤ, pos};
-ghost use Rattle.shape.specs.Shape.{maxCount, maxRank, counted, count, goodShape, without};
+ghost use Rattle.shape.specs.Shape.{maxRank, counted, goodShape};
 ghost use Rattle.meaning.specs.Array.{arrayOf};
 ghost use Rattle.meaning.specs.Terms.{sameLengths};
-ghost use Rattle.meaning.specs.Primitives.{side, catenate};
+ghost use Rattle.meaning.specs.Primitives.{catenate};
 ghost use Rattle.meaning.specs.Reply.{reply};
-ghost use Rattle.meaning.proofs.Sides.{Beside, fit, sideAt};
-ghost use Rattle.copying.proofs.Runs.{filled};
+ghost use Rattle.meaning.specs.Steps.{fit, sideAt};
+ghost use Rattle.copying.specs.Steps.{filled};
 ghost use Rattle.answer.specs.Answer.{lent, own, Replied};
-ghost use Rattle.joins.specs.Joined.{higherShape, extentOf, joinedAt, sized};
+ghost use Rattle.joins.specs.Steps.{higherShape, extentOf, runOf, Compared, agree, RunFits, RunsFit, joined, joinedAlong, Joinable};
 use answer::Answer;
+use answer::refusal;
 use shape::Shape;
+use signed::Found;
 
 // 22, L before R.
 pub fn catenate(
@@ -40,23 +42,17 @@ pub fn catenate(
         return Answer::refused(own);
     }
     let hs = higher(ls, rs);
-    let axis = signed::position(k, g, hs.rank);
-    let a = extent(ls, hs.rank, axis);
-    let b = extent(rs, hs.rank, axis);
-    let shape = hs.with_length(axis, a + b);
-    let total = shape.count();
-    if Shape::MAX_COUNT < total {
-        return Answer::refused(9);
+    let axis = signed::from_zero(k, g);
+    let left = run_of(ls, hs.rank, axis);
+    let right = run_of(rs, hs.rank, axis);
+    let shape = hs.with_length(axis, left.width + right.width);
+    let count = shape.count();
+    let late = answer::late(count, out.len());
+    if late != 0 {
+        return Answer::refused(late);
     }
-    if out.len() < total {
-        return Answer::refused(10);
-    }
-    let m = ls.count();
-    let n = rs.count();
-    let x = ls.rank == 0;
-    let y = rs.rank == 0;
-    join_into(x, a, &l[0..m], y, b, &r[0..n], hs, axis, total, out);
-    Answer { number: 0, shape }
+    join_into(left, l, right, r, hs, axis, count, out);
+    Answer::given(shape)
 }
 
 // RANK, AXIS and LENGTH. No element is looked at.
@@ -64,20 +60,18 @@ fn catenate_refusal(g: i32, k: i32, ls: Shape, rs: Shape) -> usize
     requires { ⌜ (goodShape ls ≡ true) × (goodShape rs ≡ true) ⌝ }
     ensures { λ n. ⌜ ((x y : List ℤ) → n ≡ own 22 (catenate g k (arrayOf (lent ls x)) (arrayOf (lent rs y)) .refusals)) ⌝ }
 {
-    if ranks_fit(ls.rank, rs.rank) {
-        let hs = higher(ls, rs);
-        let axis = signed::position(k, g, hs.rank);
-        if hs.rank <= axis {
-            return 5;
-        }
-        if agrees(ls, hs, axis) {
-            if agrees(rs, hs, axis) {
-                return 0;
-            }
-        }
-        return 6;
+    if !ranks_fit(ls.rank, rs.rank) {
+        return refusal::RANK;
     }
-    4
+    let hs = higher(ls, rs);
+    let Found::At(axis) = signed::position(k, g, hs.rank) else {
+        return refusal::AXIS;
+    };
+    if agrees(ls, hs, axis) && agrees(rs, hs, axis) {
+        0
+    } else {
+        refusal::LENGTH
+    }
 }
 
 // Equal, one apart, or one of them a scalar's.
@@ -113,29 +107,46 @@ fn higher(ls: Shape, rs: Shape) -> Shape
     ls
 }
 
-// The length that an operand counts as along axis k: its own, or 1 where its rank is lower.
-fn extent(s: Shape, rank: usize, k: usize) -> usize
-    requires { ⌜ k < maxRank ⌝ }
-    ensures { λ n. ⌜ n ≡ extentOf (s .rank) (s .lens) rank k ⌝ }
-{
-    if s.rank == rank { s.lens[k] } else { 1 }
+// What an operand gives, along the axis or to each block: so many positions or elements, or a scalar's one so often.
+struct Run {
+    scalar: bool,
+    width: usize,
 }
 
-// Whether an operand's lengths agree with the higher ones but for axis k; a scalar's always do.
-fn agrees(s: Shape, hs: Shape, k: usize) -> bool
-    requires { ⌜ (s .rank ≤ maxRank) × ((hs .rank ≤ maxRank) × ((k < hs .rank) × Beside (s .rank) (hs .rank))) ⌝ }
-    ensures { λ b. ⌜ ((x : List ℤ) → b ≡ sameLengths (side (counted hs) k (arrayOf (lent s x)) .others) (without k (counted hs))) ⌝ }
+fn run_of(s: Shape, rank: usize, axis: usize) -> Run
+    requires { ⌜ axis < maxRank ⌝ }
+    ensures { λ a. ⌜ a ≡ runOf s rank axis ⌝ }
+{
+    let width = extent(s, rank, axis);
+    Run {
+        scalar: s.rank == 0,
+        width,
+    }
+}
+
+// The length that an operand counts as along the axis: its own, or 1 where its rank is lower.
+fn extent(s: Shape, rank: usize, axis: usize) -> usize
+    requires { ⌜ axis < maxRank ⌝ }
+    ensures { λ n. ⌜ n ≡ extentOf s rank axis ⌝ }
+{
+    if s.rank == rank { s.lens[axis] } else { 1 }
+}
+
+// Whether an operand's lengths agree with the higher ones but for the axis; a scalar's always do.
+fn agrees(s: Shape, hs: Shape, axis: usize) -> bool
+    requires { ⌜ Compared s hs axis ⌝ }
+    ensures { λ b. ⌜ ((x : List ℤ) → b ≡ agree (counted hs) axis (arrayOf (lent s x))) ⌝ }
 {
     let rank = s.rank;
     if rank == 0 {
         return true;
     }
-    let from = k + 1 + rank - hs.rank;
-    let after = hs.rank - 1 - k;
+    let from = axis + 1 + rank - hs.rank;
+    let after = hs.rank - 1 - axis;
     let a = s.lens;
     let b = hs.lens;
-    if same_part(a, 0, b, 0, k) {
-        same_part(a, from, b, k + 1, after)
+    if same_part(a, 0, b, 0, axis) {
+        same_part(a, from, b, axis + 1, after)
     } else {
         false
     }
@@ -162,80 +173,65 @@ fn same_part(
     true
 }
 
-// The result's elements, `total` in number. L counts as `a` along axis k, R as `b`; x and y say whether they are scalars.
+// The result's elements, `total` in number, by what the operands give along an axis of the higher shape.
 fn join_into(
-    x: bool,
-    a: usize,
+    left: Run,
     l: &[i32],
-    y: bool,
-    b: usize,
+    right: Run,
     r: &[i32],
     hs: Shape,
-    k: usize,
+    axis: usize,
     total: usize,
     out: &mut [i32],
 )
-    requires { ⌜ (hs .rank ≤ maxRank)
-        × ((k < hs .rank)
-        × ((total ≡ count (set (counted hs) k (a + b)))
-        × ((total ≤ maxCount)
-        × ((total ≤ length (now out))
-        × ((sized x (count (set (counted hs) k a)) ≤ length (now l)) × (sized y (count (set (counted hs) k b)) ≤ length (now r))))))) ⌝ }
-    ensures { λ _.
-        ⌜ now (out .exit)
-        ≡ filled
-        (joinedAt (a * count (drop (suc k) (counted hs))) (b * count (drop (suc k) (counted hs))) (sideAt x (now (l .entry))) (sideAt y (now (r .entry))))
-        total
-        (now (out .entry)) ⌝ }
+    requires { ⌜ Joinable left (now l) right (now r) hs axis total (length (now out)) ⌝ }
+    ensures { λ _. ⌜ now (out .exit) ≡ filled (joinedAlong hs axis left (now (l .entry)) right (now (r .entry))) total (now (out .entry)) ⌝ }
 {
     if total == 0 {
         return;
     }
-    let s = hs.around(k);
-    let inner = s.inner;
-    join_blocks(x, l, a * inner, y, r, b * inner, s.outer, out);
+    let w = hs.around(axis);
+    let x = Run {
+        scalar: left.scalar,
+        width: left.width * w.inner,
+    };
+    let y = Run {
+        scalar: right.scalar,
+        width: right.width * w.inner,
+    };
+    join_blocks(x, l, y, r, w.outer, out);
 }
 
-// The run of block o of an operand that has `width` elements in a block: a scalar's element is repeated.
-fn put_side(one: bool, src: &[i32], width: usize, o: usize, out: &mut [i32])
-    requires { ⌜ (length (now out) ≡ width) × ((o * width + width ≤ maxCount) × (sized one (o * width + width) ≤ length (now src))) ⌝ }
-    ensures { λ _. ⌜ now (out .exit) ≡ filled (λ i. sideAt one (now (src .entry)) (o * width + i)) width (now (out .entry)) ⌝ }
+// Each block is a run of L and then a run of R.
+fn join_blocks(left: Run, l: &[i32], right: Run, r: &[i32], outer: usize, out: &mut [i32])
+    requires { ⌜ RunsFit left right outer (length (now l)) (length (now r)) (length (now out)) ⌝ }
+    ensures { λ _.
+        ⌜ now (out .exit) ≡ filled (joined left (now (l .entry)) right (now (r .entry))) (outer * (left .width + right .width)) (now (out .entry)) ⌝ }
 {
-    if one {
+    let v = left.width;
+    let w = right.width;
+    let mut at = 0;
+    let mut o = 0;
+    while o < outer {
+        let mid = at + v;
+        let end = mid + w;
+        put_run(left, l, o, &mut out[at..mid]);
+        put_run(right, r, o, &mut out[mid..end]);
+        at = end;
+        o += 1;
+    }
+}
+
+// The run of block o.
+fn put_run(run: Run, src: &[i32], o: usize, out: &mut [i32])
+    requires { ⌜ (length (now out) ≡ run .width) × RunFits run o (length (now src)) ⌝ }
+    ensures { λ _. ⌜ now (out .exit) ≡ filled (λ i. sideAt (run .scalar) (now (src .entry)) (o * run .width + i)) (run .width) (now (out .entry)) ⌝ }
+{
+    if run.scalar {
         copying::fill_run(src[0], out);
         return;
     }
-    let from = o * width;
-    let to = from + width;
+    let from = o * run.width;
+    let to = from + run.width;
     copying::copy_run(&src[from..to], out);
-}
-
-// Each block has v elements of L and then w of R; x and y say whether L and R are scalars.
-fn join_blocks(
-    x: bool,
-    l: &[i32],
-    v: usize,
-    y: bool,
-    r: &[i32],
-    w: usize,
-    outer: usize,
-    out: &mut [i32],
-)
-    requires { ⌜ (outer * (v + w) ≤ maxCount)
-        × ((outer * (v + w) ≤ length (now out))
-        × ((v ≤ maxCount) × ((w ≤ maxCount) × ((sized x (outer * v) ≤ length (now l)) × (sized y (outer * w) ≤ length (now r)))))) ⌝ }
-    ensures { λ _.
-        ⌜ now (out .exit)
-        ≡ filled (joinedAt v w (sideAt x (now (l .entry))) (sideAt y (now (r .entry)))) (outer * (v + w)) (now (out .entry)) ⌝ }
-{
-    let made = v + w;
-    let mut o = 0;
-    while o < outer {
-        let at = o * made;
-        let mid = at + v;
-        let end = mid + w;
-        put_side(x, l, v, o, &mut out[at..mid]);
-        put_side(y, r, w, o, &mut out[mid..end]);
-        o += 1;
-    }
 }

@@ -1,60 +1,53 @@
--- Rows of a block that are chosen by position, and blocks of them.
+-- Rows of a block that are chosen by position.
 use mathlib.Core.Path.{_≡_, refl, ap, _∙_}
-use mathlib.Core.List.{List, _++_}
+use mathlib.Core.List.{List}
 use mathlib.Core.Bool.{true, false}
 use Prim.Native.Nat.{ℕ, _+_, _-_, _*_, _≤_, _<_}
 use native.Mathlib.Nat.{mul-one, div-one, mod-one, add-zero}
-use native.Mathlib.Omega.{arith}
 use lib.Arith.{digits-div, digits-mod}
 use lib.ListN.{length, getD, take, drop}
 use lib.IntN.{ℤ, pos, negsuc, _-ℤ_}
+use mir.Syntax.{w32}
+use mir.Val.{SFits, toZ, ofZ}
 use borrow.Rule.Slice.PartMut.{putMid}
 use Rattle.shape.proofs.Bools.{no-way}
-use Rattle.meaning.proofs.Tab.{tab-ext}
-use Rattle.meaning.specs.Terms.{negative, within}
+use Rattle.signed.proofs.Reading.{read32}
+use Rattle.meaning.specs.Terms.{negative, within, fromZero}
 use Rattle.meaning.proofs.Positions.{within-lt}
 use Rattle.copying.specs.Runs.{copied}
-use Rattle.copying.proofs.Runs.{filled, filled-whole, put-copied}
-use Rattle.copying.proofs.Blocks.{source, put-block}
-use Rattle.selects.specs.Chosen.{chosen, Chosen, inBlock}
+use Rattle.copying.specs.Steps.{filled}
+use Rattle.copying.proofs.Runs.{put-copied}
+use Rattle.copying.proofs.Blockwise.{Blockwise}
+use Rattle.selects.specs.Steps.{positionAt, Positions, rowsAt}
 
--- A chosen number is a position: from 0 up, and below n.
-pub chosen-up : (g : ℤ) (l : List ℤ) (n i : ℕ) → Chosen g l n → i < length l → negative (getD l i (pos 0) -ℤ g) ≡ false
+up : (z : ℤ) (n : ℕ) → within z n ≡ true → negative z ≡ false
 unfolding within negative
-chosen-up g l n i h k = up (getD l i (pos 0) -ℤ g) (h i k)
-  where
-    up : (z : ℤ) → within z n ≡ true → negative z ≡ false
-    up (pos m) e = refl
-    up (negsuc m) e = no-way e
+up (pos m) n e = refl
+up (negsuc m) n e = no-way e
 
-pub chosen-found : (g : ℤ) (l : List ℤ) (n i x : ℕ) → Chosen g l n → i < length l → x ≡ chosen g l i → x < n
-chosen-found g l n i x h k e = rw e (within-lt (getD l i (pos 0) -ℤ g) n (h i k))
+-- What `known_position` asks and tells of element i of L, which it reads from a local.
+pub record Known (G : ℤ) (l : List ℤ) (n i x : ℕ) : Type 0 where
+  pub is : x ≡ positionAt G l i
+  pub below : x < n
 
--- Where rows have one element.
-pub one-row : (r : List ℤ) (φ : ℕ → ℕ) (m : ℕ) (out : List ℤ)
-    → filled (λ i. getD r (φ i) (pos 0)) m out ≡ filled (λ i. getD r (inBlock 1 φ i) (pos 0)) (m * 1) out
-one-row r φ m out =
-    rw mul-one
-    (ap (λ x. x ++ drop m out)
-    (tab-ext m _ _ (λ i l. ap (λ x. getD r x (pos 0)) (rw (div-one, mod-one, mul-one, add-zero)))))
+module _ {G : ℤ} {l : List ℤ} {n : ℕ} (h : Positions G l n) (i : ℕ) (k : i < length l) (f : SFits w32 (getD l i (pos 0))) where
+  pub known-asks : negative (toZ w32 (ofZ w32 (getD l i (pos 0))) -ℤ G) ≡ false
+  known-asks = rw (read32 _ f) (up (getD l i (pos 0) -ℤ G) n (h .inside i k))
+
+  pub known-is : {x : ℕ} → x ≡ fromZero G (toZ w32 (ofZ w32 (getD l i (pos 0)))) → Known G l n i x
+  known-is e =
+      let q = e ∙ ap (fromZero G) (read32 _ f) in
+      record { is = q; below = rw q (within-lt (getD l i (pos 0) -ℤ G) n (h .inside i k)) }
+
+-- A row of one element.
+pub one-row : (G : ℤ) (l r : List ℤ) (j : ℕ) → getD r (positionAt G l j) (pos 0) ≡ rowsAt G l 1 r j
+one-row G l r j = rw (div-one, mod-one, mul-one, add-zero)
 
 -- One row more.
-pub row-more : (c : ℕ) (φ : ℕ → ℕ) (q e from to : ℕ) (r out out₀ last : List ℤ)
-    → out ≡ filled (λ i. getD r (inBlock c φ i) (pos 0)) (q * c) out₀ → e ≡ q * c + c → e ≤ length out₀
-    → from ≡ φ q * c → to ≡ from + c → to ≤ length r
-    → last ≡ copied (take (to - from) (drop from r)) (take (e - q * c) (drop (q * c) out))
-    → putMid (q * c) (e - q * c) out last ≡ filled (λ i. getD r (inBlock c φ i) (pos 0)) ((q + 1) * c) out₀
-row-more c φ q e from to r out out₀ last o end room f stop inside run =
-    put-copied _ (q * c) c e out out₀ last o end room r from to (pos 0) stop inside
-    (λ x l. rw (digits-div q l, digits-mod q l, f))
-    run
-    ∙ ap (λ n. filled (λ i. getD r (inBlock c φ i) (pos 0)) n out₀) (let w : q * c + c ≡ (q + 1) * c = omega arith in w)
-
--- One block more, of m rows chosen from the n rows of the source's block.
-pub block-more : (m n c : ℕ) (φ : ℕ → ℕ) (o at from : ℕ) (r out out₀ last part : List ℤ) → ((i : ℕ) → i < m → φ i < n)
-    → out ≡ filled (λ j. getD r (source m n c φ j) (pos 0)) at out₀ → at ≡ o * (m * c) → from ≡ o * (n * c) → length part ≡ m * c
-    → last ≡ filled (λ i. getD (take (from + n * c - from) (drop from r)) (inBlock c φ i) (pos 0)) (m * c) part
-    → putMid at (at + m * c - at) out last ≡ filled (λ j. getD r (source m n c φ j) (pos 0)) ((o + 1) * (m * c)) out₀
-block-more m n c φ o at from r out out₀ last part below f a b long run =
-    put-block (λ i. true) φ n m c r o (λ i h w. below i h) out out₀ last from at f a b (run ∙ filled-whole _ (m * c) part (omega arith))
-    ∙ ap (λ x. filled (λ j. getD r (source m n c φ j) (pos 0)) x out₀) (let w : at + m * c ≡ (o + 1) * (m * c) = omega arith in w)
+module _ (G : ℤ) (l r : List ℤ) (c : ℕ) {out₀ out : List ℤ} {at q : ℕ} (inv : Blockwise (length l) c (rowsAt G l c r) out₀ out at q) where
+  pub row-more : (x : ℕ) (last : List ℤ) → x ≡ positionAt G l q → x * c + c ≤ length r → at + c ≤ length out₀
+      → last ≡ copied (take (x * c + c - x * c) (drop (x * c) r)) (take (at + c - at) (drop at out))
+      → putMid at (at + c - at) out last ≡ filled (rowsAt G l c r) (at + c) out₀
+  row-more x last e inside room run =
+      put-copied (rowsAt G l c r) at c (at + c) out out₀ last (inv .done) refl room r (x * c) (x * c + c) (pos 0) refl inside
+      (λ i h. ap (λ n. rowsAt G l c r (n + i)) (inv .at-is) ∙ rw (digits-div q h, digits-mod q h, e)) run

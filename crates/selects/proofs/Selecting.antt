@@ -1,186 +1,154 @@
--- What 31 gives, as its code finds it.
+-- A call that 31 itself does not refuse, by what its code finds.
 use mathlib.Core.Path.{_≡_, refl, sym, ap, ap₂, _∙_}
 use mathlib.Core.List.{List, _++_}
-use mathlib.Core.Bool.{Bool, true, false, not, cond, _||_}
+use mathlib.Core.Bool.{Bool, true, false, cond}
 use Prim.Native.Nat.{ℕ, _*_, _≤_, _<_}
-use native.Mathlib.Nat.{mul-le-mul-right}
 use native.Mathlib.Omega.{arith}
-use borrow.Author.Tests.{eq-eqb, ne-eqb, le-leb, lt-leb, eqb-true, eqb-false, leb-true}
+use borrow.Author.Tests.{eqb-true}
 use lib.ListN.{length, getD, set, drop}
-use lib.IntN.{ℤ, pos, natAbs, _-ℤ_}
+use lib.IntN.{ℤ, pos, _-ℤ_}
 use Rattle.shape.specs.declared.Shape.{Shape}
-use Rattle.shape.specs.Shape.{maxCount, counted, count, aroundOf, shapeOf, without}
-use Rattle.shape.proofs.Surround.{Parts}
-use Rattle.meaning.specs.Array.{Operand, Array, arrayOf, at, build}
-use Rattle.meaning.specs.Refusal.{number, precedence, meets, winner}
-use Rattle.meaning.specs.Terms.{rank, axis, isScalar, isList, eqZ, within, every, putIn, along}
+use Rattle.shape.specs.declared.Around.{Around}
+use Rattle.shape.specs.Shape.{maxCount, counted, count, countOf, aroundOf, without}
+use Rattle.shape.proofs.Surround.{Parts, parts}
+use Rattle.meaning.specs.Array.{Array, arrayOf, at, build}
+use Rattle.meaning.specs.Terms.{rank, axis, isScalar, isList, within, fromZero, every, putIn, along}
 use Rattle.meaning.specs.Primitives.{select}
-use Rattle.meaning.specs.Reply.{Primitive, primitives, named}
-use Rattle.meaning.proofs.Scalars.{scalar-count}
-use Rattle.meaning.proofs.Positions.{within-lt, within-below}
+use Rattle.meaning.proofs.Arrays.{build-lengths, build-whole}
 use Rattle.meaning.proofs.Every.{every-at}
-use Rattle.meaning.proofs.Without.{removed, count-without}
+use Rattle.meaning.proofs.Positions.{within-lt, within-below}
+use Rattle.meaning.proofs.Scalars.{scalar-count}
+use Rattle.meaning.proofs.Without.{removed}
+use Rattle.copying.specs.Steps.{filled}
 use Rattle.answer.specs.Answer.{lent, own}
-use Rattle.answer.proofs.Order.{Names}
 use Rattle.answer.proofs.Lent.{Lent}
-use Rattle.selects.specs.Chosen.{chosen, Chosen, selectedLengths}
+use Rattle.answer.proofs.Moved.{along-lent}
+use Rattle.selects.specs.Steps.{positionAt, Positions, selectedLengths, Chooses, BlocksFit, blocksAt}
+use Rattle.selects.proofs.Calls.{asked, select-own}
 
-abbrev pub selecting : Primitive
-selecting = record { number = 31; operands = 2; meaning = λ G K L R. select G K L R }
+-- All that a call knows where 31 refuses nothing: k is the axis, and m the count of L's elements.
+pub record Selects (G K : ℤ) (ls : Shape) (l : List ℤ) (rs : Shape) (r : List ℤ) (k m : ℕ) : Type 0 where
+  pub left : Lent ls l
+  pub right : Lent rs r
+  pub has : k < rs .rank
+  pub positions : Positions G (arrayOf (lent ls l) .elements) (getD (counted rs) k 0)
+  pub axis-is : k ≡ fromZero G K
+  pub count-is : m ≡ countOf ls
 
-pub select-names : (G K : ℤ) (L R : Operand) → Names (pos 31) G K L R selecting (select G K (arrayOf L) (arrayOf R))
-unfolding primitives named eqZ select number meets
-select-names G K L R = record {
-  primitive = refl;
-  meaning = refl;
-  own = record { no-number = refl; no-form = refl; no-origin = refl; no-limit = refl; no-space = refl };
-}
+module _ (G K : ℤ) {ls : Shape} {l : List ℤ} {rs : Shape} {r : List ℤ} (gl : Lent ls l) (gr : Lent rs r) where
+  abbrev inside : Bool
+  inside = within (K -ℤ G) (rank (arrayOf (lent rs r)))
 
--- No refusal is met.
-pub record Selects (G K : ℤ) (L R : Array) : Type 0 where
-  pub some : 0 < rank R
-  pub list : rank L ≤ 1
-  pub on-axis : within (K -ℤ G) (rank R) ≡ true
-  pub positions : every (λ z. within (z -ℤ G) (axis R (natAbs (K -ℤ G)))) (L .elements) ≡ true
+  abbrev all : Bool
+  all = every (λ z. within (z -ℤ G) (axis (arrayOf (lent rs r)) (fromZero G K))) (arrayOf (lent ls l) .elements)
 
-module _ (G K : ℤ) (L R : Array) where
-  pub select-scalar : rank R ≡ 0 → own 31 (select G K L R .refusals) ≡ 4
-  unfolding select precedence winner meets number
-  select-scalar h = rw (eq-eqb (rank R) 0 h)
-
-  module _ (some : 0 < rank R) where
-    pub select-rank : 1 < rank L → own 31 (select G K L R .refusals) ≡ 4
-    unfolding select precedence winner meets number
-    select-rank h = rw (ne-eqb (rank R) 0 (λ e. omega arith), lt-leb (rank L) 1 h)
-
-    module _ (list : rank L ≤ 1) where
-      pub select-axis : within (K -ℤ G) (rank R) ≡ false → own 31 (select G K L R .refusals) ≡ 5
-      unfolding select precedence winner meets number
-      select-axis h = rw (ne-eqb (rank R) 0 (λ e. omega arith), le-leb (rank L) 1 list, h)
-
-      module _ (on-axis : within (K -ℤ G) (rank R) ≡ true) where
-        pub select-index : every (λ z. within (z -ℤ G) (axis R (natAbs (K -ℤ G)))) (L .elements) ≡ false → own 31 (select G K L R .refusals) ≡ 8
-        unfolding select precedence winner meets number
-        select-index h = rw (ne-eqb (rank R) 0 (λ e. omega arith), le-leb (rank L) 1 list, on-axis, h)
-
-        pub select-none : every (λ z. within (z -ℤ G) (axis R (natAbs (K -ℤ G)))) (L .elements) ≡ true → own 31 (select G K L R .refusals) ≡ 0
-        unfolding select precedence winner meets number
-        select-none h = rw (ne-eqb (rank R) 0 (λ e. omega arith), le-leb (rank L) 1 list, on-axis, h)
-
-  pub select-fits : own 31 (select G K L R .refusals) ≡ 0 → Selects G K L R
-  unfolding select precedence winner meets number
-  select-fits =
-      by (isScalar R) (isList L) (within (K -ℤ G) (rank R)) (every (λ z. within (z -ℤ G) (axis R (natAbs (K -ℤ G)))) (L .elements)) refl refl refl refl
+  pub selects : {k m : ℕ} → k ≡ fromZero G K → m ≡ countOf ls → own 31 (select G K (arrayOf (lent ls l)) (arrayOf (lent rs r)) .refusals) ≡ 0
+      → Selects G K ls l rs r k m
+  selects {k} {m} e q z = by (isScalar (arrayOf (lent rs r))) (isList (arrayOf (lent ls l))) _ refl _ refl (sym (select-own G K (lent ls l) (lent rs r)) ∙ z)
     where
-      by : (a b c d : Bool) → isScalar R ≡ a → isList L ≡ b → within (K -ℤ G) (rank R) ≡ c
-          → every (λ z. within (z -ℤ G) (axis R (natAbs (K -ℤ G)))) (L .elements) ≡ d
-          → _≡_ {A = ℕ} (cond (a || (not b || false)) 4 (cond (not c || false) 5 (cond (not d || false) 8 0))) 0
-          → Selects G K L R
-      by true b c d p q r s e = absurd (omega arith)
-      by false false c d p q r s e = absurd (omega arith)
-      by false true false d p q r s e = absurd (omega arith)
-      by false true true false p q r s e = absurd (omega arith)
-      by false true true true p q r s e =
-          let n = eqb-false (rank R) 0 p in
-          record { some = omega arith; list = leb-true (rank L) 1 q; on-axis = r; positions = s }
+      by : (s t i : Bool) → inside ≡ i → (a : Bool) → all ≡ a → asked s t i a ≡ 0 → Selects G K ls l rs r k m
+      by true t i u a v w = absurd (omega arith)
+      by false false i u a v w = absurd (omega arith)
+      by false true false u a v w = absurd (omega arith)
+      by false true true u false v w = absurd (omega arith)
+      by false true true u true v w = record {
+        left = gl;
+        right = gr;
+        has = within-below (K -ℤ G) _ (rs .rank) k (gr .rank-is) e u;
+        positions = record {
+          inside = λ i h.
+              ap (λ n. within (getD (arrayOf (lent ls l) .elements) i (pos 0) -ℤ G) (getD (counted rs) n 0)) e ∙ every-at _ _ (pos 0) v i h;
+        };
+        axis-is = e;
+        count-is = q;
+      }
 
-module _ (G K : ℤ) (L R : Array) where
-  pub select-lengths : select G K L R .lengths ≡ selectedLengths (rank L) (length (L .elements)) (natAbs (K -ℤ G)) (R .lengths)
-  unfolding select
-  select-lengths = refl
-
-  module _ (m : ℕ) (l : natAbs (K -ℤ G) < rank R) (e : length (L .elements) ≡ m) (one : rank L ≡ 0 → m ≡ 1) where
-    abbrev k : ℕ
-    k = natAbs (K -ℤ G)
-
-    abbrev φ : ℕ → ℕ
-    φ = chosen G (L .elements)
-
-    -- A scalar L is a vector of one that leaves no axis behind.
-    pub select-elements : build (select G K L R .lengths) (select G K L R .element) .elements ≡ build (set (R .lengths) k m) (along R k φ) .elements
-    unfolding select
-    select-elements = ap (λ n. build (cond (isScalar L) (without k (R .lengths)) (set (R .lengths) k n)) (cond (isScalar L) (λ p. at R (putIn k (φ 0) p)) (along R k φ)) .elements) e ∙ by (isScalar L) refl
-      where
-        by : (b : Bool) → isScalar L ≡ b
-            → build (cond b (without k (R .lengths)) (set (R .lengths) k m)) (cond b (λ p. at R (putIn k (φ 0) p)) (along R k φ)) .elements ≡ build (set (R .lengths) k m) (along R k φ) .elements
-        by true q = removed R k φ l ∙ ap (λ n. build (set (R .lengths) k n) (along R k φ) .elements) (sym (one (eqb-true (rank L) 0 q)))
-        by false q = refl
-
-    pub select-count : count (select G K L R .lengths) ≡ count (set (R .lengths) k m)
-    unfolding select
-    select-count = ap (λ n. count (cond (isScalar L) (without k (R .lengths)) (set (R .lengths) k n))) e ∙ by (isScalar L) refl
-      where
-        by : (b : Bool) → isScalar L ≡ b → count (cond b (without k (R .lengths)) (set (R .lengths) k m)) ≡ count (set (R .lengths) k m)
-        by true q = count-without (R .lengths) k l ∙ ap (λ n. count (set (R .lengths) k n)) (sym (one (eqb-true (rank L) 0 q)))
-        by false q = refl
-
--- What the blocks are, beside R's elements and beside the result's.
-pub record Blocks (s : Shape) (b : List ℤ) (k m total : ℕ) : Type 0 where
-  pub taken-small : aroundOf s k .length * aroundOf s k .inner ≤ maxCount
-  pub made-small : m * aroundOf s k .inner ≤ maxCount
-  pub taken : aroundOf s k .outer * (aroundOf s k .length * aroundOf s k .inner) ≤ length b
-  pub made : aroundOf s k .outer * (m * aroundOf s k .inner) ≡ total
-
-pub blocks : (s : Shape) (b : List ℤ) (k m total : ℕ) → Lent s b → k < s .rank → total ≤ maxCount → Parts s k m total → Blocks s b k m total
-blocks s b k m total g l small p =
-    let o : ℕ = aroundOf s k .outer in
-    let n : ℕ = aroundOf s k .length in
-    let c : ℕ = aroundOf s k .inner in
-    let q = mul-le-mul-right {m = 1} {n = o} (n * c) (omega (arith, p .outer-some)) in
-    let r = mul-le-mul-right {m = 1} {n = o} (m * c) (omega (arith, p .outer-some)) in
-    record {
-      taken-small = omega (arith, g .count-small, p .source);
-      made-small = omega (arith, p .whole);
-      taken = omega (arith, g .room, p .source);
-      made = omega (arith, p .whole);
-    }
-
--- A call that is not refused by 31 itself: a is the axis, m the count of L's elements, as the code finds them.
-module _ (G K : ℤ) (ls rs : Shape) (l r : List ℤ) (gl : Lent ls l) (gr : Lent rs r) (fits : Selects G K (arrayOf (lent ls l)) (arrayOf (lent rs r)))
-    (a m : ℕ) (ea : a ≡ natAbs (K -ℤ G)) (em : m ≡ count (counted ls)) where
+module _ {G K : ℤ} {ls : Shape} {l : List ℤ} {rs : Shape} {r : List ℤ} {k m : ℕ} (c : Selects G K ls l rs r k m) where
   abbrev L : Array
   L = arrayOf (lent ls l)
 
   abbrev R : Array
   R = arrayOf (lent rs r)
 
-  axis-below : natAbs (K -ℤ G) < rank R
-  axis-below = within-lt (K -ℤ G) (rank R) (fits .on-axis)
+  abbrev φ : ℕ → ℕ
+  φ = positionAt G (arrayOf (lent ls l) .elements)
 
-  pub axis-in : a < rs .rank
-  axis-in = within-below (K -ℤ G) (rank R) (rs .rank) a (gr .rank-is) ea (fits .on-axis)
+  many : length (L .elements) ≡ m
+  many = c .left .whole ∙ sym (c .left .count-is) ∙ sym (c .count-is)
 
-  elements-is : length (L .elements) ≡ m
-  elements-is = gl .whole ∙ sym em
+  pub lengths-are : selectedLengths (ls .rank) m k (counted rs) ≡ select G K L R .lengths
+  unfolding select
+  lengths-are =
+      ap₂ (λ x n. selectedLengths x n k (counted rs)) (sym (c .left .rank-is)) (sym many)
+      ∙ ap (λ k. selectedLengths (rank L) (length (L .elements)) k (counted rs)) (c .axis-is)
 
-  one : rank L ≡ 0 → m ≡ 1
-  one h = em ∙ scalar-count (counted ls) h
+  -- A scalar L is a vector of one that leaves no axis behind.
+  moved : build (select G K L R .lengths) (select G K L R .element) .elements ≡ build (set (counted rs) k (length (L .elements))) (along R k φ) .elements
+  unfolding select
+  moved =
+      ap (λ k. build (selectedLengths (rank L) (length (L .elements)) k (counted rs)) (cond (isScalar L) (λ p. at R (putIn k (φ 0) p)) (along R k φ)) .elements)
+      (sym (c .axis-is))
+      ∙ by (isScalar L) refl
+    where
+      by : (b : Bool) → isScalar L ≡ b
+          → build (cond b (without k (counted rs)) (set (counted rs) k (length (L .elements)))) (cond b (λ p. at R (putIn k (φ 0) p)) (along R k φ)) .elements
+          ≡ build (set (counted rs) k (length (L .elements))) (along R k φ) .elements
+      by true q =
+          let one : length (L .elements) ≡ 1 = c .left .whole ∙ scalar-count (counted ls) (eqb-true (rank L) 0 q) in
+          removed R k φ (omega (arith, c .has, c .right .rank-is)) ∙ ap (λ n. build (set (counted rs) k n) (along R k φ) .elements) (sym one)
+      by false q = refl
 
-  pub shape-is : shapeOf (selectedLengths (ls .rank) m a (counted rs)) ≡ shapeOf (select G K L R .lengths)
-  shape-is =
-      ap₂ (λ x y. shapeOf (selectedLengths x m y (counted rs))) (sym (gl .rank-is)) ea
-      ∙ ap (λ n. shapeOf (selectedLengths (rank L) n (natAbs (K -ℤ G)) (counted rs))) (sym elements-is)
-      ∙ ap shapeOf (sym (select-lengths G K L R))
+  count-moved : count (select G K L R .lengths) ≡ count (set (counted rs) k (length (L .elements)))
+  count-moved =
+      sym (whole (select G K L R .lengths) (select G K L R .element)) ∙ ap length moved ∙ whole (set (counted rs) k (length (L .elements))) (along R k φ)
+    where
+      whole : (ns : List ℕ) (f : List ℕ → ℤ) → length (build ns f .elements) ≡ count ns
+      whole ns f = build-whole ns f ∙ ap count (build-lengths ns f)
 
-  module _ (xs : List ℤ) (ex : xs ≡ L .elements) where
-    long : length xs ≡ m
-    long = ap length ex ∙ elements-is
+  -- L's elements as a part of its buffer, and the result's count as the program finds it.
+  module _ {xs : List ℤ} (e : xs ≡ arrayOf (lent ls l) .elements) {total : ℕ}
+      (t : total ≡ count (select G K (arrayOf (lent ls l)) (arrayOf (lent rs r)) .lengths)) where
+    pub chooses : {room : ℕ} → total ≤ maxCount → total ≤ room → Chooses G xs k total rs r room
+    chooses small space = rw e (record {
+      form = c .right .form;
+      has = c .has;
+      positions = c .positions;
+      count-is = t ∙ count-moved;
+      small = small;
+      space = space;
+    })
 
-    pub total-is : count (select G K L R .lengths) ≡ count (set (counted rs) a (length xs))
-    total-is = select-count G K L R m axis-below elements-is one ∙ ap₂ (λ x y. count (set (counted rs) x y)) (sym ea) (sym long)
+    pub select-out : (out : List ℤ)
+        → build (set (counted rs) k (length xs)) (along R k (positionAt G xs)) .elements ++ drop total out
+        ≡ build (select G K L R .lengths) (select G K L R .element) .elements ++ drop (count (select G K L R .lengths)) out
+    select-out out =
+        ap₂ (λ ys n. build (set (counted rs) k (length ys)) (along R k (positionAt G ys)) .elements ++ drop n out) e t
+        ∙ ap (λ x. x ++ drop (count (select G K L R .lengths)) out) (sym moved)
 
-    pub all-chosen : Chosen G xs (getD (counted rs) a 0)
-    all-chosen i h =
-        ap₂ (λ ys n. within (getD ys i (pos 0) -ℤ G) (getD (counted rs) n 0)) ex ea
-        ∙ every-at (λ z. within (z -ℤ G) (axis R (natAbs (K -ℤ G)))) (L .elements) (pos 0) (fits .positions) i (rw (ap length ex) at h)
+-- The blocks of a result that has elements, by what the program finds around the axis.
+module _ {G : ℤ} {l : List ℤ} {k total : ℕ} {rs : Shape} {r : List ℤ} {room : ℕ} (c : Chooses G l k total rs r room) (g : Lent rs r) (n : total ≡ 0 → ⊥) where
+  around : Parts rs k (length l) total
+  around = parts rs k (length l) total (g .high) (g .long) (c .has) (sym (c .count-is)) (omega arith) (c .small)
 
-    pub select-out : (total : ℕ) (out last : List ℤ) → total ≡ count (select G K L R .lengths)
-        → last ≡ build (set (counted rs) a (length xs)) (along R a (chosen G xs)) .elements ++ drop total out
-        → last ≡ build (select G K L R .lengths) (select G K L R .element) .elements ++ drop (count (select G K L R .lengths)) out
-    select-out total out last e q =
-        q
-        ∙ ap₂ (λ x y. x ++ drop y out)
-        (ap₂ (λ x ys. build (set (counted rs) x (length xs)) (along R x (chosen G ys)) .elements) ea ex
-        ∙ ap (λ n. build (set (counted rs) (natAbs (K -ℤ G)) n) (along R (natAbs (K -ℤ G)) (chosen G (L .elements))) .elements) long
-        ∙ sym (select-elements G K L R m axis-below elements-is one))
-        e
+  positions-here : Positions G l (aroundOf rs k .length)
+  positions-here = rw (around .length-is) (c .positions)
+
+  module _ {w : Around} (e : w ≡ aroundOf rs k) where
+    pub into-fits : BlocksFit G l (w .length) (w .inner) (w .outer) (length r) room
+    into-fits = rw e (record {
+      positions = positions-here;
+      some = around .outer-some;
+      source = omega (arith, g .room, around .source);
+      space = omega (arith, around .whole, c .space);
+    })
+
+    pub into-out : (out : List ℤ)
+        → filled (blocksAt G l (w .length) (w .inner) r) (w .outer * (length l * w .inner)) out
+        ≡ build (set (counted rs) k (length l)) (along (arrayOf (lent rs r)) k (positionAt G l)) .elements ++ drop total out
+    into-out out =
+        let a = aroundOf rs k in
+        let here : a .outer * (length l * a .inner) ≡ total = omega (arith, around .whole) in
+        rw e
+        (ap (λ n. filled (blocksAt G l (a .length) (a .inner) r) n out) here
+        ∙ ap (λ x. x ++ drop total out)
+        (sym (along-lent rs r k (length l) total (positionAt G l) g (c .has) around (λ i h. within-lt _ _ (positions-here .inside i h)))))

@@ -3,19 +3,20 @@ ghost use mathlib.Core.Path.{_≡_};
 ghost use mathlib.Core.List.{List, _++_};
 ghost use mathlib.Core.Bool.{true, false};
 ghost use Prim.Native.Nat.{_*_, _≤_, _<_};
-ghost use lib.ListN.{length, getD, set, drop};
-ghost use lib.IntN.{ℤ, pos, natAbs, _-ℤ_};
-ghost use Rattle.shape.specs.Shape.{maxCount, maxRank, counted, count, goodShape, shapeOf};
+ghost use lib.ListN.{length, set, drop};
+ghost use lib.IntN.{ℤ, pos, _-ℤ_};
+ghost use Rattle.shape.specs.Shape.{maxRank, counted, goodShape, shapeOf};
 ghost use Rattle.meaning.specs.Array.{arrayOf, goodForm, build};
-ghost use Rattle.meaning.specs.Terms.{negative, within, every, along};
+ghost use Rattle.meaning.specs.Terms.{negative, within, fromZero, every, along};
 ghost use Rattle.meaning.specs.Primitives.{select};
 ghost use Rattle.meaning.specs.Reply.{reply};
-ghost use Rattle.copying.proofs.Runs.{filled};
-ghost use Rattle.copying.proofs.Blocks.{source};
+ghost use Rattle.copying.specs.Steps.{filled};
 ghost use Rattle.answer.specs.Answer.{lent, own, Replied};
-ghost use Rattle.selects.specs.Chosen.{chosen, Chosen, selectedLengths, inBlock};
+ghost use Rattle.selects.specs.Steps.{positionAt, Chooses, selectedLengths, BlocksFit, RowsFit, blocksAt, rowsAt};
 use answer::Answer;
+use answer::refusal;
 use shape::Shape;
+use signed::Found;
 
 // 31. A vector L replaces the axis, a scalar L removes it.
 pub fn select(g: i32, k: i32, ls: Shape, l: &[i32], rs: Shape, r: &[i32], out: &mut [i32]) -> Answer
@@ -30,18 +31,16 @@ pub fn select(g: i32, k: i32, ls: Shape, l: &[i32], rs: Shape, r: &[i32], out: &
     if own != 0 {
         return Answer::refused(own);
     }
-    let axis = signed::position(k, g, rs.rank);
+    let axis = signed::from_zero(k, g);
     let m = ls.count();
     let shape = selected(ls.rank, m, rs, axis);
     let count = shape.count();
-    if Shape::MAX_COUNT < count {
-        return Answer::refused(9);
-    }
-    if out.len() < count {
-        return Answer::refused(10);
+    let late = answer::late(count, out.len());
+    if late != 0 {
+        return Answer::refused(late);
     }
     select_into(g, &l[0..m], axis, count, rs, r, out);
-    Answer { number: 0, shape }
+    Answer::given(shape)
 }
 
 // RANK, AXIS and INDEX. No element of R is looked at.
@@ -49,20 +48,22 @@ fn select_refusal(g: i32, k: i32, ls: Shape, l: &[i32], rs: Shape) -> usize
     requires { ⌜ (goodForm (lent ls (now l)) ≡ true) × (goodShape rs ≡ true) ⌝ }
     ensures { λ n. ⌜ ((b : List ℤ) → n ≡ own 31 (select g k (arrayOf (lent ls (now (l .entry)))) (arrayOf (lent rs b)) .refusals)) ⌝ }
 {
-    let rank = rs.rank;
-    if rank == 0 {
-        return 4;
+    if rs.rank == 0 {
+        return refusal::RANK;
     }
     if 1 < ls.rank {
-        return 4;
+        return refusal::RANK;
     }
-    let axis = signed::position(k, g, rank);
-    if rank <= axis {
-        return 5;
-    }
+    let Found::At(axis) = signed::position(k, g, rs.rank) else {
+        return refusal::AXIS;
+    };
     let n = rs.lens[axis];
     let m = ls.count();
-    if all_within(g, &l[0..m], n) { 0 } else { 8 }
+    if all_within(g, &l[0..m], n) {
+        0
+    } else {
+        refusal::INDEX
+    }
 }
 
 // Whether each number less g is a position of an axis of length n.
@@ -71,41 +72,38 @@ fn all_within(g: i32, l: &[i32], n: usize) -> bool
 {
     let mut i = 0;
     while i < l.len() {
-        if n <= signed::position(l[i], g, n) {
+        let Found::At(_) = signed::position(l[i], g, n) else {
             return false;
-        }
+        };
         i += 1;
     }
     true
 }
 
 // The result's shape, by L's rank and the count of its elements.
-fn selected(left: usize, m: usize, rs: Shape, k: usize) -> Shape
-    requires { ⌜ (rs .rank ≤ maxRank) × (k < rs .rank) ⌝ }
-    ensures { λ s. ⌜ s ≡ shapeOf (selectedLengths left m k (counted rs)) ⌝ }
+fn selected(left: usize, m: usize, rs: Shape, axis: usize) -> Shape
+    requires { ⌜ (rs .rank ≤ maxRank) × (axis < rs .rank) ⌝ }
+    ensures { λ s. ⌜ s ≡ shapeOf (selectedLengths left m axis (counted rs)) ⌝ }
 {
     if left == 0 {
-        rs.without_axis(k)
+        rs.without_axis(axis)
     } else {
-        rs.with_length(k, m)
+        rs.with_length(axis, m)
     }
 }
 
 // The result's elements, `total` in number.
-fn select_into(g: i32, l: &[i32], k: usize, total: usize, rs: Shape, r: &[i32], out: &mut [i32])
-    requires { ⌜ (goodForm (lent rs (now r)) ≡ true)
-        × ((k < rs .rank)
-        × (Chosen g (now l) (getD (counted rs) k 0)
-        × ((total ≡ count (set (counted rs) k (length (now l)))) × ((total ≤ maxCount) × (total ≤ length (now out)))))) ⌝ }
+fn select_into(g: i32, l: &[i32], axis: usize, total: usize, rs: Shape, r: &[i32], out: &mut [i32])
+    requires { ⌜ Chooses g (now l) axis total rs (now r) (length (now out)) ⌝ }
     ensures { λ _.
         ⌜ now (out .exit)
-        ≡ build (set (counted rs) k (length (now (l .entry)))) (along (arrayOf (lent rs (now (r .entry)))) k (chosen g (now (l .entry)))) .elements
+        ≡ build (set (counted rs) axis (length (now (l .entry)))) (along (arrayOf (lent rs (now (r .entry)))) axis (positionAt g (now (l .entry)))) .elements
         ++ drop total (now (out .entry)) ⌝ }
 {
     if total == 0 {
         return;
     }
-    let a = rs.around(k);
+    let a = rs.around(axis);
     select_blocks(g, l, a.length, a.inner, a.outer, r, out);
 }
 
@@ -119,37 +117,28 @@ fn select_blocks(
     r: &[i32],
     out: &mut [i32],
 )
-    requires { ⌜ Chosen g (now l) n
-        × ((outer ≤ maxCount)
-        × ((n * inner ≤ maxCount)
-        × ((length (now l) * inner ≤ maxCount) × ((outer * (n * inner) ≤ length (now r)) × (outer * (length (now l) * inner) ≤ length (now out)))))) ⌝ }
+    requires { ⌜ BlocksFit g (now l) n inner outer (length (now r)) (length (now out)) ⌝ }
     ensures { λ _.
-        ⌜ now (out .exit)
-        ≡ filled (λ j. getD (now (r .entry)) (source (length (now (l .entry))) n inner (chosen g (now (l .entry))) j) (pos 0))
-        (outer * (length (now (l .entry)) * inner))
-        (now (out .entry)) ⌝ }
+        ⌜ now (out .exit) ≡ filled (blocksAt g (now (l .entry)) n inner (now (r .entry))) (outer * (length (now (l .entry)) * inner)) (now (out .entry)) ⌝ }
 {
     let taken = n * inner;
     let made = l.len() * inner;
+    let mut at = 0;
     let mut o = 0;
     while o < outer {
         let from = o * taken;
         let to = from + taken;
-        let at = o * made;
         let end = at + made;
         select_block(g, l, n, inner, &r[from..to], &mut out[at..end]);
+        at = end;
         o += 1;
     }
 }
 
 // Where a row is one element, one loop over the line.
 fn select_block(g: i32, l: &[i32], n: usize, inner: usize, r: &[i32], out: &mut [i32])
-    requires { ⌜ Chosen g (now l) n
-        × ((n * inner ≤ maxCount)
-        × ((length (now l) * inner ≤ maxCount) × ((n * inner ≤ length (now r)) × (length (now l) * inner ≤ length (now out))))) ⌝ }
-    ensures { λ _.
-        ⌜ now (out .exit)
-        ≡ filled (λ i. getD (now (r .entry)) (inBlock inner (chosen g (now (l .entry))) i) (pos 0)) (length (now (l .entry)) * inner) (now (out .entry)) ⌝ }
+    requires { ⌜ RowsFit g (now l) n inner (length (now r)) (length (now out)) ⌝ }
+    ensures { λ _. ⌜ now (out .exit) ≡ filled (rowsAt g (now (l .entry)) inner (now (r .entry))) (length (now (l .entry)) * inner) (now (out .entry)) ⌝ }
 {
     if inner == 1 {
         select_line(g, l, n, r, out);
@@ -160,21 +149,21 @@ fn select_block(g: i32, l: &[i32], n: usize, inner: usize, r: &[i32], out: &mut 
 
 // Only the contract speaks of n.
 fn select_line(g: i32, l: &[i32], n: usize, r: &[i32], out: &mut [i32])
-    requires { ⌜ Chosen g (now l) n × ((n ≤ length (now r)) × (length (now l) ≤ length (now out))) ⌝ }
-    ensures { λ _. ⌜ now (out .exit) ≡ filled (λ i. getD (now (r .entry)) (chosen g (now (l .entry)) i) (pos 0)) (length (now (l .entry))) (now (out .entry)) ⌝ }
+    requires { ⌜ RowsFit g (now l) n 1 (length (now r)) (length (now out)) ⌝ }
+    ensures { λ _. ⌜ now (out .exit) ≡ filled (rowsAt g (now (l .entry)) 1 (now (r .entry))) (length (now (l .entry))) (now (out .entry)) ⌝ }
 {
     let mut i = 0;
     while i < l.len() {
-        let x = chosen_at(l[i], g);
+        let x = known_position(l[i], g);
         out[i] = r[x];
         i += 1;
     }
 }
 
 // z less g where that is known to be a position, so that nothing is tested for each element.
-fn chosen_at(z: i32, g: i32) -> usize
+fn known_position(z: i32, g: i32) -> usize
     requires { ⌜ negative (z -ℤ g) ≡ false ⌝ }
-    ensures { λ x. ⌜ x ≡ natAbs (z -ℤ g) ⌝ }
+    ensures { λ x. ⌜ x ≡ fromZero g z ⌝ }
 {
     let d = z as i64 - g as i64;
     d as usize
@@ -182,16 +171,12 @@ fn chosen_at(z: i32, g: i32) -> usize
 
 // Each row is a run from the middle of R. Only the contract speaks of n.
 fn select_rows(g: i32, l: &[i32], n: usize, inner: usize, r: &[i32], out: &mut [i32])
-    requires { ⌜ Chosen g (now l) n
-        × ((n * inner ≤ maxCount)
-        × ((length (now l) * inner ≤ maxCount) × ((n * inner ≤ length (now r)) × (length (now l) * inner ≤ length (now out))))) ⌝ }
-    ensures { λ _.
-        ⌜ now (out .exit)
-        ≡ filled (λ i. getD (now (r .entry)) (inBlock inner (chosen g (now (l .entry))) i) (pos 0)) (length (now (l .entry)) * inner) (now (out .entry)) ⌝ }
+    requires { ⌜ RowsFit g (now l) n inner (length (now r)) (length (now out)) ⌝ }
+    ensures { λ _. ⌜ now (out .exit) ≡ filled (rowsAt g (now (l .entry)) inner (now (r .entry))) (length (now (l .entry)) * inner) (now (out .entry)) ⌝ }
 {
     let mut q = 0;
     while q < l.len() {
-        let x = chosen_at(l[q], g);
+        let x = known_position(l[q], g);
         let from = x * inner;
         let to = from + inner;
         let at = q * inner;

@@ -1,162 +1,120 @@
-use borrow.Author.Needs.{needs}
-use native.Mathlib.Omega.{arith}
-use mathlib.Core.Path.{_≡_, refl, sym, ap, ap₂, _∙_}
+use mathlib.Core.Path.{_≡_, refl, sym, _∙_}
 use mathlib.Core.List.{List, []}
-use mathlib.Core.Bool.{true}
+use mathlib.Core.Bool.{true, not, cond, _&&_}
+use mathlib.Core.Logic.{⊎-elim}
 use lib.ListN.{length}
-use lib.Seq.{length-take-le}
-use lib.IntN.{ℤ, natAbs, _-ℤ_}
-use Rattle.signed.proofs.Reading.{read-position}
+use lib.IntN.{ℤ}
+use borrow.Author.Needs.{needs}
+use borrow.Author.Tests.{not-true, not-false}
 use Rattle.shape.specs.declared.Shape.{Shape}
-use Rattle.shape.specs.Shape.{maxRank, goodShape}
-use Rattle.shape.proofs.Counts.{good-rank}
+use Rattle.shape.specs.Shape.{maxRank, counted}
+use Rattle.signed.proofs.Finding.{foundOf, read-found, IsAt, found-at, found-none}
 use Rattle.meaning.specs.Array.{Array, arrayOf}
-use Rattle.meaning.specs.Terms.{rank, within}
-use Rattle.meaning.specs.Primitives.{higher, ranksFit}
-use Rattle.meaning.proofs.Positions.{positionOf, position-lt, position-none}
-use Rattle.meaning.proofs.Sides.{Beside, beside-as, ranks-beside, fit}
-use Rattle.answer.specs.Answer.{lent}
-use Rattle.joins.proofs.Heights.{ranks-fit-is, High, high-is}
-use Rattle.joins.proofs.Joining.{agree, catenate-rank, catenate-axis, catenate-left, catenate-right, catenate-none}
+use Rattle.meaning.specs.Refusal.{number}
+use Rattle.meaning.specs.Refusal.Refusal.{LENGTH}
+use Rattle.meaning.specs.Primitives.{catenate}
+use Rattle.meaning.specs.Steps.{Beside, fit}
+use Rattle.answer.specs.Answer.{lent, own}
+use Rattle.joins.specs.Steps.{higherShape, Compared, agree}
+use Rattle.joins.proofs.Heights.{Good, low, High, higher-is, besides, catenate-own, catenate-rest}
 use Rattle.joins.proofs.catenate_refusal.Statement.{statement}
 use Rattle.joins.proofs.catenate_refusal.Tie as tie
 
--- The operands, and what is known of their ranks.
+-- The operands, and the higher shape.
 abbrev left : tie.Start → List ℤ → Array
 left st x = arrayOf (lent (st .args .ls) x)
 
 abbrev right : tie.Start → List ℤ → Array
 right st y = arrayOf (lent (st .args .rs) y)
 
-ranked : (s : Shape) (x : List ℤ) → goodShape s ≡ true → length (s .lens) ≡ maxRank → rank (arrayOf (lent s x)) ≡ s .rank
-ranked s x g long = length-take-le (s .rank) (s .lens) (omega (arith, good-rank s g))
+known : (st : tie.Start) (hs : Shape) → hs ≡ higherShape (st .args .ls) (st .args .rs) → High (st .args .ls) (st .args .rs) hs
+known st hs e =
+    let l : length (st .args .ls .lens) ≡ maxRank = search needs in
+    let r : length (st .args .rs .lens) ≡ maxRank = search needs in
+    record { left = record { good = st .pre .0; long = l }; right = record { good = st .pre .1; long = r }; is = e }
 
-left-ranked : (st : tie.Start) (x : List ℤ) → rank (left st x) ≡ st .args .ls .rank
-left-ranked st x = ranked (st .args .ls) x (st .pre .0) (let long : length (st .args .ls .lens) ≡ maxRank = search needs in long)
+abbrev fitting : tie.After-position → tie.Else1
+fitting c = c .before .before
 
-right-ranked : (st : tie.Start) (y : List ℤ) → rank (right st y) ≡ st .args .rs .rank
-right-ranked st y = ranked (st .args .rs) y (st .pre .1) (let long : length (st .args .rs .lens) ≡ maxRank = search needs in long)
+abbrev start : tie.After-position → tie.Start
+start c = fitting c .before .before
 
-tested : (c : tie.After-ranks-fit) (x y : List ℤ) → ranksFit (left (c .before) x) (right (c .before) y) ≡ c .ranks-fit .result
-tested c x y =
-    let st = c .before in
-    ranks-fit-is (left st x) (right st y) ∙ ap₂ fit (left-ranked st x) (right-ranked st y) ∙ sym (c .ranks-fit .ensures)
+abbrev hs : tie.After-position → Shape
+hs c = c .before .higher .result
 
--- The higher shape.
-known : (c : tie.After-higher) (x y : List ℤ) → let st = c .before .before .before in High (c .higher .result) (left st x) (right st y)
-known c x y =
-    let st = c .before .before .before in
-    high-is (st .args .ls) (st .args .rs) x y (good-rank (st .args .ls) (st .pre .0)) (good-rank (st .args .rs) (st .pre .1)) (left-ranked st x) (right-ranked st y) (c .higher .result) (c .higher .ensures)
+high : (c : tie.After-position) → High (start c .args .ls) (start c .args .rs) (hs c)
+high c = known (start c) (hs c) (c .before .higher .ensures)
 
-besides : (c : tie.After-higher)
-    → let st = c .before .before .before in
-    Beside (st .args .ls .rank) (c .higher .result .rank) × Beside (st .args .rs .rank) (c .higher .result .rank)
-besides c =
-    let st = c .before .before .before in
-    let n = known c [] [] in
-    let b = ranks-beside (left st []) (right st []) (tested (c .before .before) [] [] ∙ c .before .if1 .taken) in
-    (beside-as (b .0) (left-ranked st []) (n .rank-is), beside-as (b .1) (right-ranked st []) (n .rank-is))
+-- The axis that K names.
+found : (c : tie.After-position) → c .position .result ≡ foundOf (start c .args .k) (start c .args .g) (hs c .rank)
+found c = c .position .ensures ∙ read-found _ _ (start c .fits .k) (start c .fits .g) _
 
--- The axis.
-found : (c : tie.After-position) → let st = c .before .before .before .before in c .position .result ≡ positionOf (st .args .k -ℤ st .args .g) (c .before .higher .result .rank)
-found c =
-    let st = c .before .before .before .before in
-    c .position .ensures ∙ read-position (c .before .higher .result .rank) _ _ (st .fits .k) (st .fits .g)
+abbrev searched : tie.After-known-told → tie.After-position
+searched c = c .before .before .before
 
-on-axis : (c : tie.Else2)
-    → let p = c .before .before in
-    let st = p .before .before .before .before in
-    (within (st .args .k -ℤ st .args .g) (p .before .higher .result .rank) ≡ true) × (p .position .result ≡ natAbs (st .args .k -ℤ st .args .g))
-on-axis c =
-    let p = c .before .before in
-    let st = p .before .before .before .before in
-    position-lt (st .args .k -ℤ st .args .g) _ (p .before .higher .result .rank) _ refl (found p) (c .if2 .left)
+axis-is : (c : tie.After-known-told) → IsAt (start (searched c) .args .k) (start (searched c) .args .g) (hs (searched c) .rank) (c .before .axis .given .0 .0)
+axis-is c = found-at _ _ _ _ (sym (c .before .axis .given .1) ∙ found (searched c))
 
--- The other lengths.
-left-agrees : (c : tie.After-agrees) (x y : List ℤ)
-    → let st = c .before .before .before .before .before .before .before in
-    c .agrees .result ≡ agree (higher (left st x) (right st y)) (natAbs (st .args .k -ℤ st .args .g)) (left st x)
-left-agrees c x y =
-    let p = c .before .before .before in
-    let st = p .before .before .before .before in
-    c .agrees .ensures x ∙ ap₂ (λ ns i. agree ns i (left st x)) (known (p .before) x y .counts) (on-axis (c .before) .1)
+-- Ranks that fit.
+fits : (c : tie.After-position) → fit (start c .args .ls .rank) (start c .args .rs .rank) ≡ true
+fits c = let t = fitting c in sym (t .before .ranks-fit .ensures) ∙ not-false _ (t .if1 .left)
 
-right-agrees : (c : tie.After-agrees2) (x y : List ℤ)
-    → let st = c .before .before .before .before .before .before .before .before .before in
-    c .agrees2 .result ≡ agree (higher (left st x) (right st y)) (natAbs (st .args .k -ℤ st .args .g)) (right st y)
-right-agrees c x y =
-    let e = c .before .before .before in
-    let p = e .before .before in
-    let st = p .before .before .before .before in
-    c .agrees2 .ensures y ∙ ap₂ (λ ns i. agree ns i (right st y)) (known (p .before) x y .counts) (on-axis e .1)
+compared : (c : tie.After-known-told) (s : Shape) → Good s → Beside (s .rank) (hs (searched c) .rank)
+    → Compared s (hs (searched c)) (c .before .axis .given .0 .0)
+compared c s g b = record { low = low g; high = higher-is (high (searched c)) [] [] .high; has = axis-is c .below; beside = b }
 
-ranks-fit-requires : tie.Need-ranks-fit-requires
-ranks-fit-requires c κs = (good-rank (c .args .ls) (c .pre .0), good-rank (c .args .rs) (c .pre .1))
+-- What is left is LENGTH.
+rest : (c : tie.After-known-told) (x y : List ℤ)
+    → let p = searched c in
+    let st = start p in
+    let same = agree (counted (hs p)) (c .before .axis .given .0 .0) in
+    own 22 (catenate (st .args .g) (st .args .k) (left st x) (right st y) .refusals) ≡ cond (not (same (left st x) && same (right st y))) (number LENGTH) 0
+rest c x y = let p = searched c in catenate-rest (high p) (start p .args .g) (start p .args .k) x y (fits p) (axis-is c)
 
 returns : tie.Need-returns
 returns c x y =
-    let p = c .before .before in
-    let h = p .before in
-    let st = h .before .before .before in
-    sym (catenate-axis (st .args .g) (st .args .k) (left st x) (right st y) (tested (h .before .before) x y ∙ h .before .if1 .taken)
-    (position-none _ _ _ _ (known h x y .rank-is) (found p) (c .if2 .taken)))
-
-agrees-requires : tie.Need-agrees-requires
-agrees-requires c κs =
-    let p = c .before .before in
-    let st = p .before .before .before .before in
-    (good-rank (st .args .ls) (st .pre .0), (known (p .before) [] [] .high, (c .if2 .left, besides (p .before) .0)))
-
-agrees-requires-2 : tie.Need-agrees-requires-2
-agrees-requires-2 c κs =
-    let e = c .before .before in
-    let p = e .before .before in
-    let st = p .before .before .before .before in
-    (good-rank (st .args .rs) (st .pre .1), (known (p .before) [] [] .high, (e .if2 .left, besides (p .before) .1)))
+    let st = c .before .before in
+    let w = sym (c .before .ranks-fit .ensures) ∙ not-true _ (c .if1 .taken) in
+    sym (catenate-own (known st _ refl) (st .args .g) (st .args .k) x y ∙ rw w)
 
 returns-2 : tie.Need-returns-2
 returns-2 c x y =
-    let t = c .before .before in
-    let e = t .before .before in
-    let h = e .before .before .before in
-    let st = h .before .before .before in
-    let f = tested (h .before .before) x y ∙ h .before .if1 .taken in
-    let a = ap (within (st .args .k -ℤ st .args .g)) (known h x y .rank-is) ∙ on-axis e .0 in
-    sym (catenate-none (st .args .g) (st .args .k) (left st x) (right st y) f a (sym (left-agrees (t .before) x y) ∙ t .if3 .taken) (sym (right-agrees (c .before) x y) ∙ c .if4 .taken))
+    let p = c .before .before in
+    let w = found-none (start p .args .k) (start p .args .g) _ (sym (c .enum-told .given .1) ∙ found p) in
+    sym (catenate-own (high p) (start p .args .g) (start p .args .k) x y ∙ rw (fits p, w))
+
+agrees-requires : tie.Need-agrees-requires
+agrees-requires c κs = let h = high (searched c) in compared c _ (h .left) (besides h (fits (searched c)) .0)
+
+agrees-requires-2 : tie.Need-agrees-requires-2
+agrees-requires-2 c κs = let k = c .before .before in let h = high (searched k) in compared k _ (h .right) (besides h (fits (searched k)) .1)
 
 returns-3 : tie.Need-returns-3
 returns-3 c x y =
-    let t = c .before .before in
-    let e = t .before .before in
-    let h = e .before .before .before in
-    let st = h .before .before .before in
-    let f = tested (h .before .before) x y ∙ h .before .if1 .taken in
-    let a = ap (within (st .args .k -ℤ st .args .g)) (known h x y .rank-is) ∙ on-axis e .0 in
-    sym (catenate-right (st .args .g) (st .args .k) (left st x) (right st y) f a (sym (left-agrees (t .before) x y) ∙ t .if3 .taken) (sym (right-agrees (c .before) x y) ∙ c .if4 .left))
+    let b = c .before in
+    let a = b .before .before in
+    sym (rest (a .before) x y ∙ rw (← (a .agrees .ensures x), ← (b .agrees2 .ensures y), b .before .if2 .taken, c .if3 .taken))
 
 returns-4 : tie.Need-returns-4
 returns-4 c x y =
-    let e = c .before .before in
-    let h = e .before .before .before in
-    let st = h .before .before .before in
-    let f = tested (h .before .before) x y ∙ h .before .if1 .taken in
-    let a = ap (within (st .args .k -ℤ st .args .g)) (known h x y .rank-is) ∙ on-axis e .0 in
-    sym (catenate-left (st .args .g) (st .args .k) (left st x) (right st y) f a (sym (left-agrees (c .before) x y) ∙ c .if3 .left))
-
-returns-5 : tie.Need-returns-5
-returns-5 c x y = let st = c .before .before in sym (catenate-rank (st .args .g) (st .args .k) (left st x) (right st y) (tested (c .before) x y ∙ c .if1 .left))
+    let a = c .before in
+    ⊎-elim
+    (λ w. sym (rest (a .before) x y ∙ rw (← (a .agrees .ensures x), ← (w .1 .ensures y), w .0 .taken, w .2 .left)))
+    (λ w. sym (rest (a .before) x y ∙ rw (← (a .agrees .ensures x), w .left)))
+    (c .if2 .came)
 
 pub catenate-refusal-spec : {M : Type 1} → statement M
 catenate-refusal-spec =
     tie.close
     (tie.spec
-    ranks-fit-requires
-    (λ c κs. search needs)
-    (λ c κs. search needs)
+    (λ c κs. let h = known c _ refl in (low (h .left), low (h .right)))
     returns
+    (λ c κs. search needs)
+    (λ c κs. search needs)
+    (λ c. search needs)
+    (λ c. search needs)
+    returns-2
     agrees-requires
     agrees-requires-2
-    returns-2
     returns-3
-    returns-4
-    returns-5)
+    returns-4)

@@ -1,127 +1,88 @@
-use borrow.Author.Needs.{needs}
+use mathlib.Core.Path.{_≡_, ap, _∙_}
+use Prim.Native.Nat.{_+_, _-_, _≤_}
 use native.Mathlib.Omega.{arith}
-use Rattle.shape.proofs.Places.{row-fits}
-use Prim.Native.Nat.{_+_, _-_, _*_, _≤_}
-use mathlib.Core.Path.{_≡_, refl, ap, _∙_}
-use lib.ListN.{length}
-use Rattle.meaning.proofs.Sides.{sideAt}
-use Rattle.copying.proofs.Runs.{filled, length-filled}
-use Rattle.copying.proofs.Parts.{filled-start, part-long, part-room}
-use Rattle.joins.specs.Joined.{joinedAt}
-use Rattle.joins.proofs.Blocks.{left-more, right-more, sized-le}
+use lib.ListN.{length, take, drop}
+use borrow.Author.Needs.{needs}
+use borrow.Rule.Slice.PartMut.{putMid}
+use Rattle.copying.specs.Steps.{filled}
+use Rattle.copying.proofs.Runs.{length-filled}
+use Rattle.copying.proofs.Parts.{part-long, part-room}
+use Rattle.copying.proofs.Blockwise.{Blockwise, blockwise-none, blockwise-room, blockwise-all}
+use Rattle.joins.specs.Steps.{joined}
+use Rattle.joins.proofs.Blocks.{left-more, right-more, run-fits}
 use Rattle.joins.proofs.join_blocks.Statement.{statement}
 use Rattle.joins.proofs.join_blocks.Tie as tie
 
 abbrev Inv-loop : tie.InvT-loop
-Inv-loop x l v y r w outer out₀ made o₀ out o = (o ≤ outer) × ((length out ≡ length out₀) × (out ≡ filled (joinedAt v w (sideAt x l) (sideAt y r)) (o * (v + w)) out₀))
+Inv-loop left l right r outer out₀ v w at₀ o₀ out at o = Blockwise outer (left .width + right .width) (joined left l right r) out₀ out at o
 
 abbrev μ-loop : tie.MeasureT-loop
-μ-loop x l v y r w outer out₀ made o₀ out o = outer - o
+μ-loop left l right r outer out₀ v w at₀ o₀ out at o = outer - o
 
--- A block ends within the buffer, and its runs within the operands.
-inside : (c : tie.In-loop Inv-loop μ-loop)
-    → let st = c .before .before in
-    let o = c .before .loop .o in
-    (o * (st .args .v + st .args .w) + (st .args .v + st .args .w) ≤ st .args .outer * (st .args .v + st .args .w))
-    × ((o * st .args .v + st .args .v ≤ st .args .outer * st .args .v) × (o * st .args .w + st .args .w ≤ st .args .outer * st .args .w))
-inside c =
-    let st = c .before .before in
-    let o = c .before .loop .o in (
-      omega (arith, row-fits o (st .args .outer) (st .args .v + st .args .w) (omega arith)),
-      (
-        omega (arith, row-fits o (st .args .outer) (st .args .v) (omega arith)),
-        omega (arith, row-fits o (st .args .outer) (st .args .w) (omega arith)),
-      ),
-    )
+abbrev start : tie.In-loop Inv-loop μ-loop → tie.Start Inv-loop μ-loop
+start c = c .before .before
 
-loop-holds : tie.Need-loop-holds Inv-loop μ-loop
-loop-holds c = (omega arith, (refl, filled-start _ (c .args .v + c .args .w) _))
+-- The block lies within the buffer.
+room : (c : tie.In-loop Inv-loop μ-loop) → c .before .loop .at + (start c .args .left .width + start c .args .right .width) ≤ length (start c .args .out .now)
+room c = blockwise-room (c .before .loop .inv) _ (omega arith) (start c .pre .space)
 
-mul-at : tie.Need-mul-at Inv-loop μ-loop
-mul-at c = omega (arith, inside c)
+-- What stands in it after the first run.
+abbrev looped : tie.After-put-run Inv-loop μ-loop → tie.In-loop Inv-loop μ-loop
+looped c = c .before .before
 
-add-mid : tie.Need-add-mid Inv-loop μ-loop
-add-mid c = omega (arith, inside c)
+half : (c : tie.After-put-run Inv-loop μ-loop)
+    → let a = start (looped c) .args in
+    let lp = looped c .before .loop in
+    putMid (lp .at) (lp .at + a .left .width - lp .at) (lp .out) (c .put-run .last .1 .1 .1 .0)
+    ≡ filled (joined (a .left) (a .l .now) (a .right) (a .r .now)) (lp .at + a .left .width) (a .out .now)
+half c =
+    let a = start (looped c) .args in
+    let lp = looped c .before .loop in
+    let i = room (looped c) in
+    left-more (a .left) (a .right) (a .l .now) (a .r .now) (lp .inv) _ _ (part-long (lp .out) (lp .at) _ (omega (arith, lp .inv .long))) (c .put-run .ensures)
 
-add-end : tie.Need-add-end Inv-loop μ-loop
-add-end c = omega (arith, inside c)
+-- The part that the second run is written to.
+part : (c : tie.After-put-run Inv-loop μ-loop)
+    → let a = start (looped c) .args in
+    let lp = looped c .before .loop in
+    let mid = lp .at + a .left .width in
+    length (take (mid + a .right .width - mid) (drop mid (putMid (lp .at) (mid - lp .at) (lp .out) (c .put-run .last .1 .1 .1 .0)))) ≡ a .right .width
+part c =
+    let a = start (looped c) .args in
+    let mid = looped c .before .loop .at + a .left .width in
+    let i = room (looped c) in
+    part-room _ mid (a .right .width) (length (a .out .now)) (ap length (half c) ∙ length-filled _ mid _ (omega arith)) (omega arith)
 
-mul-put-side : tie.Need-mul-put-side Inv-loop μ-loop
-mul-put-side c = let i = inside c in search needs
+put-run-requires : tie.Need-put-run-requires Inv-loop μ-loop
+put-run-requires c κs =
+    let f = c .before in
+    let lp = f .before .loop in
+    let i = room f in
+    let p = start f .pre in
+    (part-long (lp .out) (lp .at) _ (omega (arith, lp .inv .long)), run-fits _ _ _ _ (omega arith) (omega (arith, p .small)) (p .left))
 
-sub-put-side : tie.Need-sub-put-side Inv-loop μ-loop
-sub-put-side c = omega (arith, inside c)
-
-part-put-side-start : tie.Need-part-put-side-start Inv-loop μ-loop
-part-put-side-start c = omega (arith, inside c)
-
-part-put-side-end : tie.Need-part-put-side-end Inv-loop μ-loop
-part-put-side-end c = omega (arith, inside c)
-
-put-side-requires : tie.Need-put-side-requires Inv-loop μ-loop
-put-side-requires c κs =
-    let p = c .before in
-    let st = p .before .before in
-    let o = p .before .loop .o in
-    let i = inside p in (
-      part-long (p .before .loop .out) (o * (st .args .v + st .args .w)) (st .args .v) (omega arith),
-      (omega arith, omega (arith, sized-le (st .args .x) (o * st .args .v + st .args .v) (st .args .outer * st .args .v) (i .1 .0))),
-    )
-
-mul-put-side-2 : tie.Need-mul-put-side-2 Inv-loop μ-loop
-mul-put-side-2 c = let i = inside (c .before .before .before) in search needs
-
-sub-put-side-2 : tie.Need-sub-put-side-2 Inv-loop μ-loop
-sub-put-side-2 c = omega (arith, inside (c .before .before .before))
-
-part-put-side-start-2 : tie.Need-part-put-side-start-2 Inv-loop μ-loop
-part-put-side-start-2 c = omega (arith, inside (c .before .before .before))
-
-part-put-side-end-2 : tie.Need-part-put-side-end-2 Inv-loop μ-loop
-part-put-side-end-2 c = omega (arith, inside (c .before .before .before))
-
-put-side-requires-2 : tie.Need-put-side-requires-2 Inv-loop μ-loop
-put-side-requires-2 c κs =
+put-run-requires-2 : tie.Need-put-run-requires-2 Inv-loop μ-loop
+put-run-requires-2 c κs =
     let q = c .before .before in
-    let p = q .before .before in
-    let st = p .before .before in
-    let lp = p .before .loop in
-    let o = lp .o in
-    let v = st .args .v in
-    let w = st .args .w in
-    let out₀ = st .args .out .now in
-    let i = inside p in
-    let e = left-more v w (sideAt (st .args .x) (st .args .l .now)) (sideAt (st .args .y) (st .args .r .now)) o (lp .out) out₀ _ _ (lp .inv .1 .1)
-    (part-long (lp .out) (o * (v + w)) v (omega arith)) (q .put-side .ensures) in (
-      part-room _ (o * (v + w) + v) w (length out₀) (ap length e ∙ length-filled _ (o * (v + w) + v) out₀ (omega arith)) (omega arith),
-      (omega arith, omega (arith, sized-le (st .args .y) (o * w + w) (st .args .outer * w) (i .1 .1))),
-    )
+    let p = start (looped q) .pre in
+    (part q, run-fits _ _ _ _ (omega arith) (omega (arith, p .small)) (p .right))
+
+abbrev halfway : tie.After-put-run2 Inv-loop μ-loop → tie.After-put-run Inv-loop μ-loop
+halfway c = c .before .before .before
 
 loop-again : tie.Need-loop-again Inv-loop μ-loop
 loop-again c =
-    let q = c .before .before .before .before in
-    let p = q .before .before in
-    let st = p .before .before in
-    let lp = p .before .loop in
-    let o = lp .o in
-    let v = st .args .v in
-    let w = st .args .w in
-    let f = sideAt (st .args .x) (st .args .l .now) in
-    let g = sideAt (st .args .y) (st .args .r .now) in
-    let out₀ = st .args .out .now in
-    let i = inside p in
-    let e = left-more v w f g o (lp .out) out₀ _ _ (lp .inv .1 .1) (part-long (lp .out) (o * (v + w)) v (omega arith)) (q .put-side .ensures) in
-    let d = right-more v w f g o _ out₀ _ _ e (part-room _ (o * (v + w) + v) w (length out₀) (ap length e ∙ length-filled _ (o * (v + w) + v) out₀ (omega arith)) (omega arith)) (c .before .put-side2 .ensures) in
-    (omega arith, (ap length d ∙ length-filled _ ((o + 1) * (v + w)) out₀ (omega arith), d))
-
-returns : tie.Need-returns Inv-loop μ-loop
-returns c =
-    let lp = c .before .loop in
-    let st = c .before .before in
-    let n = st .args .v + st .args .w in
-    lp .inv .1 .1
-    ∙ ap (λ x. filled (joinedAt (st .args .v) (st .args .w) (sideAt (st .args .x) (st .args .l .now)) (sideAt (st .args .y) (st .args .r .now))) (x * n) (st .args .out .now))
-    (let q : lp .o ≡ st .args .outer = omega arith in q)
+    let q = halfway (c .before) in
+    let a = start (looped q) .args in
+    let lp = looped q .before .loop in
+    let i = room (looped q) in
+    let e = right-more (a .left) (a .right) (a .l .now) (a .r .now) (lp .inv) _ _ _ (half q) (part q) (c .before .put-run2 .ensures) in
+    record {
+      some = omega arith;
+      at-is = omega (arith, lp .inv .at-is);
+      long = ap length e ∙ length-filled _ _ _ (omega arith);
+      done = e;
+    }
 
 pub join-blocks-spec : {M : Type 1} → statement M
 join-blocks-spec =
@@ -129,23 +90,21 @@ join-blocks-spec =
     (tie.spec
     Inv-loop
     μ-loop
-    (λ c. search needs)
-    loop-holds
-    mul-at
-    add-mid
-    add-end
-    mul-put-side
-    sub-put-side
-    part-put-side-start
-    part-put-side-end
-    put-side-requires
-    mul-put-side-2
-    sub-put-side-2
-    part-put-side-start-2
-    part-put-side-end-2
-    put-side-requires-2
+    (λ c. blockwise-none _ _ _ _)
+    (λ c. omega (arith, room c))
+    (λ c. omega (arith, room c))
+    (λ c. let i = room c in search needs)
+    (λ c. omega (arith, room c))
+    (λ c. omega (arith, room c))
+    (λ c. omega (arith, room c, c .before .loop .inv .long))
+    put-run-requires
+    (λ c. let i = room (looped (c .before)) in search needs)
+    (λ c. omega (arith, room (looped (c .before))))
+    (λ c. omega (arith, room (looped (c .before))))
+    (λ c. omega (arith, room (looped (c .before))))
+    put-run-requires-2
     (λ c. search needs)
     (λ c. search needs)
     loop-again
     (λ c. search needs)
-    returns)
+    (λ c. blockwise-all (c .before .loop .inv) (omega arith)))

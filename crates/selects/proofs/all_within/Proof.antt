@@ -1,15 +1,15 @@
-use borrow.Author.Needs.{needs, sfits-of}
-use native.Mathlib.Omega.{arith}
 use mathlib.Core.Path.{_≡_, refl, sym, ap, _∙_}
+use mathlib.Core.Bool.{Bool}
 use Prim.Native.Nat.{_-_, _≤_}
+use native.Mathlib.Omega.{arith}
 use lib.ListN.{length, drop, getD}
 use lib.IntN.{ℤ, pos, _-ℤ_}
-use mathlib.Core.Bool.{Bool}
 use mir.Syntax.{w32}
 use mir.Val.{toZ, ofZ}
-use Rattle.meaning.specs.Terms.{within, every}
+use borrow.Author.Needs.{needs, sfits-of}
 use Rattle.signed.proofs.Reading.{read32}
-use Rattle.meaning.proofs.Positions.{positionOf, position-lt, position-none}
+use Rattle.signed.proofs.Finding.{foundOf, found-at, found-none}
+use Rattle.meaning.specs.Terms.{within, every}
 use Rattle.meaning.proofs.Every.{every-next, every-stop, every-end}
 use Rattle.selects.proofs.all_within.Statement.{statement}
 use Rattle.selects.proofs.all_within.Tie as tie
@@ -20,42 +20,46 @@ Inv-loop g l n i₀ i = (i ≤ length l) × (every (λ z. within (z -ℤ toZ w32
 abbrev μ-loop : tie.MeasureT-loop
 μ-loop g l n i₀ i = length l - i
 
--- The test of an element, with g as the loop holds it.
+-- The origin as the loop holds it, and the test of an element.
+abbrev origin : tie.Start Inv-loop μ-loop → ℤ
+origin st = toZ w32 (ofZ w32 (st .args .g))
+
 abbrev test : tie.Start Inv-loop μ-loop → ℤ → Bool
-test st z = within (z -ℤ toZ w32 (ofZ w32 (st .args .g))) (st .args .n)
+test st z = within (z -ℤ origin st) (st .args .n)
+
+abbrev looped : tie.After-position Inv-loop μ-loop → tie.At-loop Inv-loop μ-loop
+looped c = c .before .before .before
+
+abbrev element : tie.At-loop Inv-loop μ-loop → ℤ
+element c = getD (c .before .args .l .now) (c .loop .i) (pos 0)
 
 found : (c : tie.After-position Inv-loop μ-loop)
-    → let st = c .before .before .before .before in
-    c .position .result ≡ positionOf (getD (st .args .l .now) (c .before .before .before .loop .i) (pos 0) -ℤ toZ w32 (ofZ w32 (st .args .g))) (st .args .n)
+    → let st = looped c .before in c .position .result ≡ foundOf (element (looped c)) (origin st) (st .args .n)
 found c =
-    let st = c .before .before .before .before in
-    c .position .ensures
-    ∙ ap (λ z. positionOf (z -ℤ toZ w32 (ofZ w32 (st .args .g))) (st .args .n))
-    (read32 (getD (st .args .l .now) (c .before .before .before .loop .i) (pos 0)) (sfits-of (c .before .position-arg .given)))
+    let st = looped c .before in
+    c .position .ensures ∙ ap (λ z. foundOf z (origin st) (st .args .n)) (read32 (element (looped c)) (sfits-of (c .before .position-arg .given)))
 
 read : (st : tie.Start Inv-loop μ-loop) → every (test st) (st .args .l .now) ≡ every (λ z. within (z -ℤ st .args .g) (st .args .n)) (st .args .l .now)
 read st = ap (λ G. every (λ z. within (z -ℤ G) (st .args .n)) (st .args .l .now)) (read32 _ (st .fits .g))
 
-loop-holds : tie.Need-loop-holds Inv-loop μ-loop
-loop-holds c = (omega arith, refl)
-
 returns : tie.Need-returns Inv-loop μ-loop
 returns c =
-    let lp = c .before .before .before .before in
-    let st = lp .before in
-    sym (sym (read st) ∙ lp .loop .inv .1 ∙ every-stop (test st) (st .args .l .now) (lp .loop .i) (pos 0) (omega arith) (position-none _ _ _ _ refl (found (c .before)) (c .if1 .taken)))
+    let p = c .before .before in
+    let lp = looped p in
+    let w = found-none (element lp) (origin (lp .before)) _ (sym (c .enum-told2 .given .1) ∙ found p) in
+    sym (sym (read (lp .before)) ∙ lp .loop .inv .1 ∙ every-stop (test (lp .before)) _ (lp .loop .i) (pos 0) (omega arith) w)
 
 loop-again : tie.Need-loop-again Inv-loop μ-loop
 loop-again c =
-    let lp = c .before .before .before .before in
-    let st = lp .before in
-    (omega arith, lp .loop .inv .1 ∙ every-next (test st) (st .args .l .now) (lp .loop .i) (pos 0) (omega arith) (position-lt _ _ _ _ refl (found (c .before)) (c .if1 .left) .0))
+    let p = c .before .before in
+    let lp = looped p in
+    let w = found-at (element lp) (origin (lp .before)) _ _ (sym (c .enum-told .given .1) ∙ found p) in
+    (omega arith, lp .loop .inv .1 ∙ every-next (test (lp .before)) _ (lp .loop .i) (pos 0) (omega arith) (w .inside))
 
 returns-2 : tie.Need-returns-2 Inv-loop μ-loop
 returns-2 c =
     let lp = c .before in
-    let st = lp .before in
-    sym (sym (read st) ∙ lp .loop .inv .1 ∙ every-end (test st) (st .args .l .now) (lp .loop .i) (omega arith))
+    sym (sym (read (lp .before)) ∙ lp .loop .inv .1 ∙ every-end (test (lp .before)) _ (lp .loop .i) (omega arith))
 
 pub all-within-spec : {M : Type 1} → statement M
 all-within-spec =
@@ -63,10 +67,12 @@ all-within-spec =
     (tie.spec
     Inv-loop
     μ-loop
-    loop-holds
+    (λ c. (omega arith, refl))
     (λ c. search needs)
     (λ c. search needs)
     (λ c κs. search needs)
+    (λ c. search needs)
+    (λ c. search needs)
     returns
     (λ c. search needs)
     (λ c. search needs)

@@ -1,27 +1,27 @@
-use borrow.Author.Needs.{needs}
-use native.Mathlib.Omega.{arith}
-use Prim.Native.Nat.{_-_, _≤_}
 use mathlib.Core.Path.{_≡_, sym, ap, ap₂, _∙_}
+use mathlib.Core.List.{List, _++_}
 use mathlib.Core.Bool.{_&&_}
-use lib.ListN.{length, getD, set, take, drop}
-use mathlib.Core.List.{_++_}
-use lib.IntN.{pos, natAbs, _-ℤ_}
-use Rattle.signed.proofs.Reading.{read32, read-position}
-use Rattle.shape.specs.Shape.{maxRank, maxCount, counted, count, countOf, shapeOf}
+use Prim.Native.Nat.{_-_}
+use native.Mathlib.Omega.{arith}
+use lib.ListN.{length, set, take, drop}
+use lib.IntN.{ℤ}
+use borrow.Author.Needs.{needs}
+use Rattle.shape.specs.Shape.{maxRank, counted, count, shapeOf}
+use Rattle.shape.proofs.Made.{made-stands, stands-count}
+use Rattle.signed.proofs.Reading.{read32}
+use Rattle.signed.proofs.Finding.{read-from-zero}
 use Rattle.meaning.specs.Array.{Operand, arrayOf, goodForm, build}
-use Rattle.meaning.specs.Terms.{within, along}
+use Rattle.meaning.specs.Terms.{along}
 use Rattle.meaning.specs.Primitives.{Meaning, select}
-use Rattle.meaning.proofs.Positions.{positionOf}
-use Rattle.answer.specs.Answer.{lent, early, own}
-use Rattle.answer.proofs.Order.{Names, early-reply, own-reply, limit-reply, space-reply, given-reply, replied-refused, replied-given}
+use Rattle.answer.specs.Answer.{lent, early, own, accepted}
+use Rattle.answer.proofs.Order.{early-replied, own-replied, Ready, late-replied, given-replied, Roomy, late-fine}
 use Rattle.answer.proofs.Lent.{FineTwo, fine-two, lent-part}
-use Rattle.shape.proofs.Made.{made-rule, made-no-rule, made-count}
-use Rattle.selects.specs.Chosen.{chosen}
-use Rattle.selects.proofs.Selecting.{selecting, select-names, Selects, select-fits, axis-in, shape-is, total-is, all-chosen, select-out}
+use Rattle.selects.specs.Steps.{positionAt}
+use Rattle.selects.proofs.Calls.{select-names}
+use Rattle.selects.proofs.Selecting.{Selects, selects, lengths-are, chooses, select-out}
 use Rattle.selects.proofs.select.Statement.{statement}
 use Rattle.selects.proofs.select.Tie as tie
 
--- The operands, the meaning and its name.
 abbrev left : tie.Start → Operand
 left st = lent (st .args .ls) (st .args .l .now)
 
@@ -31,10 +31,7 @@ right st = lent (st .args .rs) (st .args .r .now)
 abbrev means : tie.Start → Meaning
 means st = select (st .args .g) (st .args .k) (arrayOf (left st)) (arrayOf (right st))
 
-names : (st : tie.Start) → Names (pos 31) (st .args .g) (st .args .k) (left st) (right st) selecting (means st)
-names st = select-names (st .args .g) (st .args .k) (left st) (right st)
-
--- FORM and ORIGIN, and what is known of the operands where neither was met.
+-- FORM and ORIGIN, and what is known where neither was met.
 early-is : (c : tie.After-early-two) → c .early-two .result ≡ early (goodForm (left (c .before)) && goodForm (right (c .before))) (c .before .args .g)
 early-is c = c .early-two .ensures ∙ ap (early _) (read32 _ (c .before .fits .g))
 
@@ -43,132 +40,104 @@ fine c =
     let st = c .before .before in
     let ll : length (st .args .ls .lens) ≡ maxRank = search needs in
     let rl : length (st .args .rs .lens) ≡ maxRank = search needs in
-    fine-two (st .args .g) (st .args .ls) (st .args .l .now) (st .args .rs) (st .args .r .now) ll rl (sym (early-is (c .before)) ∙ c .if1 .left)
+    fine-two _ _ _ _ _ ll rl (sym (early-is (c .before)) ∙ c .if1 .left)
 
 -- RANK, AXIS and INDEX, and what is known where none was met.
-own-is : (c : tie.After-select-refusal) → c .select-refusal .result ≡ own 31 (means (c .before .before .before) .refusals)
-own-is c =
-    let st = c .before .before .before in
-    c .select-refusal .ensures (st .args .r .now)
-    ∙ ap₂ (λ x y. own 31 (select x y (arrayOf (left st)) (arrayOf (right st)) .refusals)) (read32 _ (st .fits .g)) (read32 _ (st .fits .k))
+abbrev begun : tie.After-select-refusal → tie.Start
+begun c = c .before .before .before
 
-none : (c : tie.Else2) → own 31 (means (c .before .before .before .before) .refusals) ≡ 0
+own-is : (c : tie.After-select-refusal) → c .select-refusal .result ≡ own 31 (means (begun c) .refusals)
+own-is c =
+    let st = begun c in
+    c .select-refusal .ensures (st .args .r .now)
+    ∙ ap₂ (λ g k. own 31 (select g k (arrayOf (left st)) (arrayOf (right st)) .refusals)) (read32 _ (st .fits .g)) (read32 _ (st .fits .k))
+
+none : (c : tie.Else2) → own 31 (means (begun (c .before)) .refusals) ≡ 0
 none c = sym (own-is (c .before)) ∙ c .if2 .left
 
-fits : (c : tie.Else2) → let st = c .before .before .before .before in Selects (st .args .g) (st .args .k) (arrayOf (left st)) (arrayOf (right st))
-fits c = let st = c .before .before .before .before in select-fits (st .args .g) (st .args .k) (arrayOf (left st)) (arrayOf (right st)) (none c)
+abbrev asked : tie.After-count → tie.Else2
+asked c = c .before .before
 
--- The axis, the count of L's elements, and the result's shape.
-axis-is : (c : tie.After-position) → let st = c .before .before .before .before .before in c .position .result ≡ natAbs (st .args .k -ℤ st .args .g)
-axis-is c =
-    let e = c .before in
-    let st = e .before .before .before .before in
-    let g = fine (e .before .before) .right in
-    let found : c .position .result ≡ positionOf (st .args .k -ℤ st .args .g) (st .args .rs .rank) =
-    c .position .ensures ∙ read-position (st .args .rs .rank) _ _ (st .fits .k) (st .fits .g) in
-    found ∙ rw (← (g .rank-is), fits e .on-axis)
+abbrev start : tie.After-count → tie.Start
+start c = begun (asked c .before)
 
-count-is : (c : tie.After-count) → let st = c .before .before .before .before .before .before in c .count .result ≡ count (counted (st .args .ls))
-count-is c = c .count .ensures ∙ fine (c .before .before .before .before) .left .count-is
+known : (c : tie.After-count)
+    → let a = start c .args in Selects (a .g) (a .k) (a .ls) (a .l .now) (a .rs) (a .r .now) (c .before .from-zero .result) (c .count .result)
+known c =
+    let st = start c in
+    let f = fine (asked c .before .before) in
+    selects _ _ (f .left) (f .right) (c .before .from-zero .ensures ∙ read-from-zero _ _ (st .fits .k) (st .fits .g)) (c .count .ensures) (none (asked c))
 
-chosen-is : (c : tie.After-count) → let st = c .before .before .before .before .before .before in take (c .count .result - 0) (st .args .l .now) ≡ arrayOf (left st) .elements
-chosen-is c = let e = c .before .before .before .before in lent-part (e .before .before .args .ls) (e .before .before .args .l .now) (fine e .left) _ (c .count .ensures)
+-- L's elements.
+abbrev chosen : tie.After-count → List ℤ
+chosen c = take (c .count .result - 0) (start c .args .l .now)
 
-made : (c : tie.After-selected) → let st = c .before .before .before .before .before .before .before in c .selected .result ≡ shapeOf (means st .lengths)
-made c =
-    let n = c .before in
-    let e = n .before .before in
-    let st = e .before .before .before .before in
-    c .selected .ensures
-    ∙ shape-is (st .args .g) (st .args .k) (st .args .ls) (st .args .rs) (st .args .l .now) (st .args .r .now) (fine (e .before .before) .left) (fine (e .before .before) .right) (fits e) _ _ (axis-is (n .before)) (count-is n)
+chosen-are : (c : tie.After-count) → chosen c ≡ arrayOf (left (start c)) .elements
+chosen-are c = let k = known c in lent-part _ _ (k .left) _ (k .count-is)
 
-room : (c : tie.After-count2) → let st = c .before .before .before .before .before .before .before .before in c .count2 .result ≡ countOf (shapeOf (means st .lengths))
-room c = c .count2 .ensures ∙ ap countOf (made (c .before))
+-- The result's shape, and that nothing is refused but LIMIT and SPACE.
+shape-is : (c : tie.After-selected) → c .selected .result ≡ shapeOf (means (start (c .before)) .lengths)
+shape-is c = c .selected .ensures ∙ ap shapeOf (lengths-are (known (c .before)))
+
+ready : (c : tie.After-selected)
+    → let st = start (c .before) in Ready 31 2 (st .args .g) (st .args .k) (left st) (right st) (means st) (c .selected .result)
+ready c =
+    let e = asked (c .before) in
+    record {
+      names = select-names _ _ _ _;
+      fine = fine (e .before .before) .none;
+      none = none e;
+      stands = made-stands _ _ (shape-is c);
+    }
+
+-- LIMIT and SPACE.
+abbrev made : tie.Else3 → tie.After-selected
+made c = c .before .before .before
+
+roomy : (c : tie.Else3) → Roomy (made c .selected .result) (length (start (made c .before) .args .out .now))
+roomy c = late-fine _ (c .before .late .ensures) (c .before .before .count2 .ensures) (c .if3 .left)
+
+total-is : (c : tie.Else3) → c .before .before .count2 .result ≡ count (means (start (made c .before)) .lengths)
+total-is c = c .before .before .count2 .ensures ∙ stands-count (ready (made c) .stands) (roomy c .good)
 
 returns : tie.Need-returns
-returns c =
-    let st = c .before .before .before in
-    replied-refused (c .refused .result) _ (st .args .out .now) (c .refused .ensures) (early-reply (names st) (st .args .out .now) _ (early-is (c .before .before)) (c .before .if1 .taken))
-
-select-refusal-requires : tie.Need-select-refusal-requires
-select-refusal-requires c κs = (fine c .left .form, fine c .right .good)
+returns c = early-replied (select-names _ _ _ _) _ (early-is (c .before .before)) (c .before .if1 .taken) (c .refused .ensures)
 
 returns-2 : tie.Need-returns-2
 returns-2 c =
-    let e = c .before .before .before in
-    let st = e .before .before in
-    replied-refused (c .refused2 .result) _ (st .args .out .now) (c .refused2 .ensures) (own-reply (names st) (st .args .out .now) (fine e .none) _ (own-is (c .before .before)) (c .before .if2 .taken))
-
-selected-requires : tie.Need-selected-requires
-selected-requires c κs =
-    let e = c .before .before in
-    let st = e .before .before .before .before in
-    let g = fine (e .before .before) .right in
-    (g .high, axis-in (st .args .g) (st .args .k) (st .args .ls) (st .args .rs) (st .args .l .now) (st .args .r .now) (fine (e .before .before) .left) g (fits e) _ _ (axis-is (c .before)) (count-is c))
+    let o = c .before .before in
+    own-replied (select-names _ _ _ _) _ (fine (o .before) .none) (own-is o) (c .before .if2 .taken) (c .refused2 .ensures)
 
 returns-3 : tie.Need-returns-3
 returns-3 c =
-    let n = c .before .before in
-    let e = n .before .before .before .before in
-    let st = e .before .before .before .before in
-    replied-refused (c .refused3 .result) 9 (st .args .out .now) (c .refused3 .ensures)
-    (limit-reply (names st) (st .args .out .now) (fine (e .before .before) .none) (none e) (made-no-rule (means st .lengths) _ (room n) (omega arith)))
-
-returns-4 : tie.Need-returns-4
-returns-4 c =
-    let n = c .before .before .before in
-    let e = n .before .before .before .before in
-    let st = e .before .before .before .before in
-    let small : n .count2 .result ≤ maxCount = omega arith in
-    replied-refused (c .refused4 .result) 10 (st .args .out .now) (c .refused4 .ensures)
-    (space-reply (names st) (st .args .out .now) (fine (e .before .before) .none) (none e) (made-rule (means st .lengths) _ (room n) small) (omega (arith, made-count (means st .lengths) _ (room n) small)))
+    let l = c .before .before in
+    late-replied (ready (l .before .before)) _ (l .late .ensures) (l .before .count2 .ensures) (c .before .if3 .taken) (c .refused3 .ensures)
 
 part-select-into-end : tie.Need-part-select-into-end
-part-select-into-end c =
-    let n = c .before .before .before .before in
-    let g = fine (n .before .before .before .before) .left in
-    omega (arith, g .room, count-is n)
+part-select-into-end c = let k = known (made c .before) in omega (arith, k .count-is, k .left .count-is, k .left .room)
 
 select-into-requires : tie.Need-select-into-requires
 select-into-requires c κs =
-    let w = c .before .before .before .before in
-    let n = w .before .before in
-    let e = n .before .before in
-    let st = e .before .before .before .before in
-    let gl = fine (e .before .before) .left in
-    let gr = fine (e .before .before) .right in (
-      fine (e .before .before) .right .form,
-      (
-        axis-in (st .args .g) (st .args .k) (st .args .ls) (st .args .rs) (st .args .l .now) (st .args .r .now) gl gr (fits e) _ _ (axis-is (n .before)) (count-is n),
-        (
-          λ i h.
-              ap (λ G. within (getD (take (n .count .result - 0) (st .args .l .now)) i (pos 0) -ℤ G) (getD (counted (st .args .rs)) (n .before .position .result) 0)) (read32 _ (st .fits .g))
-              ∙ all-chosen (st .args .g) (st .args .k) (st .args .ls) (st .args .rs) (st .args .l .now) (st .args .r .now) gl gr (fits e) _ _ (axis-is (n .before)) (count-is n) _ (chosen-is n) i h,
-          (
-            made-count (means st .lengths) _ (room w) (omega arith)
-                ∙ total-is (st .args .g) (st .args .k) (st .args .ls) (st .args .rs) (st .args .l .now) (st .args .r .now) gl gr (fits e) _ _ (axis-is (n .before)) (count-is n) _ (chosen-is n),
-            (omega arith, omega arith),
-          ),
-        ),
-      ),
-    )
+    let e = c .before .before in
+    let n = made e .before in
+    let r = roomy e in
+    let t = e .before .before .count2 .ensures in
+    rw (read32 _ (start n .fits .g)) (chooses (known n) (chosen-are n) (total-is e) (omega (arith, r .small)) (omega (arith, r .space)))
 
-returns-5 : tie.Need-returns-5
-returns-5 c =
-    let w = c .before .before .before .before .before .before in
-    let n = w .before .before in
-    let e = n .before .before in
-    let st = e .before .before .before .before in
-    let out = st .args .out .now in
-    let gl = fine (e .before .before) .left in
-    let gr = fine (e .before .before) .right in
-    let small : w .count2 .result ≤ maxCount = c .before .before .before .before .before .if3 .left in
-    let total : w .count2 .result ≡ count (means st .lengths) = made-count (means st .lengths) _ (room w) small in
-    replied-given _ (means st) out _ (ap (λ z. record { number = 0; shape = z }) (made (w .before)))
-    (select-out (st .args .g) (st .args .k) (st .args .ls) (st .args .rs) (st .args .l .now) (st .args .r .now) gl gr (fits e) _ _ (axis-is (n .before)) (count-is n) _ (chosen-is n) _ out _ total
-    (c .before .select-into .ensures
-    ∙ ap (λ G. build (set (counted (st .args .rs)) (n .before .position .result) (length (take (n .count .result - 0) (st .args .l .now)))) (along (arrayOf (right st)) (n .before .position .result) (chosen G (take (n .count .result - 0) (st .args .l .now)))) .elements ++ drop (w .count2 .result) out) (read32 _ (st .fits .g))))
-    (given-reply (names st) out (fine (e .before .before) .none) (none e) (made-rule (means st .lengths) _ (room w) small) (omega (arith, total, c .before .before .before .before .if4 .left)))
+returns-4 : tie.Need-returns-4
+returns-4 c =
+    let s = c .before .before in
+    let e = s .before .before .before in
+    let l = e .before in
+    let n = made e .before in
+    let a = start n .args in
+    given-replied (ready (made e)) _ (l .late .ensures) (l .before .count2 .ensures) (e .if3 .left)
+    (c .given .ensures ∙ ap accepted (shape-is (made e)))
+    (s .select-into .ensures
+    ∙ ap (λ G. build (set (counted (a .rs)) (n .before .from-zero .result) (length (chosen n)))
+    (along (arrayOf (right (start n))) (n .before .from-zero .result) (positionAt G (chosen n))) .elements ++ drop (l .before .count2 .result) (a .out .now))
+    (read32 _ (start n .fits .g))
+    ∙ select-out (known n) (chosen-are n) (total-is e) (a .out .now))
 
 pub select-spec : {M : Type 1} → statement M
 select-spec =
@@ -177,20 +146,20 @@ select-spec =
     (λ c κs. search needs)
     (λ c κs. search needs)
     returns
-    select-refusal-requires
+    (λ c κs. (fine c .left .form, fine c .right .good))
     (λ c κs. search needs)
     returns-2
     (λ c κs. search needs)
     (λ c κs. search needs)
-    selected-requires
+    (λ c κs. let k = known c in (k .right .high, k .has))
+    (λ c κs. search needs)
     (λ c κs. search needs)
     (λ c κs. search needs)
     returns-3
-    (λ c κs. search needs)
-    returns-4
     (λ c. search needs)
     (λ c. search needs)
     part-select-into-end
     select-into-requires
+    (λ c κs. search needs)
     (λ c. search needs)
-    returns-5)
+    returns-4)

@@ -1,119 +1,76 @@
-use borrow.Author.Needs.{needs}
+use mathlib.Core.Path.{refl, _∙_}
+use mathlib.Core.Bool.{true}
+use Prim.Native.Nat.{_+_, _*_, _-_, _≤_}
 use native.Mathlib.Omega.{arith}
-use Rattle.shape.proofs.Places.{row-fits}
-use mathlib.Core.Path.{_≡_, refl, ap, ap₂, _∙_}
-use Prim.Native.Nat.{_-_, _*_, _≤_, _+_}
 use lib.ListN.{length, getD}
-use lib.IntN.{pos, _-ℤ_}
+use lib.IntN.{ℤ, pos, _-ℤ_}
 use mir.Syntax.{w32}
 use mir.Val.{toZ, ofZ}
+use borrow.Author.Needs.{needs}
+use Rattle.shape.proofs.Places.{row-fits}
 use Rattle.signed.proofs.Reading.{read32}
-use Rattle.meaning.specs.Terms.{within}
 use Rattle.meaning.proofs.Positions.{within-lt}
-use Rattle.copying.proofs.Runs.{filled, length-filled}
-use Rattle.copying.proofs.Blocks.{source}
-use Rattle.selects.specs.Chosen.{chosen, Chosen}
-use Rattle.copying.proofs.Parts.{filled-start, part-long}
-use Rattle.selects.proofs.Rows.{block-more}
+use Rattle.copying.proofs.Runs.{filled-whole}
+use Rattle.copying.proofs.Parts.{part-long}
+use Rattle.copying.proofs.Blocks.{put-block}
+use Rattle.copying.proofs.Blockwise.{Blockwise, blockwise-none, blockwise-room, blockwise-next, blockwise-all}
+use Rattle.selects.specs.Steps.{positionAt, Positions, blocksAt}
 use Rattle.selects.proofs.select_blocks.Statement.{statement}
 use Rattle.selects.proofs.select_blocks.Tie as tie
 
 abbrev Inv-loop : tie.InvT-loop
-Inv-loop g l n inner outer r out₀ taken made o₀ out o =
-    (o ≤ outer) × ((length out ≡ length out₀) × (out ≡ filled (λ j. getD r (source (length l) n inner (chosen (toZ w32 g) l) j) (pos 0)) (o * made) out₀))
+Inv-loop g l n inner outer r out₀ taken made at₀ o₀ out at o = Blockwise outer (length l * inner) (blocksAt (toZ w32 g) l n inner r) out₀ out at o
 
 abbrev μ-loop : tie.MeasureT-loop
-μ-loop g l n inner outer r out₀ taken made o₀ out o = outer - o
+μ-loop g l n inner outer r out₀ taken made at₀ o₀ out at o = outer - o
 
--- The positions, with g as it is held.
-positions : (st : tie.Start Inv-loop μ-loop) → Chosen (toZ w32 (ofZ w32 (st .args .g))) (st .args .l .now) (st .args .n)
-positions st i h = ap (λ G. within (getD (st .args .l .now) i (pos 0) -ℤ G) (st .args .n)) (read32 _ (st .fits .g)) ∙ st .pre .0 i h
+-- The origin as the loop holds it, and the positions.
+abbrev origin : tie.Start Inv-loop μ-loop → ℤ
+origin st = toZ w32 (ofZ w32 (st .args .g))
 
--- The block that is read and the block that is written end within both buffers.
-inside : (c : tie.In-loop Inv-loop μ-loop)
-    → let st = c .before .before in
-    let o = c .before .loop .o in
-    (o * (st .args .n * st .args .inner) + st .args .n * st .args .inner ≤ st .args .outer * (st .args .n * st .args .inner))
-    × (o * (length (st .args .l .now) * st .args .inner) + length (st .args .l .now) * st .args .inner ≤ st .args .outer * (length (st .args .l .now) * st .args .inner))
-inside c =
-    let st = c .before .before in
-    let o = c .before .loop .o in (
-      omega (arith, row-fits o (st .args .outer) (st .args .n * st .args .inner) (omega arith)),
-      omega (arith, row-fits o (st .args .outer) (length (st .args .l .now) * st .args .inner) (omega arith)),
+positions : (st : tie.Start Inv-loop μ-loop) → Positions (origin st) (st .args .l .now) (st .args .n)
+positions st = rw (read32 _ (st .fits .g)) (st .pre .positions)
+
+abbrev start : tie.In-loop Inv-loop μ-loop → tie.Start Inv-loop μ-loop
+start c = c .before .before
+
+-- The block that is read and the block that is written lie within both.
+room : (c : tie.In-loop Inv-loop μ-loop)
+    → let a = start c .args in
+    let lp = c .before .loop in
+    (lp .o * (a .n * a .inner) + a .n * a .inner ≤ length (a .r .now)) × (lp .at + length (a .l .now) * a .inner ≤ length (lp .out))
+room c =
+    let st = start c in
+    let b = c .before .loop .inv in (
+      omega (arith, row-fits (c .before .loop .o) (st .args .outer) (st .args .n * st .args .inner) (omega arith), st .pre .source),
+      rw (b .long) (blockwise-room b _ (omega arith) (st .pre .space)),
     )
-
-loop-holds : tie.Need-loop-holds Inv-loop μ-loop
-loop-holds c = (omega arith, (refl, filled-start _ (length (c .args .l .now) * c .args .inner) _))
-
-mul-from : tie.Need-mul-from Inv-loop μ-loop
-mul-from c = omega (arith, inside c)
-
-add-to : tie.Need-add-to Inv-loop μ-loop
-add-to c = omega (arith, inside c)
-
-mul-at : tie.Need-mul-at Inv-loop μ-loop
-mul-at c = omega (arith, inside c)
-
-add-end : tie.Need-add-end Inv-loop μ-loop
-add-end c = omega (arith, inside c)
-
-mul-select-block : tie.Need-mul-select-block Inv-loop μ-loop
-mul-select-block c = let i = inside c in search needs
-
-sub-select-block : tie.Need-sub-select-block Inv-loop μ-loop
-sub-select-block c = omega (arith, inside c)
-
-part-select-block-start : tie.Need-part-select-block-start Inv-loop μ-loop
-part-select-block-start c = omega (arith, inside c)
-
-part-select-block-end : tie.Need-part-select-block-end Inv-loop μ-loop
-part-select-block-end c = omega (arith, inside c)
-
-mul-select-block-2 : tie.Need-mul-select-block-2 Inv-loop μ-loop
-mul-select-block-2 c = let i = inside (c .before) in search needs
-
-sub-select-block-2 : tie.Need-sub-select-block-2 Inv-loop μ-loop
-sub-select-block-2 c = omega (arith, inside (c .before))
-
-part-select-block-start-2 : tie.Need-part-select-block-start-2 Inv-loop μ-loop
-part-select-block-start-2 c = omega (arith, inside (c .before))
-
-part-select-block-end-2 : tie.Need-part-select-block-end-2 Inv-loop μ-loop
-part-select-block-end-2 c = omega (arith, inside (c .before))
 
 select-block-requires : tie.Need-select-block-requires Inv-loop μ-loop
 select-block-requires c κs =
-    let st = c .before .before .before .before in
-    let lp = c .before .before .before .loop in
-    let i = inside (c .before .before) in
-    let x = part-long (st .args .r .now) (lp .o * (st .args .n * st .args .inner)) (st .args .n * st .args .inner) (omega arith) in
-    let y = part-long (lp .out) (lp .o * (length (st .args .l .now) * st .args .inner)) (length (st .args .l .now) * st .args .inner) (omega arith) in
-    (positions st, (omega arith, (omega arith, (omega arith, omega arith))))
+    let f = c .before .before in
+    let st = start f in
+    let lp = f .before .loop in
+    let x = part-long (st .args .r .now) (lp .o * (st .args .n * st .args .inner)) (st .args .n * st .args .inner) (room f .0) in
+    let y = part-long (lp .out) (lp .at) (length (st .args .l .now) * st .args .inner) (room f .1) in
+    record { positions = positions st; source = omega arith; space = omega arith }
+
+abbrev looped : tie.After-select-block Inv-loop μ-loop → tie.In-loop Inv-loop μ-loop
+looped c = c .before .before .before
 
 loop-again : tie.Need-loop-again Inv-loop μ-loop
 loop-again c =
-    let p = c .before .before .before .before in
-    let lp = p .before .loop in
-    let st = p .before .before in
-    let out₀ = st .args .out .now in
-    let l = st .args .l .now in
-    let n = st .args .n in
-    let w = st .args .inner in
-    let i = inside p in
-    let e = block-more (length l) n w (chosen (toZ w32 (ofZ w32 (st .args .g))) l) (lp .o) (lp .o * (length l * w)) (lp .o * (n * w))
-    (st .args .r .now) (lp .out) out₀ _ _ (λ i h. within-lt (getD l i (pos 0) -ℤ toZ w32 (ofZ w32 (st .args .g))) n (positions st i h))
-    (lp .inv .1 .1) refl refl (part-long (lp .out) (lp .o * (length l * w)) (length l * w) (omega arith)) (c .before .select-block .ensures) in
-    (omega arith, (ap length e ∙ length-filled _ ((lp .o + 1) * (length l * w)) out₀ (omega arith), e))
-
-returns : tie.Need-returns Inv-loop μ-loop
-returns c =
-    let lp = c .before .loop in
-    let st = c .before .before in
-    let l = st .args .l .now in
-    let w = length l * st .args .inner in
-    let e : lp .o * w ≡ st .args .outer * w = ap (λ x. x * w) (let q : lp .o ≡ st .args .outer = omega arith in q) in
-    lp .inv .1 .1
-    ∙ ap₂ (λ G n. filled (λ j. getD (st .args .r .now) (source (length l) (st .args .n) (st .args .inner) (chosen G l) j) (pos 0)) n (st .args .out .now)) (read32 _ (st .fits .g)) e
+    let f = looped (c .before) in
+    let st = start f in
+    let a = st .args in
+    let lp = f .before .loop in
+    let m = length (a .l .now) in
+    let long = part-long (lp .out) (lp .at) (m * a .inner) (room f .1) in
+    blockwise-next (lp .inv) (c .before .select-block .last .1 .1 .1 .1 .1 .0) (omega arith) (c .before .select-block .kept .1 .1 .1 .1 .1 .0)
+    (put-block (λ i. true) (positionAt (origin st) (a .l .now)) (a .n) m (a .inner) (a .r .now) (lp .o)
+    (λ i h w. within-lt (getD (a .l .now) i (pos 0) -ℤ origin st) (a .n) (positions st .inside i h))
+    (lp .out) (a .out .now) _ (lp .o * (a .n * a .inner)) (lp .at) (lp .inv .done) (lp .inv .at-is) refl
+    (c .before .select-block .ensures ∙ filled-whole _ (m * a .inner) _ (omega arith)))
 
 pub select-blocks-spec : {M : Type 1} → statement M
 select-blocks-spec =
@@ -121,24 +78,23 @@ select-blocks-spec =
     (tie.spec
     Inv-loop
     μ-loop
-    (λ c. search needs)
-    (λ c. search needs)
-    loop-holds
-    mul-from
-    add-to
-    mul-at
-    add-end
-    mul-select-block
-    sub-select-block
-    part-select-block-start
-    part-select-block-end
-    mul-select-block-2
-    sub-select-block-2
-    part-select-block-start-2
-    part-select-block-end-2
+    (λ c. omega (arith, row-fits 0 (c .args .outer) (c .args .n * c .args .inner) (c .pre .some), c .pre .source))
+    (λ c. omega (arith, row-fits 0 (c .args .outer) (length (c .args .l .now) * c .args .inner) (c .pre .some), c .pre .space))
+    (λ c. blockwise-none _ _ _ _)
+    (λ c. omega (arith, room c))
+    (λ c. omega (arith, room c))
+    (λ c. omega (arith, room c))
+    (λ c. let i = room c in search needs)
+    (λ c. omega (arith, room c))
+    (λ c. omega (arith, room c))
+    (λ c. omega (arith, room c))
+    (λ c. let i = room (c .before) in search needs)
+    (λ c. omega (arith, room (c .before)))
+    (λ c. omega (arith, room (c .before)))
+    (λ c. omega (arith, room (c .before)))
     select-block-requires
     (λ c. search needs)
     (λ c. search needs)
     loop-again
     (λ c. search needs)
-    returns)
+    (λ c. rw (read32 _ (c .before .before .fits .g)) at (blockwise-all (c .before .loop .inv) (omega arith))))
