@@ -5,9 +5,10 @@ ghost use Rattle.shape.specs.Place.{successor};
 ghost use Rattle.meaning.specs.Item.{leadingItem};
 ghost use Rattle.meaning.specs.Reply.{reply};
 ghost use Rattle.answer.specs.Answer.{lent, Replied};
+ghost use Rattle.items.specs.Part.{itemPart, partIn};
 ghost use Rattle.items.specs.Sister.{itemAnswer};
-ghost use Rattle.gillgrater.specs.Part.{itemPart, partIn};
 use answer::Answer;
+use items::Part;
 use shape::Place;
 use shape::Shape;
 
@@ -28,31 +29,13 @@ pub extern "C" fn gillgrater_call(
     kernel::call(number, g, k, ls, l, rs, r, out)
 }
 
-// A part of a buffer: where it starts, and how many elements it has.
-#[repr(C)]
-pub struct Part {
-    pub start: usize,
-    pub length: usize,
-}
-
 // The leading item as a part of R's buffer, 0 and 0 for a refusal. A slice cannot be returned to C.
 #[no_mangle]
 pub extern "C" fn gillgrater_item(g: i32, i: i32, rs: Shape, r: &[i32]) -> Part
     ensures { λ p. ⌜ p ≡ itemPart (lent rs (now (r .entry))) g i ⌝ }
     ensures elements { λ p. ⌜ partIn p (now (r .entry)) ≡ leadingItem (lent rs (now (r .entry))) g i .part ⌝ }
 {
-    let found = items::item_shape(g, i, rs, r);
-    if found.number != 0 {
-        return Part {
-            start: 0,
-            length: 0,
-        };
-    }
-    let first = rs.around(0);
-    let length = first.inner;
-    let at = signed::position(i, g, first.length);
-    let start = at * length;
-    Part { start, length }
+    items::leading_part(g, i, rs, r)
 }
 
 // The sister call: the number, and the item's shape.

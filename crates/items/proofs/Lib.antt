@@ -1,4 +1,4 @@
 pub mod Refusals
 pub mod First
-pub mod Found
+pub mod Given
 pub mod Selected

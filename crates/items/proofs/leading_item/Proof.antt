@@ -1,67 +1,41 @@
+use Prim.Native.Nat.{_+_, _≤_}
+use native.Mathlib.Nat.{add-sub-cancel-left}
 use native.Mathlib.Omega.{arith}
-use mathlib.Core.Path.{_≡_, sym, ap, ap₂, _∙_}
+use mathlib.Core.Path.{_≡_, ap, ap₂, _∙_}
 use borrow.Author.Needs.{needs}
 use lib.ListN.{length}
-use Rattle.shape.specs.Shape.{maxRank}
 use Rattle.signed.proofs.Reading.{read32}
-use Rattle.meaning.specs.Item.{Item, itemRefusal}
+use Rattle.meaning.specs.Array.{Operand}
 use Rattle.answer.specs.Answer.{lent}
-use Rattle.items.proofs.Refusals.{item-refused}
-use Rattle.items.proofs.Found.{Part, found}
+use Rattle.items.specs.declared.Part.{Part}
+use Rattle.items.specs.Part.{partIn, itemPart}
+use Rattle.items.proofs.Given.{part-elements, part-inside}
 use Rattle.items.proofs.leading_item.Statement.{statement}
 use Rattle.items.proofs.leading_item.Tie as tie
 
-refusal-is : (c : tie.After-item-refusal) → c .item-refusal .result ≡ itemRefusal (lent (c .before .args .rs) (c .before .args .r .now)) (c .before .args .g) (c .before .args .i)
-refusal-is c = c .item-refusal .ensures ∙ ap₂ (itemRefusal _) (read32 _ (c .before .fits .g)) (read32 _ (c .before .fits .i))
+abbrev operand : tie.Start → Operand
+operand st = lent (st .args .rs) (st .args .r .now)
 
--- The part, by its position and its size.
-item : (c : tie.After-position)
-    → Part (c .before .before .before .before .args .rs) (c .before .before .before .before .args .r .now) (c .before .before .before .before .args .g)
-    (c .before .before .before .before .args .i) (c .position .result) (c .before .around .result .inner)
-item c =
-    let e = c .before .before in
-    let st = e .before .before in
-    let long : length (st .args .rs .lens) ≡ maxRank = search needs in
-    found (st .args .rs) (st .args .r .now) (st .args .g) (st .args .i) long (sym (refusal-is (e .before)) ∙ e .if1 .left)
-    (c .before .around .result) _ _ _ (c .before .around .ensures) (read32 _ (st .fits .i)) (read32 _ (st .fits .g)) (c .position .ensures)
+part-is : (c : tie.After-leading-part) → c .leading-part .result ≡ itemPart (operand (c .before)) (c .before .args .g) (c .before .args .i)
+part-is c = c .leading-part .ensures ∙ ap₂ (itemPart _) (read32 _ (c .before .fits .g)) (read32 _ (c .before .fits .i))
+
+inside : (c : tie.After-leading-part) → c .leading-part .result .start + c .leading-part .result .length ≤ length (c .before .args .r .now)
+inside c = rw (part-is c) (part-inside (operand (c .before)) (c .before .args .g) (c .before .args .i))
 
 returns : tie.Need-returns
 returns c =
-    let st = c .before .before .before in
-    sym
-    (ap (λ (y : Item). y .part)
-    (item-refused (lent (st .args .rs) (st .args .r .now)) (st .args .g) (st .args .i) (λ z. c .before .if1 .taken (refusal-is (c .before .before) ∙ z))))
-
-mul-from : tie.Need-mul-from
-mul-from c = omega (arith, item c)
-
-add-end : tie.Need-add-end
-add-end c = omega (arith, item c)
-
-mul-result : tie.Need-mul-result
-mul-result c = omega (arith, item c)
-
-part-result-end-2 : tie.Need-part-result-end-2
-part-result-end-2 c = omega (arith, item c)
-
-returns-2 : tie.Need-returns-2
-returns-2 c = item (c .before) .part
+    let p = c .before .before in
+    let st = p .before in
+    rw add-sub-cancel-left (ap (λ (x : Part). partIn x (st .args .r .now)) (part-is p) ∙ part-elements (operand st) (st .args .g) (st .args .i))
 
 pub leading-item-spec : {M : Type 1} → statement M
 leading-item-spec =
     tie.close
     (tie.spec
     (λ c κs. search needs)
+    (λ c. omega (arith, inside (c .before)))
+    (λ c. omega (arith, inside (c .before)))
     (λ c. search needs)
     (λ c. search needs)
-    (λ c. search needs)
-    returns
-    (λ c κs. search needs)
-    (λ c κs. search needs)
-    mul-from
-    add-end
-    mul-result
-    (λ c. search needs)
-    (λ c. search needs)
-    part-result-end-2
-    returns-2)
+    (λ c. omega (arith, inside (c .before)))
+    returns)

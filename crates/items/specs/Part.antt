@@ -1,12 +1,13 @@
--- The leading item as C gets it: not a slice, but where the part starts and how many elements it has.
+-- The leading item as a part of R's buffer: where it starts and how many elements it has. So C gets it, and not as a slice.
 use Prim.Native.Nat.{ℕ, zero, suc, _*_}
 use mathlib.Core.List.{List}
 use lib.ListN.{take, drop}
-use lib.IntN.{ℤ, natAbs, _-ℤ_}
+use lib.IntN.{ℤ}
 use Rattle.shape.specs.Shape.{count}
 use Rattle.meaning.specs.Array.{Operand}
+use Rattle.meaning.specs.Terms.{fromZero}
 use Rattle.meaning.specs.Item.{itemRefusal, itemLengths}
-use Rattle.gillgrater.specs.declared.Part.{Part}
+use Rattle.items.specs.declared.Part.{Part}
 
 -- The elements of a part.
 abbrev pub partIn : Part → List ℤ → List ℤ
@@ -19,4 +20,4 @@ settlePart (suc n) i size = record { start = 0; length = 0 }
 
 -- The leading item's part.
 unfoldable pub itemPart : Operand → ℤ → ℤ → Part
-itemPart R G i = settlePart (itemRefusal R G i) (natAbs (i -ℤ G)) (count (itemLengths R))
+itemPart R G i = settlePart (itemRefusal R G i) (fromZero G i) (count (itemLengths R))
