@@ -1,9 +1,6 @@
-pub mod Walking
-pub mod Sending
-pub mod Choosing
-pub mod Shortest
-pub mod Offsets
 pub mod Placing
-pub mod Reaching
-pub mod Blocking
-pub mod Transposing
+pub mod Walking
+pub mod Choosing
+pub mod Calls
+pub mod Passing
+pub mod Offsets

@@ -4,31 +4,27 @@ use mathlib.Core.List.{List, [], _∷_, _++_}
 use Prim.Native.Nat.{ℕ, zero, suc, _+_, _*_, _-_, _≤_, _<_}
 use native.Mathlib.Nat.{zero-add, sub-zero, mul-add, mul-zero}
 use native.Mathlib.Omega.{arith}
-use borrow.Author.Tests.{le-leb, lt-leb}
 use borrow.Rule.Slice.PartMut.{putMid}
 use lib.ListN.{length, getD, set, take, drop, replicate}
 use lib.Seq.{getD-take, length-take-le, take-at}
 use lib.IntN.{ℤ, pos}
 use Rattle.shape.specs.declared.Shape.{Shape}
-use Rattle.shape.specs.Shape.{maxRank, counted, count, shapeOf}
+use Rattle.shape.specs.Shape.{maxRank, counted, count}
 use Rattle.shape.specs.Place.{index, place}
-use Rattle.shape.proofs.Places.{In, inside-in, index-lt, place-in}
+use Rattle.shape.proofs.Places.{In, index-lt, place-in}
 use Rattle.shape.proofs.Axis.{in-length}
 use Rattle.meaning.specs.Array.{arrayOf, at, build}
 use Rattle.meaning.specs.Primitives.{axesTo, sentLengths, broughtBack}
-use Rattle.meaning.specs.Reply.{settle}
 use Rattle.meaning.proofs.Tab.{tab-ext}
 use Rattle.meaning.proofs.Sent.{length-back, length-shape, broughtBack-in}
-use Rattle.meaning.proofs.Arrays.{none-made}
-use Rattle.answer.specs.declared.Answer.{Answer}
-use Rattle.answer.specs.Answer.{lent, refusal, Replied}
-use Rattle.answer.proofs.Lent.{Lent, lent-good}
-use Rattle.transposes.specs.Strides.{dot, strides, sentStrides, walked, Walk}
-use Rattle.transposes.specs.Sent.{Positive, Moves, sentReply}
-use Rattle.transposes.proofs.Sending.{length-sent}
-use Rattle.transposes.proofs.Shortest.{lengths-pos}
+use Rattle.meaning.proofs.Arrays.{form-room, none-made}
+use Rattle.answer.specs.Answer.{lent}
+use Rattle.transposes.specs.declared.Sent.{Sent}
+use Rattle.transposes.specs.Steps.Strides.{dot, strides, sentStrides, walked, Walk}
+use Rattle.transposes.specs.Steps.Sent.{sentAxes, sentElements, Moves}
+use Rattle.transposes.proofs.Passing.{Passed, length-sent}
 
-pub index-dot : (ns p : List ℕ) → length p ≡ length ns → index ns p ≡ dot p (strides ns)
+index-dot : (ns p : List ℕ) → length p ≡ length ns → index ns p ≡ dot p (strides ns)
 unfolding index dot strides
 index-dot [] [] e = refl
 index-dot [] (i ∷ p) e = refl
@@ -70,98 +66,86 @@ unfolding strides
 length-strides [] = refl
 length-strides (n ∷ ns) = ap suc (length-strides ns)
 
-module _ (ts ns : List ℕ) (e : length ts ≡ length ns) (r : ℕ) (h : axesTo ts ≤ r) where
-  abbrev pub steps : List ℕ
-  steps = take (axesTo ts) (sentStrides r ts (strides ns))
+-- R's axes, of lengths ns, go to the axes ts.
+module _ (ts ns : List ℕ) (e : length ts ≡ length ns) where
+  abbrev lens : List ℕ
+  lens = sentLengths ts ns
 
-  pub offset-is : (q : List ℕ) → In (sentLengths ts ns) q → dot q steps ≡ index ns (broughtBack ts q)
-  offset-is q i =
-      let n : length q ≡ axesTo ts = in-length (sentLengths ts ns) q i ∙ length-shape ts ns in
-      dot-take q (sentStrides r ts (strides ns)) (axesTo ts) (omega arith)
-      ∙ sym (dot-back r ts (strides ns) q h (length-strides ns ∙ sym e))
-      ∙ sym (index-dot ns (broughtBack ts q) (length-back ts q ∙ e))
+  back-lt : (q : List ℕ) → In lens q → index ns (broughtBack ts q) < count ns
+  back-lt q i = index-lt ns (broughtBack ts q) (broughtBack-in ts ns q e i)
 
-  -- The walk gives the elements that 15 and 26 mean.
-  pub walked-is : (b : List ℤ)
-      → walked (sentLengths ts ns) steps b 0
-      ≡ build (sentLengths ts ns) (λ p. at (record { lengths = ns; elements = take (count ns) b }) (broughtBack ts p)) .elements
-  unfolding walked build at
-  walked-is b =
-      tab-ext (count (sentLengths ts ns)) _ _
-      (λ j l.
-      let q : List ℕ = place (sentLengths ts ns) j in
-      let i : In (sentLengths ts ns) q = place-in (sentLengths ts ns) j l in
-      ap (λ x. getD b x (pos 0)) (zero-add (dot q steps) ∙ offset-is q i)
-      ∙ sym (getD-take (count ns) b (index ns (broughtBack ts q)) (pos 0) (index-lt ns (broughtBack ts q) (broughtBack-in ts ns q e i))))
+  some-sent : 0 < count lens → 0 < count ns
+  some-sent h = omega (arith, back-lt (place lens 0) (place-in lens 0 h))
 
-  pub walk-is : (m room : ℕ) → count ns ≤ m → 0 < room → room ≡ count (sentLengths ts ns) → Walk (sentLengths ts ns) steps 0 m room
-  walk-is m room c some whole = record {
-    axes = length-take-le (axesTo ts) (sentStrides r ts (strides ns)) (rw (length-sent r ts (strides ns)) h) ∙ sym (length-shape ts ns);
-    some = some;
-    whole = whole;
-    reach = λ p g.
-        let i : In (sentLengths ts ns) p = inside-in (sentLengths ts ns) p g in
-        omega (arith, offset-is p i, index-lt ns (broughtBack ts p) (broughtBack-in ts ns p e i));
-  }
+  module _ (few : axesTo ts ≤ maxRank) where
+    abbrev steps : List ℕ
+    steps = take (axesTo ts) (sentStrides maxRank ts (strides ns))
 
--- What `moved` answers.
-module _ (ts : List ℕ) (s : Shape) (n : ℕ) (rs : Shape) (r out : List ℤ) (long : length (rs .lens) ≡ maxRank) (e : length ts ≡ rs .rank) (m : Moves ts s n (lent rs r)) where
-  abbrev ns : List ℕ
-  ns = counted rs
+    offset-is : (q : List ℕ) → In lens q → dot q steps ≡ index ns (broughtBack ts q)
+    offset-is q i =
+        let n : length q ≡ axesTo ts = in-length lens q i ∙ length-shape ts ns in
+        dot-take q (sentStrides maxRank ts (strides ns)) (axesTo ts) (omega arith)
+        ∙ sym (dot-back maxRank ts (strides ns) q few (length-strides ns ∙ sym e))
+        ∙ sym (index-dot ns (broughtBack ts q) (length-back ts q ∙ e))
 
-  abbrev elements : List ℤ
-  elements = build (sentLengths ts ns) (λ p. at (arrayOf (lent rs r)) (broughtBack ts p)) .elements
+    -- The walk gives the elements that 15 and 26 mean.
+    walked-is : (b : List ℤ) → walked lens steps b 0 ≡ sentElements ts (record { lengths = ns; elements = take (count ns) b })
+    unfolding walked build at
+    walked-is b =
+        tab-ext (count lens) _ _
+        (λ j l.
+        let i : In lens (place lens j) = place-in lens j l in
+        ap (λ x. getD b x (pos 0)) (zero-add (dot (place lens j) steps) ∙ offset-is (place lens j) i)
+        ∙ sym (getD-take (count ns) b (index ns (broughtBack ts (place lens j))) (pos 0) (back-lt (place lens j) i)))
 
-  good : Lent rs r
-  good = lent-good rs r long (m .form)
+    walk-is : (m room : ℕ) → count ns ≤ m → 0 < room → room ≡ count lens → Walk lens steps 0 m room
+    walk-is m room c some whole = record {
+      axes = length-take-le (axesTo ts) (sentStrides maxRank ts (strides ns)) (rw (length-sent maxRank ts (strides ns)) few) ∙ sym (length-shape ts ns);
+      some = some;
+      whole = whole;
+      reach = λ j l.
+          let i : In lens (place lens j) = place-in lens j (omega arith) in
+          omega (arith, offset-is (place lens j) i, back-lt (place lens j) i);
+    }
 
-  same-rank : length ts ≡ length ns
-  same-rank = e ∙ sym (good .rank-is)
+-- What `transpose_into` gives.
+module _ {s : Sent} {shape : Shape} {total : ℕ} {rs : Shape} {r : List ℤ} {room : ℕ} (p : Passed (s .to) rs) (m : Moves s shape total (lent rs r) room) where
+  abbrev ts : List ℕ
+  ts = sentAxes s rs
+
+  same-rank : length ts ≡ length (counted rs)
+  same-rank = p .axes ∙ sym (p .rank-is)
 
   few : axesTo ts ≤ maxRank
-  few = omega (arith, m .sends .below, m .sends .high)
+  few = omega (arith, m .sends .few, p .high)
 
-  pub axes-is : s .rank ≡ axesTo ts
-  axes-is = ap (λ x. x .rank) (m .shape-is) ∙ length-shape ts ns
+  rank-is : shape .rank ≡ axesTo ts
+  rank-is = ap (λ x. x .rank) (m .shape-is) ∙ length-shape ts (counted rs)
 
-  lens-is : take (s .rank - 0) (s .lens) ≡ sentLengths ts ns
-  lens-is = ap (λ x. take (x .rank - 0) (x .lens)) (m .shape-is) ∙ rw sub-zero (take-at (sentLengths ts ns) _ (length (sentLengths ts ns)) refl)
+  pub axes-high : shape .rank ≤ maxRank
+  axes-high = omega (arith, rank-is, few)
 
-  steps-is : (ws : List ℕ) → ws ≡ sentStrides maxRank ts (strides ns) → take (s .rank - 0) ws ≡ steps ts ns same-rank maxRank few
-  steps-is ws q = ap₂ take (sub-zero (s .rank) ∙ axes-is) q
+  pub into-some : 0 < total → 0 < count (counted rs)
+  into-some h = some-sent ts (counted rs) same-rank (omega (arith, m .total-is))
 
-  pub moved-positive : 0 < n → Positive ns
-  moved-positive h = record { each = lengths-pos ts ns same-rank (omega (arith, m .count-is)); small = good .count-small }
-
-  pub moved-walk : (ws : List ℕ) (room : ℕ) → ws ≡ sentStrides maxRank ts (strides ns) → 0 < n → room ≡ n
-      → Walk (take (s .rank - 0) (s .lens)) (take (s .rank - 0) ws) 0 (length r) room
-  moved-walk ws room q h w =
-      rw (lens-is, steps-is ws q) (walk-is ts ns same-rank maxRank few (length r) room (good .room) (omega arith) (w ∙ m .count-is))
-
-  given : n ≤ length out → sentReply ts (arrayOf (lent rs r)) out ≡ record { number = 0; shape = shapeOf (sentLengths ts ns); out = elements ++ drop (count (sentLengths ts ns)) out }
-  unfolding sentReply settle
-  given h = rw (le-leb (count (sentLengths ts ns)) (length out) (omega (arith, m .count-is)))
-
-  refused : length out < n → sentReply ts (arrayOf (lent rs r)) out ≡ record { number = 10; shape = shapeOf []; out = out }
-  unfolding sentReply settle
-  refused h = rw (lt-leb (count (sentLengths ts ns)) (length out) (omega (arith, m .count-is)))
-
-  pub moved-refused : (a : Answer) → length out < n → a ≡ refusal 10 → Replied a out (sentReply ts (arrayOf (lent rs r)) out)
-  moved-refused a h q = record { answer = q ∙ sym (ap (λ y. record { number = y .number; shape = y .shape }) (refused h)); buffer = sym (ap (λ y. y .out) (refused h)) }
-
-  pub moved-given : (last : List ℤ) → n ≤ length out → last ≡ elements ++ drop n out → Replied (record { number = 0; shape = s }) last (sentReply ts (arrayOf (lent rs r)) out)
-  moved-given last h q = record {
-    answer = ap (λ x. record { number = 0; shape = x }) (m .shape-is) ∙ sym (ap (λ y. record { number = y .number; shape = y .shape }) (given h));
-    buffer = q ∙ ap (λ k. elements ++ drop k out) (m .count-is) ∙ sym (ap (λ y. y .out) (given h));
-  }
+  lens-is : take (shape .rank - 0) (shape .lens) ≡ sentLengths ts (counted rs)
+  lens-is =
+      ap (λ x. take (x .rank - 0) (x .lens)) (m .shape-is) ∙ rw sub-zero (take-at (sentLengths ts (counted rs)) _ (length (sentLengths ts (counted rs))) refl)
 
   -- Nothing is written where there are no elements.
-  pub moved-none : n ≡ 0 → out ≡ elements ++ drop n out
-  moved-none z = none-made (sentLengths ts ns) _ n out (sym (m .count-is) ∙ z) z
+  pub into-none : (out : List ℤ) → total ≡ 0 → out ≡ sentElements ts (arrayOf (lent rs r)) ++ drop total out
+  into-none out z = none-made (sentLengths ts (counted rs)) _ total out (sym (m .total-is) ∙ z) z
 
-  pub moved-all : (ws : List ℕ) (last : List ℤ) → ws ≡ sentStrides maxRank ts (strides ns)
-      → last ≡ walked (take (s .rank - 0) (s .lens)) (take (s .rank - 0) ws) r 0 → putMid 0 (n - 0) out last ≡ elements ++ drop n out
-  moved-all ws last q w =
-      ap₂ (λ x k. x ++ drop k out)
-      (w ∙ ap₂ (λ x y. walked x y r 0) lens-is (steps-is ws q) ∙ walked-is ts ns same-rank maxRank few r)
-      (sub-zero n)
+  module _ (ws : List ℕ) (q : ws ≡ sentStrides maxRank ts (strides (counted rs))) where
+    steps-is : take (shape .rank - 0) ws ≡ steps ts (counted rs) same-rank few
+    steps-is = ap₂ take (sub-zero (shape .rank) ∙ rank-is) q
+
+    pub into-walk : (part : ℕ) → 0 < total → part ≡ total → Walk (take (shape .rank - 0) (shape .lens)) (take (shape .rank - 0) ws) 0 (length r) part
+    into-walk part h e =
+        rw (lens-is, steps-is) (walk-is ts (counted rs) same-rank few (length r) part (form-room (lent rs r) (m .form)) (omega arith) (e ∙ m .total-is))
+
+    pub into-all : (out last : List ℤ) → last ≡ walked (take (shape .rank - 0) (shape .lens)) (take (shape .rank - 0) ws) r 0
+        → putMid 0 (total - 0) out last ≡ sentElements ts (arrayOf (lent rs r)) ++ drop total out
+    into-all out last w =
+        ap₂ (λ x k. x ++ drop k out)
+        (w ∙ ap₂ (λ x y. walked x y r 0) lens-is steps-is ∙ walked-is ts (counted rs) same-rank few r) (sub-zero total)

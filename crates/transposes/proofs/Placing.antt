@@ -1,214 +1,163 @@
 -- Elements written place by place: no law asks in which order, or that a place is written once.
-use mathlib.Core.Path.{_≡_, refl, sym, ap, _∙_}
+use mathlib.Core.Path.{_≡_, refl, sym, ap, subst₂, _∙_}
 use mathlib.Core.List.{List, [], _∷_}
 use mathlib.Core.Bool.{Bool, true, false}
 use Prim.Native.Nat.{ℕ, _+_, _*_, _-_, _≤_, _<_}
-use native.Mathlib.Nat.{add-zero, zero-mul, zero-add, add-mul}
+use native.Mathlib.Nat.{add-zero, add-mul, zero-mul}
 use native.Mathlib.Omega.{arith}
 use borrow.Author.Tests.{ltb-true, ltb-false, eqb-true, eqb-false}
 use lib.Dec.{ltb, eqb}
 use lib.IntN.{ℤ, pos}
 use lib.ListN.{length, getD, set, length-set}
-use lib.Seq.{ext-getD, getD-set-same, getD-set-other}
-use Rattle.shape.specs.Shape.{count}
-use Rattle.shape.specs.Place.{inside, index, place}
-use Rattle.shape.proofs.Places.{In, in-inside, inside-in, index-lt, place-in, place-index, index-place}
-use Rattle.shape.proofs.Axis.{in-length}
-use Rattle.meaning.proofs.Tab.{length-tab, getD-tab}
-use Rattle.transposes.specs.Strides.{dot, strides, walked}
-use Rattle.transposes.specs.Placed.{Wanted, Holds, Kept, Placed}
-use Rattle.transposes.proofs.Offsets.{index-dot}
+use lib.Seq.{getD-set-same, getD-set-other}
+use Rattle.transposes.specs.declared.Axis.{Axis}
+use Rattle.transposes.specs.Steps.Placed.{Spot, Reach, Wanted, Agrees, Kept, Placed}
+use Rattle.transposes.specs.Steps.Placed.Spot.{here, further}
 
--- A place of more axes.
-pub inside-none : {X : Type 0} (n : ℕ) (ns : List ℕ) → inside (n ∷ ns) [] ≡ true → X
-inside-none n ns h = absurd (inside-in (n ∷ ns) [] h)
+-- n positions of an axis.
+abbrev pub axisBy : ℕ → ℕ → ℕ → Axis
+axisBy n w o = record { length = n; stride = w; step = o }
 
-pub inside-first : (n : ℕ) (ns : List ℕ) (i : ℕ) (p : List ℕ) → inside (n ∷ ns) (i ∷ p) ≡ true → (i < n) × (inside ns p ≡ true)
-inside-first n ns i p h =
-    let k : In (n ∷ ns) (i ∷ p) = inside-in (n ∷ ns) (i ∷ p) h in
-    (k .0, in-inside ns p (k .1))
+-- The places of more positions, of positions from l on, and of two axes that change places.
+spot-fewer : {i n w o d e : ℕ} {rest : List Axis} → i ≤ n → Spot (axisBy i w o ∷ rest) d e → Spot (axisBy n w o ∷ rest) d e
+spot-fewer {n = n} {w = w} {o = o} h (further j c f l s p q) = further {a = axisBy n w o} j c f (omega arith) s p q
 
-pub inside-cons : (n : ℕ) (ns : List ℕ) (i : ℕ) (p : List ℕ) → i < n → inside ns p ≡ true → inside (n ∷ ns) (i ∷ p) ≡ true
-inside-cons n ns i p l h = in-inside (n ∷ ns) (i ∷ p) (l, inside-in ns p h)
+spot-from : {k n w o d e : ℕ} {rest : List Axis} (l : ℕ) → l + k ≤ n → Spot (axisBy k w o ∷ rest) d e
+    → Spot (axisBy n w o ∷ rest) (l * w + d) (l * o + e)
+spot-from {n = n} {w = w} {o = o} {d = d} {e = e} l h (further j c f m s p q) =
+    let x : l * w + d ≡ (l + j) * w + c = omega (arith, add-mul l j w) in
+    let y : l * o + e ≡ (l + j) * o + f = omega (arith, add-mul l j o) in
+    further {a = axisBy n w o} (l + j) c f (omega arith) s x y
 
--- Position l + j is position j from l on.
-pub from-on : (x l j w d : ℕ) → x + l * w + (j * w + d) ≡ x + ((l + j) * w + d)
-from-on x l j w d = omega (arith, add-mul l j w)
+spot-swap : {a b : Axis} {rest : List Axis} {d e : ℕ} → Spot (a ∷ (b ∷ rest)) d e → Spot (b ∷ (a ∷ rest)) d e
+spot-swap {a} {b} {d = d} {e = e} (further i c f l (further j x y m s p q) t u) =
+    let z : d ≡ j * b .stride + (i * a .stride + x) = omega arith in
+    let v : e ≡ j * b .step + (i * a .step + y) = omega arith in
+    further j _ _ m (further i x y l s refl refl) z v
 
-module _ (ns : List ℕ) (w : ℕ) (ws : List ℕ) (o : ℕ) (os : List ℕ) (r : List ℤ) (at to : ℕ) where
-  -- Nothing is written on an axis of length 0.
-  none-holds : (T out : List ℤ) → Holds (0 ∷ ns) (o ∷ os) to T out
-  none-holds T out [] h = inside-none 0 ns h
-  none-holds T out (i ∷ p) h = absurd (omega (arith, inside-first 0 ns i p h .0))
+-- A place of an axis with one position is one of the others'.
+spot-one : {w o d e : ℕ} {rest : List Axis} → Spot (axisBy 1 w o ∷ rest) d e → Spot rest d e
+spot-one {w} {o} {d} {e} {rest} (further i c f l s p q) =
+    let z : i ≡ 0 = omega arith in
+    let x : c ≡ d = omega (arith, ap (λ k. k * w) z, zero-mul w) in
+    let y : f ≡ e = omega (arith, ap (λ k. k * o) z, zero-mul o) in
+    subst₂ (λ m n. Spot rest m n) x y s
 
-  pub placed-none : (out : List ℤ) → Placed (0 ∷ ns) (w ∷ ws) (o ∷ os) r at to out out
-  placed-none out = record { room = refl; each = λ T h. ((λ q e. e), none-holds T out) }
+one-spot : {w o d e : ℕ} {rest : List Axis} → Spot rest d e → Spot (axisBy 1 w o ∷ rest) d e
+one-spot {w} {o} {d} {e} s =
+    let x : d ≡ 0 * w + d = omega (arith, zero-mul w) in
+    let y : e ≡ 0 * o + e = omega (arith, zero-mul o) in
+    further {a = axisBy 1 w o} 0 d e (omega arith) s x y
 
--- A strip of k positions from l on, after i positions.
-module _ (ns : List ℕ) (w : ℕ) (ws : List ℕ) (o : ℕ) (os : List ℕ) (r : List ℤ) (at to l k : ℕ) where
-  wanted-first : (i : ℕ) (T : List ℤ) → i ≤ l + k → Wanted ((l + k) ∷ ns) (w ∷ ws) (o ∷ os) r at to T → Wanted (i ∷ ns) (w ∷ ws) (o ∷ os) r at to T
-  wanted-first i T h f [] q = inside-none i ns q
-  wanted-first i T h f (j ∷ p) q =
-      let s = inside-first i ns j p q in
-      f (j ∷ p) (inside-cons (l + k) ns j p (omega arith) (s .1))
-
-  wanted-strip : (T : List ℤ) → Wanted ((l + k) ∷ ns) (w ∷ ws) (o ∷ os) r at to T → Wanted (k ∷ ns) (w ∷ ws) (o ∷ os) r (at + l * w) (to + l * o) T
-  unfolding dot
-  wanted-strip T f [] q = inside-none k ns q
-  wanted-strip T f (j ∷ p) q =
-      let s = inside-first k ns j p q in
-      ap (λ x. getD T x (pos 0)) (from-on to l j o (dot p os))
-      ∙ f ((l + j) ∷ p) (inside-cons (l + k) ns (l + j) p (omega arith) (s .1))
-      ∙ sym (ap (λ x. getD r x (pos 0)) (from-on at l j w (dot p ws)))
-
-  holds-strip : (i : ℕ) (T out last : List ℤ) → l ≤ i → Holds (i ∷ ns) (o ∷ os) to T out → Kept T out last → Holds (k ∷ ns) (o ∷ os) (to + l * o) T last
-      → Holds ((l + k) ∷ ns) (o ∷ os) to T last
-  unfolding dot
-  holds-strip i T out last h f g s [] q = inside-none (l + k) ns q
-  holds-strip i T out last h f g s (j ∷ p) q = by (ltb j i) refl
+-- The places of fewer axes, and of a part of an axis, lie in R and in the buffer where all do.
+module _ {n w o at m to room : ℕ} {rest : List Axis} (k : Reach (axisBy n w o ∷ rest) at m to room) where
+  pub reach-some : 0 < n
+  reach-some = by (k .some .2)
     where
-      t : (j < l + k) × (inside ns p ≡ true)
-      t = inside-first (l + k) ns j p q
+      by : {d e : ℕ} → Spot (axisBy n w o ∷ rest) d e → 0 < n
+      by (further i c f l s p q) = omega arith
 
-      by : (b : Bool) → ltb j i ≡ b → getD last (to + (j * o + dot p os)) (pos 0) ≡ getD T (to + (j * o + dot p os)) (pos 0)
-      by true e = g _ (f (j ∷ p) (inside-cons i ns j p (ltb-true j i e) (t .1)))
-      by false e =
-          let e′ : i ≤ j = ltb-false j i e in
-          let back : l + (j - l) ≡ j = omega arith in
-          let x : to + l * o + ((j - l) * o + dot p os) ≡ to + (j * o + dot p os) = from-on to l (j - l) o (dot p os) ∙ ap (λ y. to + (y * o + dot p os)) back in
-          rw x at (s ((j - l) ∷ p) (inside-cons k ns (j - l) p (omega (arith, t .0)) (t .1)))
+  some-inner : (d : ℕ) × (e : ℕ) × Spot rest d e
+  some-inner = by (k .some .2)
+    where
+      by : {d e : ℕ} → Spot (axisBy n w o ∷ rest) d e → (d : ℕ) × (e : ℕ) × Spot rest d e
+      by (further i c f l s p q) = (c, f, s)
 
-  pub placed-strip : (i : ℕ) (out₀ out last : List ℤ) → l ≤ i → i ≤ l + k → Placed (i ∷ ns) (w ∷ ws) (o ∷ os) r at to out₀ out
-      → Placed (k ∷ ns) (w ∷ ws) (o ∷ os) r (at + l * w) (to + l * o) out last
-      → Placed ((l + k) ∷ ns) (w ∷ ws) (o ∷ os) r at to out₀ last
-  placed-strip i out₀ out last h m a b = record {
-    room = b .room ∙ a .room;
-    each = λ T f.
-        let x = a .each T (wanted-first i T m f) in
-        let y = b .each T (wanted-strip T f) in
-        ((λ q e. y .0 q (x .0 q e)), holds-strip i T out last h (x .1) (y .0) (y .1));
+  -- At one position of the first axis, and where that starts.
+  pub reach-inner : (i : ℕ) → i < n → Reach rest (at + i * w) m (to + i * o) room
+  reach-inner i l = record {
+    some = some-inner;
+    lie = λ d e s. let x = k .lie _ _ (further {a = axisBy n w o} i d e l s refl refl) in (omega arith, omega arith);
   }
 
--- An axis of length 1.
-module _ (ns : List ℕ) (w : ℕ) (ws : List ℕ) (o : ℕ) (os : List ℕ) (r : List ℤ) (at to : ℕ) where
-  wanted-one : (T : List ℤ) → Wanted (1 ∷ ns) (w ∷ ws) (o ∷ os) r at to T → Wanted ns ws os r at to T
-  unfolding dot
-  wanted-one T f p q =
-      ap (λ x. getD T (to + x) (pos 0)) (sym (first-none o (dot p os)))
-      ∙ f (0 ∷ p) (inside-cons 1 ns 0 p (omega arith) q)
-      ∙ ap (λ x. getD r (at + x) (pos 0)) (first-none w (dot p ws))
-    where
-      first-none : (v d : ℕ) → 0 * v + d ≡ d
-      first-none v d = omega (arith, zero-mul v)
+  pub reach-from : (i : ℕ) → i < n → (at + i * w < m) × (to + i * o < room)
+  reach-from i l = let x = reach-inner i l .lie _ _ (some-inner .2) in (omega arith, omega arith)
 
-  holds-one : (T out : List ℤ) → Holds ns os to T out → Holds (1 ∷ ns) (o ∷ os) to T out
-  unfolding dot
-  holds-one T out f [] q = inside-none 1 ns q
-  holds-one T out f (j ∷ p) q =
-      let s = inside-first 1 ns j p q in
-      let z : j ≡ 0 = omega arith in
-      let x : to + dot p os ≡ to + (j * o + dot p os) = rw z (omega (arith, zero-mul o)) in
-      rw x at (f p (s .1))
-
-  placed-one : (out last : List ℤ) → Placed ns ws os r at to out last → Placed (1 ∷ ns) (w ∷ ws) (o ∷ os) r at to out last
-  placed-one out last a = record {
-    room = a .room;
-    each = λ T f. let x = a .each T (wanted-one T f) in (x .0, holds-one T last (x .1));
+  -- At some positions of it, from l on.
+  pub reach-strip : (l j : ℕ) → 0 < j → l + j ≤ n → Reach (axisBy j w o ∷ rest) (at + l * w) m (to + l * o) room
+  reach-strip l j h b = record {
+    some = (_, _, further {a = axisBy j w o} 0 _ _ h (some-inner .2) refl refl);
+    lie = λ d e s. let x = k .lie _ _ (spot-from l b s) in (omega arith, omega arith);
   }
 
--- One position more.
-pub placed-more : (ns : List ℕ) (w : ℕ) (ws : List ℕ) (o : ℕ) (os : List ℕ) (r : List ℤ) (at to i : ℕ) (out₀ out last : List ℤ)
-    → Placed (i ∷ ns) (w ∷ ws) (o ∷ os) r at to out₀ out → Placed ns ws os r (at + i * w) (to + i * o) out last
-    → Placed ((i + 1) ∷ ns) (w ∷ ws) (o ∷ os) r at to out₀ last
-placed-more ns w ws o os r at to i out₀ out last a b =
-    placed-strip ns w ws o os r at to i 1 i out₀ out last (omega arith) (omega arith) a (placed-one ns w ws o os r (at + i * w) (to + i * o) out last b)
+pub reach-swap : {a b : Axis} {rest : List Axis} {at m to room : ℕ} → Reach (a ∷ (b ∷ rest)) at m to room → Reach (b ∷ (a ∷ rest)) at m to room
+reach-swap k = record { some = (_, _, spot-swap (k .some .2)); lie = λ d e s. k .lie d e (spot-swap s) }
 
--- Two axes that change places.
-module _ (a b : ℕ) (ns : List ℕ) (v w : ℕ) (ws : List ℕ) (m o : ℕ) (os : List ℕ) where
-  wanted-swap : (r : List ℤ) (at to : ℕ) (T : List ℤ) → Wanted (a ∷ (b ∷ ns)) (v ∷ (w ∷ ws)) (m ∷ (o ∷ os)) r at to T
-      → Wanted (b ∷ (a ∷ ns)) (w ∷ (v ∷ ws)) (o ∷ (m ∷ os)) r at to T
-  unfolding dot
-  wanted-swap r at to T f [] q = inside-none b (a ∷ ns) q
-  wanted-swap r at to T f (j ∷ []) q = inside-none a ns (inside-first b (a ∷ ns) j [] q .1)
-  wanted-swap r at to T f (j ∷ (i ∷ p)) q =
-      let s = inside-first b (a ∷ ns) j (i ∷ p) q in
-      let t = inside-first a ns i p (s .1) in
-      let x : to + (j * o + (i * m + dot p os)) ≡ to + (i * m + (j * o + dot p os)) = omega arith in
-      let y : at + (i * v + (j * w + dot p ws)) ≡ at + (j * w + (i * v + dot p ws)) = omega arith in
-      ap (λ z. getD T z (pos 0)) x
-      ∙ f (i ∷ (j ∷ p)) (inside-cons a (b ∷ ns) i (j ∷ p) (t .0) (inside-cons b ns j p (s .0) (t .1)))
-      ∙ ap (λ z. getD r z (pos 0)) y
-
-  holds-swap : (to : ℕ) (T out : List ℤ) → Holds (a ∷ (b ∷ ns)) (m ∷ (o ∷ os)) to T out → Holds (b ∷ (a ∷ ns)) (o ∷ (m ∷ os)) to T out
-  unfolding dot
-  holds-swap to T out f [] q = inside-none b (a ∷ ns) q
-  holds-swap to T out f (j ∷ []) q = inside-none a ns (inside-first b (a ∷ ns) j [] q .1)
-  holds-swap to T out f (j ∷ (i ∷ p)) q =
-      let s = inside-first b (a ∷ ns) j (i ∷ p) q in
-      let t = inside-first a ns i p (s .1) in
-      let x : to + (i * m + (j * o + dot p os)) ≡ to + (j * o + (i * m + dot p os)) = omega arith in
-      rw x at (f (i ∷ (j ∷ p)) (inside-cons a (b ∷ ns) i (j ∷ p) (t .0) (inside-cons b ns j p (s .0) (t .1))))
-
-pub placed-swap : (a b : ℕ) (ns : List ℕ) (v w : ℕ) (ws : List ℕ) (m o : ℕ) (os : List ℕ) (r : List ℤ) (at to : ℕ) (out last : List ℤ)
-    → Placed (a ∷ (b ∷ ns)) (v ∷ (w ∷ ws)) (m ∷ (o ∷ os)) r at to out last → Placed (b ∷ (a ∷ ns)) (w ∷ (v ∷ ws)) (o ∷ (m ∷ os)) r at to out last
-placed-swap a b ns v w ws m o os r at to out last k = record {
+-- Written along axes with the same places.
+placed-same : {xs ys : List Axis} {r : List ℤ} {at to : ℕ} {out last : List ℤ}
+    → ((d e : ℕ) → Spot xs d e → Spot ys d e) → ((d e : ℕ) → Spot ys d e → Spot xs d e) → Placed xs r at to out last → Placed ys r at to out last
+placed-same f g k = record {
   room = k .room;
-  each = λ T f.
-      let x = k .each T (wanted-swap b a ns w v ws o m os r at to T f) in
-      (x .0, holds-swap a b ns v w ws m o os to T last (x .1));
+  each = λ T w. let x = k .each T (λ d e s. w d e (f d e s)) in (x .0, λ d e s. x .1 d e (g d e s));
 }
 
--- A strip of the first axis, written line by line of the second.
-pub strip-more : (a v w o x : ℕ) (r : List ℤ) (at to l k i n : ℕ) (out₀ out last : List ℤ) → l ≤ i → i ≤ n → n ≡ l + k
-    → Placed (i ∷ (a ∷ [])) (w ∷ (v ∷ [])) (x ∷ (o ∷ [])) r at to out₀ out
-    → Placed (a ∷ (k ∷ [])) (v ∷ (w ∷ [])) (o ∷ (x ∷ [])) r (at + l * w) (to + l * x) out last
-    → Placed (n ∷ (a ∷ [])) (w ∷ (v ∷ [])) (x ∷ (o ∷ [])) r at to out₀ last
-strip-more a v w o x r at to l k i n out₀ out last h m e p q =
-    rw e (placed-strip (a ∷ []) w (v ∷ []) x (o ∷ []) r at to l k i out₀ out last h (omega arith) p (placed-swap a k [] v w [] o x [] r _ _ out last q))
+pub placed-swap : {a b : Axis} {rest : List Axis} {r : List ℤ} {at to : ℕ} {out last : List ℤ}
+    → Placed (a ∷ (b ∷ rest)) r at to out last → Placed (b ∷ (a ∷ rest)) r at to out last
+placed-swap k = placed-same (λ d e s. spot-swap s) (λ d e s. spot-swap s) k
+
+-- No position, one more, and a strip of them from l on.
+module _ {w o : ℕ} {rest : List Axis} {r : List ℤ} {at to : ℕ} where
+  pub placed-none : (out : List ℤ) → Placed (axisBy 0 w o ∷ rest) r at to out out
+  placed-none out = record { room = refl; each = λ T h. ((λ q e. e), λ d e s. none-agrees T d e s) }
+    where
+      none-agrees : (T : List ℤ) → Agrees (axisBy 0 w o ∷ rest) to T out
+      none-agrees T d e (further i c f l s p q) = absurd (omega arith)
+
+  pub placed-strip : {l k i n : ℕ} {out₀ out last : List ℤ} → l ≤ i → i ≤ n → n ≡ l + k → Placed (axisBy i w o ∷ rest) r at to out₀ out
+      → Placed (axisBy k w o ∷ rest) r (at + l * w) (to + l * o) out last → Placed (axisBy n w o ∷ rest) r at to out₀ last
+  placed-strip {l} {k} {i} {n} {out₀} {out} {last} h m z a b = record {
+    room = b .room ∙ a .room;
+    each = λ T f.
+        let x = a .each T (λ d e s. f d e (spot-fewer m s)) in
+        let y = b .each T (λ d e s. wanted T f d e s) in
+        ((λ q e. y .0 q (x .0 q e)), λ d e s. agrees T (x .1) (y .0) (y .1) d e s);
+  }
+    where
+      at-from : (x v d : ℕ) → x + l * v + d ≡ x + (l * v + d)
+      at-from x v d = omega arith
+
+      wanted : (T : List ℤ) → Wanted (axisBy n w o ∷ rest) r at to T → Wanted (axisBy k w o ∷ rest) r (at + l * w) (to + l * o) T
+      wanted T f d e s =
+          ap (λ x. getD T x (pos 0)) (at-from to o e) ∙ f _ _ (spot-from l (omega arith) s) ∙ ap (λ x. getD r x (pos 0)) (sym (at-from at w d))
+
+      agrees : (T : List ℤ) → Agrees (axisBy i w o ∷ rest) to T out → Kept T out last → Agrees (axisBy k w o ∷ rest) (to + l * o) T last
+          → Agrees (axisBy n w o ∷ rest) to T last
+      agrees T f g s d e (further j c v b t p q) = by (ltb j i) refl
+        where
+          by : (b : Bool) → ltb j i ≡ b → getD last (to + e) (pos 0) ≡ getD T (to + e) (pos 0)
+          by true y = g _ (f d e (further {a = axisBy i w o} j c v (ltb-true j i y) t p q))
+          by false y =
+              let y′ : i ≤ j = ltb-false j i y in
+              let u : l + (j - l) ≡ j = omega arith in
+              let x : to + l * o + ((j - l) * o + v) ≡ to + e = omega (arith, add-mul l (j - l) o, ap (λ k. k * o) u) in
+              rw x at (s _ _ (further {a = axisBy k w o} (j - l) c v (omega arith) t refl refl))
+
+  pub placed-more : {i : ℕ} {out₀ out last : List ℤ} → Placed (axisBy i w o ∷ rest) r at to out₀ out
+      → Placed rest r (at + i * w) (to + i * o) out last → Placed (axisBy (i + 1) w o ∷ rest) r at to out₀ last
+  placed-more a b = placed-strip (omega arith) (omega arith) refl a (placed-same (λ d e s. one-spot s) (λ d e s. spot-one s) b)
+
+  -- All positions.
+  pub placed-whole : {i n : ℕ} {out last : List ℤ} → (i ≤ n) × Placed (axisBy i w o ∷ rest) r at to out last → n ≤ i
+      → Placed (axisBy n w o ∷ rest) r at to out last
+  placed-whole {i} {n} p h = let e : i ≡ n = omega (arith, p .0) in rw e at (p .1)
 
 -- One element.
-kept-set : (T out : List ℤ) (to : ℕ) (v : ℤ) → to < length out → v ≡ getD T to (pos 0) → Kept T out (set out to v)
-kept-set T out to v h e q k = by (eqb q to) refl
-  where
-    by : (b : Bool) → eqb q to ≡ b → getD (set out to v) q (pos 0) ≡ getD T q (pos 0)
-    by true t =
-        let s : q ≡ to = eqb-true q to t in
-        ap (λ x. getD (set out to v) x (pos 0)) s ∙ getD-set-same out to v (pos 0) h ∙ e ∙ sym (ap (λ x. getD T x (pos 0)) s)
-    by false t = getD-set-other out to q v (pos 0) (eqb-false q to t) ∙ k
-
-holds-set : (T out : List ℤ) (to : ℕ) (v : ℤ) → to < length out → v ≡ getD T to (pos 0) → Holds [] [] to T (set out to v)
-unfolding dot
-holds-set T out to v h e [] q = rw add-zero (getD-set-same out to v (pos 0) h ∙ e)
-holds-set T out to v h e (j ∷ p) q = absurd (inside-in [] (j ∷ p) q)
-
-pub placed-set : (r : List ℤ) (at to : ℕ) (out : List ℤ) (v : ℤ) → to < length out → v ≡ getD r at (pos 0) → Placed [] [] [] r at to out (set out to v)
-unfolding dot
+pub placed-set : (r : List ℤ) (at to : ℕ) (out : List ℤ) (v : ℤ) → to < length out → v ≡ getD r at (pos 0) → Placed [] r at to out (set out to v)
 placed-set r at to out v h e = record {
   room = length-set out to v;
   each = λ T f.
-      let x : v ≡ getD T to (pos 0) = e ∙ sym (rw (add-zero to, add-zero at) at (f [] (in-inside [] [] tt))) in
-      (kept-set T out to v h x, holds-set T out to v h x);
+      let x : v ≡ getD T to (pos 0) = e ∙ sym (rw (add-zero to, add-zero at) at (f 0 0 (here refl refl))) in
+      ((λ q k. kept T x q k (eqb q to) refl), λ d f s. agrees T x d f s);
 }
+  where
+    kept : (T : List ℤ) → v ≡ getD T to (pos 0) → (q : ℕ) → getD out q (pos 0) ≡ getD T q (pos 0) → (b : Bool) → eqb q to ≡ b
+        → getD (set out to v) q (pos 0) ≡ getD T q (pos 0)
+    kept T x q k true t =
+        let s : q ≡ to = eqb-true q to t in
+        ap (λ y. getD (set out to v) y (pos 0)) s ∙ getD-set-same out to v (pos 0) h ∙ x ∙ sym (ap (λ y. getD T y (pos 0)) s)
+    kept T x q k false t = getD-set-other out to q v (pos 0) (eqb-false q to t) ∙ k
 
--- All places of some lengths, row by row.
-module _ (ns ws : List ℕ) (r : List ℤ) (at : ℕ) where
-  row : (p : List ℕ) → inside ns p ≡ true → 0 + dot p (strides ns) ≡ index ns p
-  row p q = zero-add (dot p (strides ns)) ∙ sym (index-dot ns p (in-length ns p (inside-in ns p q)))
-
-  wanted-all : Wanted ns ws (strides ns) r at 0 (walked ns ws r at)
-  unfolding walked
-  wanted-all p q =
-      let i : In ns p = inside-in ns p q in
-      ap (λ x. getD (walked ns ws r at) x (pos 0)) (row p q)
-      ∙ getD-tab (count ns) _ (index ns p) (pos 0) (index-lt ns p i)
-      ∙ ap (λ x. getD r (at + dot x ws) (pos 0)) (place-index ns p i)
-
-  pub placed-all : (out last : List ℤ) → length out ≡ count ns → Placed ns ws (strides ns) r at 0 out last → last ≡ walked ns ws r at
-  unfolding walked
-  placed-all out last e k =
-      ext-getD (pos 0) last (walked ns ws r at) (k .room ∙ e ∙ sym (length-tab (count ns) _))
-      (λ q l.
-      let l′ : q < count ns = omega (arith, k .room) in
-      let i = in-inside ns (place ns q) (place-in ns q l′) in
-      let x : 0 + dot (place ns q) (strides ns) ≡ q = row (place ns q) i ∙ index-place ns q l′ in
-      rw x at (k .each (walked ns ws r at) wanted-all .1 (place ns q) i))
+    agrees : (T : List ℤ) → v ≡ getD T to (pos 0) → Agrees [] to T (set out to v)
+    agrees T x d f (here p q) =
+        let z : to + f ≡ to = omega arith in
+        ap (λ y. getD (set out to v) y (pos 0)) z ∙ getD-set-same out to v (pos 0) h ∙ x ∙ sym (ap (λ y. getD T y (pos 0)) z)

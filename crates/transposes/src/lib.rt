@@ -1,19 +1,25 @@
 // Transpositions: 15 and 26. R's axis i goes to result axis t, and axes sent together give the diagonal.
 ghost use mathlib.Core.Path.{_≡_};
-ghost use mathlib.Core.List.{[], _∷_, map};
-ghost use Prim.Native.Nat.{ℕ, _+_, _*_, _-_, _≤_, _<_};
-ghost use lib.ListN.{length, take};
+ghost use mathlib.Core.List.{List, [], _∷_, _++_, map};
+ghost use mathlib.Core.Bool.{true, not, cond};
+ghost use Prim.Native.Nat.{_≤_, _<_};
+ghost use lib.ListN.{length, drop};
 ghost use lib.IntN.{ℤ, pos};
-ghost use Rattle.shape.specs.Shape.{maxRank, counted, count};
-ghost use Rattle.meaning.specs.Array.{Operand, arrayOf};
-ghost use Rattle.meaning.specs.Primitives.{backwards};
+ghost use Rattle.shape.specs.Shape.{maxRank, counted, count, goodShape, shapeOf};
+ghost use Rattle.meaning.specs.Array.{Operand, arrayOf, goodForm};
+ghost use Rattle.meaning.specs.Refusal.{number};
+ghost use Rattle.meaning.specs.Refusal.Refusal.{DOMAIN};
+ghost use Rattle.meaning.specs.Terms.{fromZero};
+ghost use Rattle.meaning.specs.Primitives.{backwards, sentLengths, transposeBy};
 ghost use Rattle.meaning.specs.Reply.{reply};
-ghost use Rattle.answer.specs.Answer.{lent, Replied};
-ghost use Rattle.transposes.specs.Strides.{strides, sentStrides, shortest, spaced, walked, Walk};
-ghost use Rattle.transposes.specs.Placed.{ReachAlong, PlacedAlong, PlacedRows, Blocks};
-ghost use Rattle.transposes.specs.Sent.{padded, axisOf, Chosen, Sends, Positive, Moves, sentReply};
+ghost use Rattle.answer.specs.Answer.{lent, own, Replied};
+ghost use Rattle.transposes.specs.Steps.Strides.{strides, sentStrides, LineIn, strided, walked, Walk};
+ghost use Rattle.transposes.specs.Steps.Placed.{Reach, Placed, rowAxes, Blocked};
+ghost use Rattle.transposes.specs.Steps.Sent.{Sending, SentBy, inDomain, allUsed, sentAxes, sentElements, Transposes, Moves};
 use answer::Answer;
+use answer::refusal;
 use shape::Shape;
+use signed::Found;
 
 // 15: axes in reverse order, whatever K and L are.
 pub fn transpose(g: i32, rs: Shape, r: &[i32], out: &mut [i32]) -> Answer
@@ -23,12 +29,15 @@ pub fn transpose(g: i32, rs: Shape, r: &[i32], out: &mut [i32]) -> Answer
     if early != 0 {
         return Answer::refused(early);
     }
-    let rank = rs.rank;
-    let to = backwards(rank);
-    let lens = lengths(to, rs);
-    let shape = Shape::of_lengths(rank, lens);
+    let sent = backwards(rs.rank);
+    let shape = sent_shape(sent, rs);
     let count = shape.count();
-    moved(to, shape, count, rs, r, out)
+    let late = answer::late(count, out.len());
+    if late != 0 {
+        return Answer::refused(late);
+    }
+    transpose_into(sent, shape, count, rs, r, out);
+    Answer::given(shape)
 }
 
 // 26: axis i goes to L's element i less G, whatever K is.
@@ -39,33 +48,171 @@ pub fn transpose_by(g: i32, ls: Shape, l: &[i32], rs: Shape, r: &[i32], out: &mu
     if early != 0 {
         return Answer::refused(early);
     }
-    let rank = rs.rank;
+    let sent = sent_by(g, ls, l, rs);
+    let own = sent.own;
+    if own != 0 {
+        return Answer::refused(own);
+    }
+    let shape = sent_shape(sent, rs);
+    let total = shape.count();
+    let late = answer::late(total, out.len());
+    if late != 0 {
+        return Answer::refused(late);
+    }
+    transpose_into(sent, shape, total, rs, r, out);
+    Answer::given(shape)
+}
+
+// Where R's axes are sent: axis i to axis `to[i]`, of `axes` axes in all. With a refusal of the primitive's own, `own`, they are sent nowhere; it is 0
+// where none is met.
+struct Sent {
+    own: usize,
+    axes: usize,
+    to: [usize; Shape::MAX_RANK],
+}
+
+fn nowhere(own: usize) -> Sent
+    ensures { λ s. ⌜ s .own ≡ own ⌝ }
+{
+    let to = [0; Shape::MAX_RANK];
+    Sent { own, axes: 0, to }
+}
+
+// 15 sends axis i to rank - 1 - i.
+fn backwards(rank: usize) -> Sent
+    requires { ⌜ rank ≤ maxRank ⌝ }
+    ensures { λ s. ⌜ SentBy s (backwards rank) ⌝ }
+{
+    let mut to = [0; Shape::MAX_RANK];
+    let mut i = 0;
+    while i < rank {
+        to[i] = rank - 1 - i;
+        i += 1;
+    }
+    Sent {
+        own: 0,
+        axes: rank,
+        to,
+    }
+}
+
+// 26 sends axis i to L's element i less G: RANK, LENGTH and DOMAIN, whatever R's elements are.
+fn sent_by(g: i32, ls: Shape, l: &[i32], rs: Shape) -> Sent
+    requires { ⌜ (goodForm (lent ls (now l)) ≡ true) × (goodShape rs ≡ true) ⌝ }
+    ensures { λ s.
+        ⌜ ((b : List ℤ) → Sending s (own 26 (transposeBy g (arrayOf (lent ls (now (l .entry)))) (arrayOf (lent rs b)) .refusals))
+        (map (fromZero g) (arrayOf (lent ls (now (l .entry))) .elements))) ⌝ }
+{
     if 1 < ls.rank {
-        return Answer::refused(4);
+        return nowhere(refusal::RANK);
     }
+    let rank = rs.rank;
     if ls.count() != rank {
-        return Answer::refused(6);
+        return nowhere(refusal::LENGTH);
     }
-    let sent = chosen(g, &l[0..rank]);
-    let axes = sent.axes;
-    if rank < axes {
-        return Answer::refused(7);
+    chosen(g, &l[0..rank])
+}
+
+// DOMAIN: each element names an axis, and all of 0 to the largest occur.
+fn chosen(g: i32, l: &[i32]) -> Sent
+    requires { ⌜ length (now l) ≤ maxRank ⌝ }
+    ensures { λ s.
+        ⌜ Sending s (cond (not (inDomain g (length (now (l .entry))) (now (l .entry)))) (number DOMAIN) 0) (map (fromZero g) (now (l .entry))) ⌝ }
+{
+    let rank = l.len();
+    let mut used = [false; Shape::MAX_RANK];
+    let mut to = [0; Shape::MAX_RANK];
+    let mut axes = 0;
+    let mut i = 0;
+    while i < rank {
+        let Found::At(axis) = signed::position(l[i], g, rank) else {
+            return nowhere(refusal::DOMAIN);
+        };
+        to[i] = axis;
+        used[axis] = true;
+        if axes <= axis {
+            axes = axis + 1;
+        }
+        i += 1;
     }
+    if all_used(used, axes) {
+        Sent { own: 0, axes, to }
+    } else {
+        nowhere(refusal::DOMAIN)
+    }
+}
+
+// Whether each of so many axes is used.
+fn all_used(used: [bool; Shape::MAX_RANK], axes: usize) -> bool
+    requires { ⌜ axes ≤ maxRank ⌝ }
+    ensures { λ all. ⌜ all ≡ allUsed used axes ⌝ }
+{
+    let mut i = 0;
+    while i < axes {
+        if !used[i] {
+            return false;
+        }
+        i += 1;
+    }
+    true
+}
+
+// The result's shape: of the lengths sent to each axis the smallest. None is above the limit.
+fn sent_shape(sent: Sent, rs: Shape) -> Shape
+    requires { ⌜ Transposes sent rs ⌝ }
+    ensures { λ s. ⌜ s ≡ shapeOf (sentLengths (sentAxes sent rs) (counted rs)) ⌝ }
+{
     let to = sent.to;
-    let lens = lengths(to, rs);
-    let shape = Shape::of_lengths(axes, lens);
-    let count = shape.count();
-    // An axis to which none is sent has a length above the limit.
-    if Shape::MAX_COUNT < count {
-        return Answer::refused(7);
+    let mut lens = [Shape::MAX_COUNT; Shape::MAX_RANK];
+    let mut i = rs.rank;
+    while 0 < i {
+        i -= 1;
+        let t = to[i];
+        let n = rs.lens[i];
+        if n < lens[t] {
+            lens[t] = n;
+        }
     }
-    moved(to, shape, count, rs, r, out)
+    Shape::of_lengths(sent.axes, lens)
+}
+
+// The elements of the result, `total` in all.
+fn transpose_into(sent: Sent, shape: Shape, total: usize, rs: Shape, r: &[i32], out: &mut [i32])
+    requires { ⌜ Moves sent shape total (lent rs (now r)) (length (now out)) ⌝ }
+    ensures { λ _.
+        ⌜ now (out .exit) ≡ sentElements (sentAxes sent rs) (arrayOf (lent rs (now (r .entry)))) ++ drop total (now (out .entry)) ⌝ }
+{
+    if total == 0 {
+        return;
+    }
+    let axes = shape.rank;
+    let lens = shape.lens;
+    let steps = strides(sent, rs);
+    walk(&lens[0..axes], &steps[0..axes], r, 0, &mut out[0..total]);
+}
+
+// The strides in R of the axes sent to each axis, added up. No length of R is 0, so that no product is above R's count.
+fn strides(sent: Sent, rs: Shape) -> [usize; Shape::MAX_RANK]
+    requires { ⌜ Transposes sent rs × (0 < count (counted rs)) ⌝ }
+    ensures { λ ws. ⌜ ws ≡ sentStrides maxRank (sentAxes sent rs) (strides (counted rs)) ⌝ }
+{
+    let to = sent.to;
+    let mut sums = [0; Shape::MAX_RANK];
+    let mut step = 1;
+    let mut i = rs.rank;
+    while 0 < i {
+        i -= 1;
+        let t = to[i];
+        sums[t] = sums[t] + step;
+        step = step * rs.lens[i];
+    }
+    sums
 }
 
 // Elements of r that stand `stride` apart, from the one at `at` on.
 fn spread(stride: usize, r: &[i32], at: usize, out: &mut [i32])
-    requires { ⌜ ((i : ℕ) → i < length (now out) → at + i * stride < length (now r)) ⌝ }
-    ensures { λ _. ⌜ now (out .exit) ≡ spaced (length (now (out .entry))) stride (now (r .entry)) at ⌝ }
+    requires { ⌜ LineIn (length (now out)) stride at (length (now r)) ⌝ }
+    ensures { λ _. ⌜ now (out .exit) ≡ strided (length (now (out .entry))) stride (now (r .entry)) at ⌝ }
 {
     let n = out.len();
     let mut i = 0;
@@ -78,8 +225,8 @@ fn spread(stride: usize, r: &[i32], at: usize, out: &mut [i32])
 
 // The same, by a run where they are neighbours.
 fn line(stride: usize, r: &[i32], at: usize, out: &mut [i32])
-    requires { ⌜ (0 < length (now out)) × ((i : ℕ) → i < length (now out) → at + i * stride < length (now r)) ⌝ }
-    ensures { λ _. ⌜ now (out .exit) ≡ spaced (length (now (out .entry))) stride (now (r .entry)) at ⌝ }
+    requires { ⌜ (0 < length (now out)) × LineIn (length (now out)) stride at (length (now r)) ⌝ }
+    ensures { λ _. ⌜ now (out .exit) ≡ strided (length (now (out .entry))) stride (now (r .entry)) at ⌝ }
 {
     if stride == 1 {
         let end = at + out.len();
@@ -112,8 +259,8 @@ fn last_axis(length: usize, stride: usize) -> Axis
 
 // The elements of r along an axis, from the one at `at` on, each to its place from `to` on.
 fn put_line(axis: Axis, r: &[i32], at: usize, to: usize, out: &mut [i32])
-    requires { ⌜ ReachAlong (axis ∷ []) at (length (now r)) to (length (now out)) ⌝ }
-    ensures { λ _. ⌜ PlacedAlong (axis ∷ []) (now (r .entry)) at to (now (out .entry)) (now (out .exit)) ⌝ }
+    requires { ⌜ Reach (axis ∷ []) at (length (now r)) to (length (now out)) ⌝ }
+    ensures { λ _. ⌜ Placed (axis ∷ []) (now (r .entry)) at to (now (out .entry)) (now (out .exit)) ⌝ }
 {
     let n = axis.length;
     let stride = axis.stride;
@@ -129,8 +276,8 @@ fn put_line(axis: Axis, r: &[i32], at: usize, to: usize, out: &mut [i32])
 
 // The same along two axes, line by line.
 fn put_plane(axis: Axis, line: Axis, r: &[i32], at: usize, to: usize, out: &mut [i32])
-    requires { ⌜ ReachAlong (axis ∷ (line ∷ [])) at (length (now r)) to (length (now out)) ⌝ }
-    ensures { λ _. ⌜ PlacedAlong (axis ∷ (line ∷ [])) (now (r .entry)) at to (now (out .entry)) (now (out .exit)) ⌝ }
+    requires { ⌜ Reach (axis ∷ (line ∷ [])) at (length (now r)) to (length (now out)) ⌝ }
+    ensures { λ _. ⌜ Placed (axis ∷ (line ∷ [])) (now (r .entry)) at to (now (out .entry)) (now (out .exit)) ⌝ }
 {
     let n = axis.length;
     let stride = axis.stride;
@@ -146,8 +293,8 @@ fn put_plane(axis: Axis, line: Axis, r: &[i32], at: usize, to: usize, out: &mut 
 
 // The same along the last axis and another, strip by strip of the last. The last strip may overlap the one before it.
 fn put_strips(last: Axis, near: Axis, r: &[i32], at: usize, to: usize, out: &mut [i32])
-    requires { do ⌜ ((← ⟦TILE⟧) ≤ last .length) × ReachAlong (last ∷ (near ∷ [])) at (length (now r)) to (length (now out)) ⌝ }
-    ensures { λ _. ⌜ PlacedAlong (last ∷ (near ∷ [])) (now (r .entry)) at to (now (out .entry)) (now (out .exit)) ⌝ }
+    requires { do ⌜ ((← ⟦TILE⟧) ≤ last .length) × Reach (last ∷ (near ∷ [])) at (length (now r)) to (length (now out)) ⌝ }
+    ensures { λ _. ⌜ Placed (last ∷ (near ∷ [])) (now (r .entry)) at to (now (out .entry)) (now (out .exit)) ⌝ }
 {
     let stride = last.stride;
     let step = last.step;
@@ -171,8 +318,8 @@ fn put_strips(last: Axis, near: Axis, r: &[i32], at: usize, to: usize, out: &mut
 
 // The same, however long the last axis is. A short one is done line by line of the other. One with a short stride in R needs no strips.
 fn put_block(near: Axis, last: Axis, r: &[i32], at: usize, to: usize, out: &mut [i32])
-    requires { ⌜ ReachAlong (near ∷ (last ∷ [])) at (length (now r)) to (length (now out)) ⌝ }
-    ensures { λ _. ⌜ PlacedAlong (near ∷ (last ∷ [])) (now (r .entry)) at to (now (out .entry)) (now (out .exit)) ⌝ }
+    requires { ⌜ Reach (near ∷ (last ∷ [])) at (length (now r)) to (length (now out)) ⌝ }
+    ensures { λ _. ⌜ Placed (near ∷ (last ∷ [])) (now (r .entry)) at to (now (out .entry)) (now (out .exit)) ⌝ }
 {
     if last.length < TILE {
         put_plane(last, near, r, at, to, out);
@@ -196,8 +343,8 @@ fn put_blocks(
     to: usize,
     out: &mut [i32],
 )
-    requires { ⌜ Blocks near (now lens) (now strides) size at (length (now r)) to (length (now out)) ⌝ }
-    ensures { λ _. ⌜ PlacedRows near (now (lens .entry)) (now (strides .entry)) (now (r .entry)) at to (now (out .entry)) (now (out .exit)) ⌝ }
+    requires { ⌜ Blocked near (now lens) (now strides) size at (length (now r)) to (length (now out)) ⌝ }
+    ensures { λ _. ⌜ Placed (near ∷ rowAxes (now (lens .entry)) (now (strides .entry))) (now (r .entry)) at to (now (out .entry)) (now (out .exit)) ⌝ }
 {
     let rank = lens.len();
     let n = lens[0];
@@ -292,104 +439,4 @@ fn walk(lens: &[usize], strides: &[usize], r: &[i32], at: usize, out: &mut [i32]
         );
         i += 1;
     }
-}
-
-// 15 sends axis i to rank - 1 - i.
-fn backwards(rank: usize) -> [usize; Shape::MAX_RANK]
-    requires { ⌜ rank ≤ maxRank ⌝ }
-    ensures { λ to. ⌜ to ≡ padded (backwards rank) ⌝ }
-{
-    let mut to = [0; Shape::MAX_RANK];
-    let mut i = 0;
-    while i < rank {
-        to[i] = rank - 1 - i;
-        i += 1;
-    }
-    to
-}
-
-// The axes to which L's elements send R's, and one more than the largest of them.
-struct Sent {
-    axes: usize,
-    to: [usize; Shape::MAX_RANK],
-}
-
-// An element that is no axis counts as the axis after the last.
-fn chosen(g: i32, l: &[i32]) -> Sent
-    requires { ⌜ length (now l) ≤ maxRank ⌝ }
-    ensures { λ s. ⌜ Chosen (map (axisOf g (length (now (l .entry)))) (now (l .entry))) (s .axes) (s .to) ⌝ }
-{
-    let rank = l.len();
-    let mut to = [0; Shape::MAX_RANK];
-    let mut axes = 0;
-    let mut i = 0;
-    while i < rank {
-        let t = signed::position(l[i], g, rank);
-        to[i] = t;
-        if axes <= t {
-            axes = t + 1;
-        }
-        i += 1;
-    }
-    Sent { axes, to }
-}
-
-// Of the lengths sent to each axis the smallest; one above the limit where none is sent.
-fn lengths(to: [usize; Shape::MAX_RANK], rs: Shape) -> [usize; Shape::MAX_RANK]
-    requires { ⌜ Sends (take (rs .rank) to) (rs .rank) ⌝ }
-    ensures { λ ns. ⌜ ns ≡ shortest maxRank (take (rs .rank) to) (counted rs) ⌝ }
-{
-    let mut lens = [Shape::MAX_COUNT + 1; Shape::MAX_RANK];
-    let mut i = rs.rank;
-    while 0 < i {
-        i -= 1;
-        let t = to[i];
-        let n = rs.lens[i];
-        if n < lens[t] {
-            lens[t] = n;
-        }
-    }
-    lens
-}
-
-// The strides in R of the axes sent to each axis, added up. No length of R is 0, so that no product is above R's count.
-fn strides(to: [usize; Shape::MAX_RANK], rs: Shape) -> [usize; Shape::MAX_RANK]
-    requires { ⌜ Sends (take (rs .rank) to) (rs .rank) × Positive (counted rs) ⌝ }
-    ensures { λ ws. ⌜ ws ≡ sentStrides maxRank (take (rs .rank) to) (strides (counted rs)) ⌝ }
-{
-    let mut sums = [0; Shape::MAX_RANK];
-    let mut step = 1;
-    let mut i = rs.rank;
-    while 0 < i {
-        i -= 1;
-        let t = to[i];
-        sums[t] = sums[t] + step;
-        step = step * rs.lens[i];
-    }
-    sums
-}
-
-// The result of a shape whose axes R's are sent to, if there is room.
-fn moved(
-    to: [usize; Shape::MAX_RANK],
-    shape: Shape,
-    count: usize,
-    rs: Shape,
-    r: &[i32],
-    out: &mut [i32],
-) -> Answer
-    requires { ⌜ Moves (take (rs .rank) to) shape count (lent rs (now r)) ⌝ }
-    ensures { λ a. ⌜ Replied a (now (out .exit)) (sentReply (take (rs .rank) to) (arrayOf (lent rs (now (r .entry)))) (now (out .entry))) ⌝ }
-{
-    if out.len() < count {
-        return Answer::refused(10);
-    }
-    if count == 0 {
-        return Answer { number: 0, shape };
-    }
-    let axes = shape.rank;
-    let lens = shape.lens;
-    let steps = strides(to, rs);
-    walk(&lens[0..axes], &steps[0..axes], r, 0, &mut out[0..count]);
-    Answer { number: 0, shape }
 }

@@ -1,19 +1,17 @@
-use Prim.Native.Nat.{ℕ, _-_, _≤_, _<_}
+use Prim.Native.Nat.{ℕ, _+_, _*_, _-_, _/_, _≤_, _<_}
 use native.Mathlib.Omega.{arith}
-use mathlib.Core.Path.{_≡_}
 use mathlib.Core.List.{_∷_}
 use lib.ListN.{length, getD}
 use denote.Ref.{now}
 use borrow.Author.Needs.{needs}
-use Rattle.transposes.specs.Strides.{strides}
-use Rattle.transposes.specs.Placed.{Placed}
-use Rattle.transposes.proofs.Walking.{others, others-fewer}
-use Rattle.transposes.proofs.Blocking.{reach-block, placed-block, Parts, parts, blocks-none, blocks-more, blocks-all}
+use Rattle.transposes.specs.Steps.Placed.{Placed, rowAxes}
+use Rattle.transposes.proofs.Placing.{axisBy, placed-none, placed-more, placed-swap}
+use Rattle.transposes.proofs.Walking.{others, others-fewer, rows-one, blocked-first, blocked-from, blocked-inner, blocked-all}
 use borrow.Fn.Kinds.{In}
 use borrow.Fn.PlainCycle.{Measures, is, falls, and}
 use Rattle.transposes.proofs.put_blocks.Reads as put-blocks
 use Rattle.transposes.proofs.put_blocks.Kinds as put-blocks-kinds
-use Rattle.transposes.proofs.+put_blocks.Lts-put_blocks as put-blocks-lts
+use Rattle.transposes.proofs.+put_blocks.Lts-put_blocks as lts
 use Rattle.transposes.proofs.last_axis.Reads as last-axis-reads
 use Rattle.transposes.proofs.put_block.Reads as put-block-reads
 use Rattle.transposes.proofs.+put_blocks.{statement}
@@ -22,133 +20,101 @@ use Rattle.transposes.proofs.+put_blocks.Tie.{close}
 abbrev μ-put-blocks : Measures 4 put-blocks-kinds.ps ℕ
 μ-put-blocks κs a = length (now (a .1 .0))
 
-abbrev put-blocks-at : ℕ → In 4 put-blocks-kinds.ps
-put-blocks-at t =
-    and 4 put-blocks-kinds.ps (is 4 put-blocks-kinds.ps μ-put-blocks t) put-blocks.Pre
+abbrev here : ℕ → In 4 put-blocks-kinds.ps
+here t = and 4 put-blocks-kinds.ps (is 4 put-blocks-kinds.ps μ-put-blocks t) put-blocks.Pre
 
-abbrev put-blocks-below : ℕ → In 4 put-blocks-kinds.ps
-put-blocks-below t =
-    and 4 put-blocks-kinds.ps (falls 4 put-blocks-kinds.ps _<_ μ-put-blocks t) put-blocks.Pre
+abbrev below : ℕ → In 4 put-blocks-kinds.ps
+below t = and 4 put-blocks-kinds.ps (falls 4 put-blocks-kinds.ps _<_ μ-put-blocks t) put-blocks.Pre
 
-abbrev put-blocks-Inv-loop : put-blocks-lts.InvT-loop
-put-blocks-Inv-loop near lens ws size r at to out₀ rank n apart step i₀ out i =
-    (i ≤ n) × Placed (near .length ∷ (i ∷ others rank lens)) (near .stride ∷ (apart ∷ others rank ws)) (near .step ∷ (step ∷ strides (others rank lens))) r at to out₀ out
+abbrev Inv-loop : lts.InvT-loop
+Inv-loop near lens ws size r at to out₀ rank n apart step i₀ out i =
+    (i ≤ n) × Placed (near ∷ (axisBy i apart step ∷ rowAxes (others rank lens) (others rank ws))) r at to out₀ out
 
-abbrev put-blocks-μ-loop : put-blocks-lts.MeasureT-loop
-put-blocks-μ-loop near lens ws size r at to out₀ rank n apart step i₀ out i = n - i
+abbrev μ-loop : lts.MeasureT-loop
+μ-loop near lens ws size r at to out₀ rank n apart step i₀ out i = n - i
 
 -- What is asked and learnt at each call.
-abbrev claims : ℕ → put-blocks-lts.Claims
-claims t = (
-  last-axis-reads.Asked,
-  last-axis-reads.Learnt,
-  put-block-reads.Asked,
-  put-block-reads.Learnt,
-  put-blocks-below t,
-  put-blocks.Post,
-)
+abbrev claims : ℕ → lts.Claims
+claims t = (last-axis-reads.Asked, last-axis-reads.Learnt, put-block-reads.Asked, put-block-reads.Learnt, below t, put-blocks.Post)
 
--- What is known of the first of the other axes and those after it.
-known : (t : ℕ) (c : put-blocks-lts.Else1 (claims t) (put-blocks-at t) put-blocks.Post put-blocks-Inv-loop put-blocks-μ-loop)
-    → let a = c .before .before .before .before .before .args in
-    Parts (a .near) (a .lens .now) (a .strides .now) (a .size) (a .at) (length (a .r .now)) (a .to) (length (a .out .now))
-known t c =
-    let s = c .before .before .before .before .before in
-    parts _ _ _ _ _ _ _ _ (s .pre .1) (omega (arith, s .pre .1 .some))
+-- Points of the code: the beginning, where the first axis is read, and the loop.
+abbrev Start : ℕ → Type 0
+Start t = lts.Start (claims t) (here t) put-blocks.Post Inv-loop μ-loop
 
-put-blocks-shared-slice-read-n : (t : ℕ) → put-blocks-lts.Need-shared-slice-read-n (claims t) (put-blocks-at t) put-blocks.Post put-blocks-Inv-loop put-blocks-μ-loop
-put-blocks-shared-slice-read-n t c = omega (arith, c .before .before .before .pre .1 .some)
+abbrev Read : ℕ → Type 0
+Read t = lts.After-shared-slice-known4 (claims t) (here t) put-blocks.Post Inv-loop μ-loop
 
-put-blocks-shared-slice-read-apart : (t : ℕ) → put-blocks-lts.Need-shared-slice-read-apart (claims t) (put-blocks-at t) put-blocks.Post put-blocks-Inv-loop put-blocks-μ-loop
-put-blocks-shared-slice-read-apart t c = omega (arith, c .before .before .before .before .pre .1 .some, c .before .before .before .before .pre .1 .axes)
+abbrev Loop : ℕ → Type 0
+Loop t = lts.At-loop (claims t) (here t) put-blocks.Post Inv-loop μ-loop
 
-put-blocks-put-block-requires : (t : ℕ) → put-blocks-lts.Need-put-block-requires (claims t) (put-blocks-at t) put-blocks.Post put-blocks-Inv-loop put-blocks-μ-loop
-put-blocks-put-block-requires t c κs = rw (c .before .last-axis .ensures) (reach-block _ _ _ _ _ _ _ _ (c .before .before .before .before .before .before .before .pre .1) (c .before .before .if1 .taken))
+abbrev begun : (t : ℕ) → Read t → Start t
+begun t c = c .before .before .before .before
 
-put-blocks-returns : (t : ℕ) → put-blocks-lts.Need-returns (claims t) (put-blocks-at t) put-blocks.Post put-blocks-Inv-loop put-blocks-μ-loop
-put-blocks-returns t c =
-    let s = c .before .before .before .before .before .before .before .before .before in
-    let last = c .before .before .before .last-axis .ensures in
-    placed-block (s .args .near) (s .args .lens .now) (s .args .strides .now) (s .args .r .now) (s .args .at) (s .args .to) (s .args .out .now) _ (s .pre .1 .axes) (c .before .before .before .before .if1 .taken) (rw last at (c .before .put-block .ensures))
+abbrev start : (t : ℕ) → Loop t → Start t
+start t c = begun t (c .before .before)
 
-put-blocks-div-step : (t : ℕ) → put-blocks-lts.Need-div-step (claims t) (put-blocks-at t) put-blocks.Post put-blocks-Inv-loop put-blocks-μ-loop
-put-blocks-div-step t c = known t c .first
+abbrev turned : (t : ℕ) → lts.After-out2 (claims t) (here t) put-blocks.Post Inv-loop μ-loop → lts.In-loop (claims t) (here t) put-blocks.Post Inv-loop μ-loop
+turned t c = c .before .before .before .before .before
 
-put-blocks-loop-holds : (t : ℕ) → put-blocks-lts.Need-loop-holds (claims t) (put-blocks-at t) put-blocks.Post put-blocks-Inv-loop put-blocks-μ-loop
-put-blocks-loop-holds t c = (omega arith, blocks-none _ _ _ _ _ _ _ _ _ _ _ _)
+-- One axis is left: a block.
+put-block-requires : (t : ℕ) → lts.Need-put-block-requires (claims t) (here t) put-blocks.Post Inv-loop μ-loop
+put-block-requires t c κs =
+    let b = c .before in
+    let k = begun t (b .before .before) .pre .1 in
+    rw (b .last-axis .ensures) (rw (rows-one _ _ (b .before .if1 .taken) (k .axes)) at (k .reach))
 
-put-blocks-mul-from : (t : ℕ) → put-blocks-lts.Need-mul-from (claims t) (put-blocks-at t) put-blocks.Post put-blocks-Inv-loop put-blocks-μ-loop
-put-blocks-mul-from t c = omega (arith, known t (c .before .before) .from (c .before .loop .i) (omega arith) .0)
+returns : (t : ℕ) → lts.Need-returns (claims t) (here t) put-blocks.Post Inv-loop μ-loop
+returns t c =
+    let b = c .before .before .before in
+    let k = begun t (b .before .before) .pre .1 in
+    rw (rows-one _ _ (b .before .if1 .taken) (k .axes)) (rw (b .last-axis .ensures) at (c .before .put-block .ensures))
 
-put-blocks-add-from : (t : ℕ) → put-blocks-lts.Need-add-from (claims t) (put-blocks-at t) put-blocks.Post put-blocks-Inv-loop put-blocks-μ-loop
-put-blocks-add-from t c = omega (arith, known t (c .before .before) .from (c .before .loop .i) (omega arith) .0)
+-- Where a part starts, in R and in the result.
+from : (t : ℕ) (c : lts.In-loop (claims t) (here t) put-blocks.Post Inv-loop μ-loop)
+    → let a = start t (c .before) .args in
+    let i = c .before .loop .i in
+    (a .at + i * getD (a .strides .now) 0 0 < length (a .r .now)) × (a .to + i * (a .size / getD (a .lens .now) 0 0) < length (a .out .now))
+from t c = blocked-from (start t (c .before) .pre .1) _ (omega arith)
 
-put-blocks-mul-place : (t : ℕ) → put-blocks-lts.Need-mul-place (claims t) (put-blocks-at t) put-blocks.Post put-blocks-Inv-loop put-blocks-μ-loop
-put-blocks-mul-place t c = omega (arith, known t (c .before .before) .from (c .before .loop .i) (omega arith) .1)
-
-put-blocks-add-place : (t : ℕ) → put-blocks-lts.Need-add-place (claims t) (put-blocks-at t) put-blocks.Post put-blocks-Inv-loop put-blocks-μ-loop
-put-blocks-add-place t c = omega (arith, known t (c .before .before) .from (c .before .loop .i) (omega arith) .1)
-
-put-blocks-part-put-blocks-end-2 : (t : ℕ) → put-blocks-lts.Need-part-put-blocks-end-2 (claims t) (put-blocks-at t) put-blocks.Post put-blocks-Inv-loop put-blocks-μ-loop
-put-blocks-part-put-blocks-end-2 t c = omega (arith, c .before .before .before .before .before .before .before .before .pre .1 .axes)
-
-put-blocks-put-blocks-requires : (t : ℕ) → put-blocks-lts.Need-put-blocks-requires (claims t) (put-blocks-at t) put-blocks.Post put-blocks-Inv-loop put-blocks-μ-loop
-put-blocks-put-blocks-requires t c κs =
-    let l = c .before .before .before in
-    let lp = l .before .loop in
-    let s = l .before .before .before .before .before .before .before in (
-      omega (arith, others-fewer (s .args .lens .now) (s .pre .1 .some), s .pre .0),
-      known t (l .before .before) .inner (lp .i) _ (omega arith) (lp .inv .1 .room),
+put-blocks-requires : (t : ℕ) → lts.Need-put-blocks-requires (claims t) (here t) put-blocks.Post Inv-loop μ-loop
+put-blocks-requires t c κs =
+    let n = c .before .before .before in
+    let l = n .before in
+    let k = start t l .pre in (
+      omega (arith, others-fewer (start t l .args .lens .now) (k .1 .some), k .0),
+      rw (l .loop .inv .1 .room) (blocked-inner (k .1) _ (omega arith) (omega (arith, k .1 .some))),
     )
 
-put-blocks-add-i : (t : ℕ) → put-blocks-lts.Need-add-i (claims t) (put-blocks-at t) put-blocks.Post put-blocks-Inv-loop put-blocks-μ-loop
-put-blocks-add-i t c = omega (arith, c .before .before .before .before .before .loop-test, c .before .before .before .before .before .before .before .before .before .shared-slice-known3 .given 0)
-
-put-blocks-loop-again : (t : ℕ) → put-blocks-lts.Need-loop-again (claims t) (put-blocks-at t) put-blocks.Post put-blocks-Inv-loop put-blocks-μ-loop
-put-blocks-loop-again t c =
-    let lp = c .before .before .before .before .before .before .loop in
-    let a = c .before .before .before .before .before .before .before .before .before .before .before .before .args in
-    (omega arith, blocks-more _ _ _ _ _ _ _ _ (a .r .now) (a .at) (a .to) (lp .i) (a .out .now) (lp .out) _ (lp .inv .1) (c .before .put-blocks .ensures))
-
-put-blocks-same-length-2 : (t : ℕ) → put-blocks-lts.Need-same-length-2 (claims t) (put-blocks-at t) put-blocks.Post put-blocks-Inv-loop put-blocks-μ-loop
-put-blocks-same-length-2 t c = c .before .loop .inv .1 .room
-
-put-blocks-returns-2 : (t : ℕ) → put-blocks-lts.Need-returns-2 (claims t) (put-blocks-at t) put-blocks.Post put-blocks-Inv-loop put-blocks-μ-loop
-put-blocks-returns-2 t c =
-    let lp = c .before .loop in
-    let s = c .before .before .before .before .before .before .before in
-    let a = s .args in
-    let e : lp .i ≡ getD (a .lens .now) 0 0 = omega arith in
-    blocks-all (a .near) (a .lens .now) (a .strides .now) _ _ (a .r .now) (a .at) (a .to) (a .out .now) (lp .out) (s .pre .1 .some) (s .pre .1 .axes) e
-    (known t (c .before .before) .step) (lp .inv .1)
+loop-again : (t : ℕ) → lts.Need-loop-again (claims t) (here t) put-blocks.Post Inv-loop μ-loop
+loop-again t c = (omega arith, placed-swap (placed-more (placed-swap (turned t c .before .loop .inv .1)) (c .before .put-blocks .ensures)))
 
 pub +put-blocks-spec : {M : Type 1} → statement M
-+put-blocks-spec = close μ-put-blocks λ t. put-blocks-lts.spec (claims t)
-    (put-blocks-at t)
++put-blocks-spec = close μ-put-blocks λ t. lts.spec (claims t)
+    (here t)
     put-blocks.Post
-    put-blocks-Inv-loop
-    put-blocks-μ-loop
-    (put-blocks-shared-slice-read-n t)
-    (put-blocks-shared-slice-read-apart t)
+    Inv-loop
+    μ-loop
+    (λ c. omega (arith, c .before .before .before .pre .1 .some))
+    (λ c. omega (arith, begun t c .pre .1 .some, begun t c .pre .1 .axes))
     (λ c κs. search needs)
-    (put-blocks-put-block-requires t)
+    (put-block-requires t)
     (λ c. search needs)
-    (put-blocks-returns t)
-    (put-blocks-div-step t)
-    (put-blocks-loop-holds t)
-    (put-blocks-mul-from t)
-    (put-blocks-add-from t)
-    (put-blocks-mul-place t)
-    (put-blocks-add-place t)
-    (λ c. search needs)
-    (λ c. search needs)
+    (returns t)
+    (λ c. blocked-first (begun t (c .before) .pre .1))
+    (λ c. (omega arith, placed-swap (placed-none _)))
+    (λ c. omega (arith, from t c))
+    (λ c. omega (arith, from t c))
+    (λ c. omega (arith, from t c))
+    (λ c. omega (arith, from t c))
     (λ c. search needs)
     (λ c. search needs)
     (λ c. search needs)
-    (put-blocks-part-put-blocks-end-2 t)
-    (put-blocks-put-blocks-requires t)
-    (put-blocks-add-i t)
     (λ c. search needs)
-    (put-blocks-loop-again t)
-    (put-blocks-same-length-2 t)
-    (put-blocks-returns-2 t)
+    (λ c. search needs)
+    (λ c. omega (arith, start t (c .before .before) .pre .1 .axes))
+    (put-blocks-requires t)
+    (λ c. let n = turned t c in let e = n .before .before in omega (arith, n .loop-test, e .before .before .shared-slice-known3 .given 0))
+    (λ c. search needs)
+    (loop-again t)
+    (λ c. c .before .loop .inv .1 .room)
+    (λ c. blocked-all (start t (c .before) .pre .1) _ (omega arith) (c .before .loop .inv .1))

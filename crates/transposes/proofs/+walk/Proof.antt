@@ -1,19 +1,21 @@
 use Prim.Native.Nat.{ℕ, _+_, _*_, _-_, _/_, _≤_, _<_}
-use native.Mathlib.Nat.{mul-le-mul-right}
+use native.Mathlib.Nat.{zero-mul}
 use native.Mathlib.Omega.{arith}
-use mathlib.Core.Path.{_≡_, refl, sym, ap, _∙_}
+use mathlib.Core.Path.{refl, _∙_}
+use mathlib.Core.List.{_∷_}
 use lib.ListN.{length, getD}
 use denote.Ref.{now}
 use borrow.Author.Needs.{needs}
-use Rattle.shape.specs.Shape.{count}
-use Rattle.copying.proofs.Runs.{filled, length-filled}
-use Rattle.copying.proofs.Parts.{part-room, filled-start}
-use Rattle.transposes.proofs.Walking.{others, others-fewer, reached, Rows, rows, walked-one, walked-line, walked-more, walked-all, reach-one, reach-line}
 use borrow.Fn.Kinds.{In}
 use borrow.Fn.PlainCycle.{Measures, is, falls, and}
+use Rattle.copying.proofs.Blockwise.{Blockwise, blockwise-none}
+use Rattle.copying.proofs.Parts.{part-room}
+use Rattle.transposes.specs.Steps.Strides.{Walk}
+use Rattle.transposes.proofs.Walking.{others, others-fewer, reached, walk-rows, walk-inner, walk-from, walk-split, walked-split}
+use Rattle.transposes.proofs.Walking.{reach-none, walked-none, reach-line, walked-line, walked-room, walked-more, walked-all}
 use Rattle.transposes.proofs.walk.Reads as walk
 use Rattle.transposes.proofs.walk.Kinds as walk-kinds
-use Rattle.transposes.proofs.+walk.Lts-walk as walk-lts
+use Rattle.transposes.proofs.+walk.Lts-walk as lts
 use Rattle.transposes.proofs.line.Reads as line-reads
 use Rattle.transposes.proofs.blocks_pay.Reads as blocks-pay-reads
 use Rattle.transposes.proofs.walk_blocks.Reads as walk-blocks-reads
@@ -23,21 +25,21 @@ use Rattle.transposes.proofs.+walk.Tie.{close}
 abbrev μ-walk : Measures 4 walk-kinds.ps ℕ
 μ-walk κs a = length (now (a .0))
 
-abbrev walk-at : ℕ → In 4 walk-kinds.ps
-walk-at t = and 4 walk-kinds.ps (is 4 walk-kinds.ps μ-walk t) walk.Pre
+abbrev here : ℕ → In 4 walk-kinds.ps
+here t = and 4 walk-kinds.ps (is 4 walk-kinds.ps μ-walk t) walk.Pre
 
-abbrev walk-below : ℕ → In 4 walk-kinds.ps
-walk-below t = and 4 walk-kinds.ps (falls 4 walk-kinds.ps _<_ μ-walk t) walk.Pre
+abbrev below : ℕ → In 4 walk-kinds.ps
+below t = and 4 walk-kinds.ps (falls 4 walk-kinds.ps _<_ μ-walk t) walk.Pre
 
-abbrev walk-Inv-loop : walk-lts.InvT-loop
-walk-Inv-loop lens strides r at out₀ rank n stride size i₀ out i =
-    (i ≤ n) × ((length out ≡ length out₀) × (out ≡ filled (reached lens strides r at) (i * size) out₀))
+abbrev Inv-loop : lts.InvT-loop
+Inv-loop lens strides r at out₀ rank n stride size i₀ out i =
+    Blockwise n size (reached (n ∷ others rank lens) (stride ∷ others rank strides) r at) out₀ out (i * size) i
 
-abbrev walk-μ-loop : walk-lts.MeasureT-loop
-walk-μ-loop lens strides r at out₀ rank n stride size i₀ out i = n - i
+abbrev μ-loop : lts.MeasureT-loop
+μ-loop lens strides r at out₀ rank n stride size i₀ out i = n - i
 
 -- What is asked and learnt at each call.
-abbrev claims : ℕ → walk-lts.Claims
+abbrev claims : ℕ → lts.Claims
 claims t = (
   line-reads.Asked,
   line-reads.Learnt,
@@ -45,156 +47,116 @@ claims t = (
   blocks-pay-reads.Learnt,
   walk-blocks-reads.Asked,
   walk-blocks-reads.Learnt,
-  walk-below t,
+  below t,
   walk.Post,
 )
 
--- What is known of the first axis and the others, and of the part that the turn fills.
-known : (t : ℕ) (c : walk-lts.Else2 (claims t) (walk-at t) walk.Post walk-Inv-loop walk-μ-loop)
-    → let a = c .before .before .before .before .before .before .args in Rows (a .lens .now) (a .strides .now) (a .at) (length (a .r .now)) (length (a .out .now))
-known t c =
-    let s = c .before .before .before .before .before .before in
-    rows _ _ _ _ _ (s .pre .1) (omega arith)
+-- Points of the code: the beginning, where the first axis is read and two axes or more are left, and the loop.
+abbrev Start : ℕ → Type 0
+Start t = lts.Start (claims t) (here t) walk.Post Inv-loop μ-loop
 
-turn : (t : ℕ) (c : walk-lts.In-loop (claims t) (walk-at t) walk.Post walk-Inv-loop walk-μ-loop)
-    → let a = c .before .before .before .before .before .before .before .before .before .before .args in
+abbrev Read : ℕ → Type 0
+Read t = lts.After-shared-slice-known4 (claims t) (here t) walk.Post Inv-loop μ-loop
+
+abbrev Many : ℕ → Type 0
+Many t = lts.Else2 (claims t) (here t) walk.Post Inv-loop μ-loop
+
+abbrev Loop : ℕ → Type 0
+Loop t = lts.At-loop (claims t) (here t) walk.Post Inv-loop μ-loop
+
+abbrev Turn : ℕ → Type 0
+Turn t = lts.In-loop (claims t) (here t) walk.Post Inv-loop μ-loop
+
+abbrev begun : (t : ℕ) → Read t → Start t
+begun t c = c .before .before .before .before .before
+
+abbrev many : (t : ℕ) → Loop t → Many t
+many t c = c .before .before .before
+
+abbrev start : (t : ℕ) → Loop t → Start t
+start t c = begun t (many t c .before)
+
+abbrev turned : (t : ℕ) → lts.After-out4 (claims t) (here t) walk.Post Inv-loop μ-loop → Turn t
+turned t c = c .before .before .before .before .before
+
+-- The walk over the first axis and the others.
+rows : (t : ℕ) (c : Many t)
+    → let a = begun t (c .before) .args in
+    let k = length (a .lens .now) in
+    Walk (getD (a .lens .now) 0 0 ∷ others k (a .lens .now)) (getD (a .strides .now) 0 0 ∷ others k (a .strides .now)) (a .at)
+    (length (a .r .now)) (length (a .out .now))
+rows t c = walk-split (begun t (c .before) .pre .1) (omega arith)
+
+-- The part that the turn fills, and where it starts in R.
+turn : (t : ℕ) (c : Turn t)
+    → let a = start t (c .before) .args in
+    let i = c .before .loop .i in
     let size = length (a .out .now) / getD (a .lens .now) 0 0 in
-    (c .before .loop .i * size + size ≤ length (a .out .now)) × (a .at + c .before .loop .i * getD (a .strides .now) 0 0 < length (a .r .now))
+    (i * size + size ≤ length (a .out .now)) × (a .at + i * getD (a .strides .now) 0 0 < length (a .r .now))
 turn t c =
-    let a = c .before .before .before .before .before .before .before .before .before .before .args in
-    let k = known t (c .before .before .before .before) in
-    let z = count (others (length (a .lens .now)) (a .lens .now)) in (
-      rw (k .size) (omega (arith, k .whole, mul-le-mul-right {m = c .before .loop .i + 1} {n = getD (a .lens .now) 0 0} z (omega arith))),
-      k .from (c .before .loop .i) (omega arith),
-    )
+    let l = c .before in
+    let k = rows t (many t l) in
+    (walked-room k (start t l .args .r .now) (l .loop .inv) (omega arith), walk-from k _ (omega arith))
 
-walk-line-requires : (t : ℕ) → walk-lts.Need-line-requires (claims t) (walk-at t) walk.Post walk-Inv-loop walk-μ-loop
-walk-line-requires t c κs = reach-one _ _ _ _ _ (c .before .before .before .before .pre .1) (c .before .if1 .taken)
-
-walk-returns : (t : ℕ) → walk-lts.Need-returns (claims t) (walk-at t) walk.Post walk-Inv-loop walk-μ-loop
-walk-returns t c =
-    let s = c .before .before .before .before .before .before in
-    c .before .line .ensures ∙ walked-one _ _ _ _ _ _ (s .pre .1) (c .before .before .before .if1 .taken)
-
-walk-shared-slice-read-stride : (t : ℕ) → walk-lts.Need-shared-slice-read-stride (claims t) (walk-at t) walk.Post walk-Inv-loop walk-μ-loop
-walk-shared-slice-read-stride t c = omega (arith, c .before .before .before .before .before .pre .1 .axes)
-
-walk-line-requires-2 : (t : ℕ) → walk-lts.Need-line-requires-2 (claims t) (walk-at t) walk.Post walk-Inv-loop walk-μ-loop
-walk-line-requires-2 t c κs = reach-line _ _ _ _ _ (c .before .before .before .before .before .before .before .pre .1) (c .before .if2 .taken)
-
-walk-returns-2 : (t : ℕ) → walk-lts.Need-returns-2 (claims t) (walk-at t) walk.Post walk-Inv-loop walk-μ-loop
-walk-returns-2 t c =
-    let s = c .before .before .before .before .before .before .before .before .before in
-    c .before .line2 .ensures ∙ walked-line _ _ _ _ _ _ (s .pre .1) (c .before .before .before .if2 .taken)
-
-walk-blocks-pay-requires : (t : ℕ) → walk-lts.Need-blocks-pay-requires (claims t) (walk-at t) walk.Post walk-Inv-loop walk-μ-loop
-walk-blocks-pay-requires t c κs = (omega arith, c .before .before .before .before .before .before .pre .1 .axes)
-
-walk-walk-blocks-requires : (t : ℕ) → walk-lts.Need-walk-blocks-requires (claims t) (walk-at t) walk.Post walk-Inv-loop walk-μ-loop
-walk-walk-blocks-requires t c κs = (omega arith, c .before .before .before .before .before .before .before .before .before .pre .1)
-
-walk-returns-3 : (t : ℕ) → walk-lts.Need-returns-3 (claims t) (walk-at t) walk.Post walk-Inv-loop walk-μ-loop
-walk-returns-3 t c = c .before .walk-blocks .ensures
-
-walk-div-size : (t : ℕ) → walk-lts.Need-div-size (claims t) (walk-at t) walk.Post walk-Inv-loop walk-μ-loop
-walk-div-size t c = known t (c .before .before) .first
-
-walk-loop-holds : (t : ℕ) → walk-lts.Need-loop-holds (claims t) (walk-at t) walk.Post walk-Inv-loop walk-μ-loop
-walk-loop-holds t c = (omega arith, (refl, filled-start _ _ _))
-
-walk-mul-from : (t : ℕ) → walk-lts.Need-mul-from (claims t) (walk-at t) walk.Post walk-Inv-loop walk-μ-loop
-walk-mul-from t c = omega (arith, turn t c .1)
-
-walk-add-from : (t : ℕ) → walk-lts.Need-add-from (claims t) (walk-at t) walk.Post walk-Inv-loop walk-μ-loop
-walk-add-from t c = omega (arith, turn t c .1)
-
-walk-mul-start : (t : ℕ) → walk-lts.Need-mul-start (claims t) (walk-at t) walk.Post walk-Inv-loop walk-μ-loop
-walk-mul-start t c = omega (arith, turn t c .0)
-
-walk-add-end : (t : ℕ) → walk-lts.Need-add-end (claims t) (walk-at t) walk.Post walk-Inv-loop walk-μ-loop
-walk-add-end t c = omega (arith, turn t c .0)
-
-walk-part-walk-end-2 : (t : ℕ) → walk-lts.Need-part-walk-end-2 (claims t) (walk-at t) walk.Post walk-Inv-loop walk-μ-loop
-walk-part-walk-end-2 t c = omega (arith, c .before .before .before .before .before .before .before .before .before .before .before .pre .1 .axes)
-
-walk-mul-walk : (t : ℕ) → walk-lts.Need-mul-walk (claims t) (walk-at t) walk.Post walk-Inv-loop walk-μ-loop
-walk-mul-walk t c = omega (arith, turn t (c .before .before) .0)
-
-walk-part-walk-end-3 : (t : ℕ) → walk-lts.Need-part-walk-end-3 (claims t) (walk-at t) walk.Post walk-Inv-loop walk-μ-loop
-walk-part-walk-end-3 t c = omega (arith, turn t (c .before .before) .0, c .before .before .before .loop .inv .1 .0)
-
-walk-walk-requires : (t : ℕ) → walk-lts.Need-walk-requires (claims t) (walk-at t) walk.Post walk-Inv-loop walk-μ-loop
-walk-walk-requires t c κs =
-    let s = c .before .before .before .before .before .before .before .before .before .before .before .before .before in
-    let lp = c .before .before .before .before .loop in
-    let l = c .before .before .before in
-    let k = known t (l .before .before .before .before) in (
+walk-requires : (t : ℕ) → lts.Need-walk-requires (claims t) (here t) walk.Post Inv-loop μ-loop
+walk-requires t c κs =
+    let n = c .before .before .before in
+    let l = n .before in
+    let k = rows t (many t l) in
+    let s = start t l in (
       omega (arith, others-fewer (s .args .lens .now) (omega arith), s .pre .0),
-      k .inner (lp .i) _ (omega arith) (part-room (lp .out) _ _ _ (lp .inv .1 .0) (turn t l .0) ∙ k .size),
+      walk-inner k _ _ (omega arith) (part-room (l .loop .out) _ _ _ (l .loop .inv .long) (turn t n .0) ∙ walk-rows k .size),
     )
 
-walk-add-i : (t : ℕ) → walk-lts.Need-add-i (claims t) (walk-at t) walk.Post walk-Inv-loop walk-μ-loop
-walk-add-i t c =
-    let l = c .before .before .before .before .before in
-    omega (arith, l .loop-test, known t (l .before .before .before .before) .few)
-
-walk-loop-again : (t : ℕ) → walk-lts.Need-loop-again (claims t) (walk-at t) walk.Post walk-Inv-loop walk-μ-loop
-walk-loop-again t c =
-    let l = c .before .before .before .before .before in
-    let lp = l .before .loop in
-    let s = l .before .before .before .before .before .before .before .before .before .before in
-    let a = s .args in
-    let k = known t (l .before .before .before .before) in
-    let more = walked-more (a .lens .now) (a .strides .now) (a .r .now) (lp .out) (a .out .now) _ (a .at) (lp .i) _ _ (omega arith) (s .pre .1 .axes) (k .size) (lp .inv .1 .1) refl (c .before .walk .ensures) in
-    (omega arith, (ap length more ∙ length-filled _ _ (a .out .now) (omega (arith, turn t l .0)), more))
-
-walk-returns-4 : (t : ℕ) → walk-lts.Need-returns-4 (claims t) (walk-at t) walk.Post walk-Inv-loop walk-μ-loop
-walk-returns-4 t c =
-    let lp = c .before .loop in
-    let s = c .before .before .before .before .before .before .before .before .before .before in
-    let a = s .args in
-    let k = known t (c .before .before .before .before) in
-    let e : lp .i ≡ getD (a .lens .now) 0 0 = omega arith in
-    walked-all (a .lens .now) (a .strides .now) (a .r .now) (lp .out) (a .out .now) (a .at) (lp .i) _
-    (rw (e, k .size) (sym (k .whole) ∙ s .pre .1 .whole)) (s .pre .1 .whole) (lp .inv .1 .1)
+loop-again : (t : ℕ) → lts.Need-loop-again (claims t) (here t) walk.Post Inv-loop μ-loop
+loop-again t c =
+    let l = turned t c .before in
+    walked-more (rows t (many t l)) (start t l .args .r .now) (l .loop .inv) _ (omega arith) (c .before .walk .kept .1 .1 .1 .1 .0) (c .before .walk .ensures)
 
 pub +walk-spec : {M : Type 1} → statement M
-+walk-spec = close μ-walk λ t. walk-lts.spec (claims t)
-    (walk-at t)
++walk-spec = close μ-walk λ t. lts.spec (claims t)
+    (here t)
     walk.Post
-    walk-Inv-loop
-    walk-μ-loop
-    (walk-line-requires t)
+    Inv-loop
+    μ-loop
+    (λ c κs. let e = c .before in let p = e .before .before .before .pre .1 in (p .some, reach-none p (e .if1 .taken)))
     (λ c. search needs)
-    (walk-returns t)
+    (λ c.
+    let e = c .before .before .before in
+    c .before .line .ensures ∙ walked-none (e .before .before .before .pre .1) (e .if1 .taken) _)
     (λ c. search needs)
-    (walk-shared-slice-read-stride t)
-    (walk-line-requires-2 t)
+    (λ c. omega (arith, begun t c .pre .1 .axes))
+    (λ c κs. let p = begun t (c .before .before) .pre .1 in (p .some, reach-line p (c .before .if2 .taken)))
     (λ c. search needs)
-    (walk-returns-2 t)
-    (walk-blocks-pay-requires t)
-    (walk-walk-blocks-requires t)
+    (λ c.
+    let e = c .before .before .before in
+    c .before .line2 .ensures ∙ walked-line (begun t (e .before) .pre .1) (e .if2 .taken) _)
+    (λ c κs. (omega arith, begun t (c .before) .pre .1 .axes))
+    (λ c κs. let m = c .before .before .before in (omega arith, begun t (m .before) .pre .1))
     (λ c. search needs)
-    (walk-returns-3 t)
-    (walk-div-size t)
-    (walk-loop-holds t)
-    (walk-mul-from t)
-    (walk-add-from t)
-    (walk-mul-start t)
-    (walk-add-end t)
-    (λ c. search needs)
-    (λ c. search needs)
-    (λ c. search needs)
-    (λ c. search needs)
-    (λ c. search needs)
-    (walk-part-walk-end-2 t)
-    (walk-mul-walk t)
+    (λ c. c .before .walk-blocks .ensures)
+    (λ c. walk-rows (rows t (c .before .before)) .first)
+    (λ c. rw zero-mul (blockwise-none _ _ _ _))
+    (λ c. omega (arith, turn t c))
+    (λ c. omega (arith, turn t c))
+    (λ c. omega (arith, turn t c))
+    (λ c. omega (arith, turn t c))
     (λ c. search needs)
     (λ c. search needs)
-    (walk-part-walk-end-3 t)
-    (walk-walk-requires t)
-    (walk-add-i t)
     (λ c. search needs)
-    (walk-loop-again t)
     (λ c. search needs)
-    (walk-returns-4 t)
+    (λ c. search needs)
+    (λ c. omega (arith, start t (c .before .before) .pre .1 .axes))
+    (λ c. omega (arith, turn t (c .before .before)))
+    (λ c. search needs)
+    (λ c. search needs)
+    (λ c. omega (arith, turn t (c .before .before), c .before .before .before .loop .inv .long))
+    (walk-requires t)
+    (λ c. let n = turned t c in omega (arith, n .loop-test, walk-rows (rows t (many t (n .before))) .few))
+    (λ c. search needs)
+    (loop-again t)
+    (λ c. search needs)
+    (λ c.
+    let l = c .before in
+    let s = start t l in
+    walked-all (rows t (many t l)) (s .args .r .now) (l .loop .inv) (omega arith) refl ∙ walked-split (s .pre .1) _ (omega arith))

@@ -1,69 +1,74 @@
-use mathlib.Core.Path.{_≡_, ap, _∙_}
-use mathlib.Core.List.{_++_}
+use mathlib.Core.Path.{_≡_, refl, sym, ap, _∙_}
 use mathlib.Core.Logic.{⊎-elim}
-use Prim.Native.Nat.{suc, _-_, _≤_, max}
+use Prim.Native.Nat.{_-_}
 use native.Mathlib.Omega.{arith}
 use borrow.Author.Needs.{needs, sfits-of}
-use lib.IntN.{pos}
-use lib.ListN.{length, getD, take, replicate}
+use lib.IntN.{ℤ, pos}
+use lib.ListN.{length, getD}
 use mir.Syntax.{w32}
 use mir.Val.{toZ, ofZ}
 use mir.Facts.{toZ-ofZ}
-use Rattle.shape.specs.Shape.{maxRank}
-use Rattle.meaning.specs.Primitives.{axesTo}
 use Rattle.signed.proofs.Reading.{read32}
-use Rattle.transposes.specs.Sent.{axisOf}
-use Rattle.transposes.proofs.Choosing.{axesOf, axis-le, chosen-more, largest-more, chosen-all}
+use Rattle.signed.proofs.Finding.{foundOf, IsAt, found-at}
+use Rattle.transposes.proofs.Choosing.{Choosing, choosing-none, choosing-more, choosing-stop, choosing-no, choosing-yes}
 use Rattle.transposes.proofs.chosen.Statement.{statement}
 use Rattle.transposes.proofs.chosen.Tie as tie
 
 abbrev Inv-loop : tie.InvT-loop
-Inv-loop g l rank to₀ axes₀ i₀ to axes i =
-    (i ≤ rank) × ((to ≡ take i (axesOf (toZ w32 g) l) ++ replicate (maxRank - i) 0) × (axes ≡ axesTo (take i (axesOf (toZ w32 g) l))))
+Inv-loop g l rank used₀ to₀ axes₀ i₀ used to axes i = Choosing (toZ w32 g) l used to axes i
 
 abbrev μ-loop : tie.MeasureT-loop
-μ-loop g l rank to₀ axes₀ i₀ to axes i = rank - i
+μ-loop g l rank used₀ to₀ axes₀ i₀ used to axes i = rank - i
 
--- The axis that the element names.
-named : (c : tie.After-position Inv-loop μ-loop)
-    → c .position .result
-    ≡ axisOf (toZ w32 (ofZ w32 (c .before .before .before .before .args .g))) (length (c .before .before .before .before .args .l .now))
-    (getD (c .before .before .before .before .args .l .now) (c .before .before .before .loop .i) (pos 0))
-named c =
-    let s = c .before .before .before .before in
-    let x = getD (s .args .l .now) (c .before .before .before .loop .i) (pos 0) in
-    let e : toZ w32 (ofZ w32 x) ≡ x = toZ-ofZ (sfits-of (c .before .position-arg .given)) in
-    c .position .ensures ∙ ap (axisOf (toZ w32 (ofZ w32 (s .args .g))) (length (s .args .l .now))) e
+abbrev origin : tie.Start Inv-loop μ-loop → ℤ
+origin s = toZ w32 (ofZ w32 (s .args .g))
 
-loop-holds : tie.Need-loop-holds Inv-loop μ-loop
-unfolding axesTo
-loop-holds c = search needs
+-- The element, and what was found for it.
+abbrev turn : tie.After-position Inv-loop μ-loop → tie.At-loop Inv-loop μ-loop
+turn c = c .before .before .before
 
-add-axes : tie.Need-add-axes Inv-loop μ-loop
-add-axes c = omega (arith, named (c .before), axis-le (toZ w32 (ofZ w32 (c .before .before .before .before .before .args .g))) (length (c .before .before .before .before .before .args .l .now)) (getD (c .before .before .before .before .before .args .l .now) (c .before .before .before .before .loop .i) (pos 0)))
+abbrev element : tie.At-loop Inv-loop μ-loop → ℤ
+element c = getD (c .before .args .l .now) (c .loop .i) (pos 0)
 
-loop-again : tie.Need-loop-again Inv-loop μ-loop
-loop-again c =
-    let s = c .before .before .before .before .before in
-    let lp = c .before .before .before .before .loop in
-    let l = s .args .l .now in
-    let G = toZ w32 (ofZ w32 (s .args .g)) in
-    let t = c .before .position .result in
-    let most : c .if1 .axes ≡ max (suc t) (lp .axes) = ⊎-elim (λ w. omega arith) (λ w. omega arith) (c .if1 .came) in (
-      omega arith,
-      (
-        rw (lp .inv .1 .0) (chosen-more G l (lp .i) t (omega arith) (omega (arith, s .pre)) (named (c .before))),
-        most ∙ largest-more G l (lp .i) t (lp .axes) (omega arith) (named (c .before)) (lp .inv .1 .1),
-      ),
-    )
+found : (c : tie.After-position Inv-loop μ-loop)
+    → c .position .result ≡ foundOf (element (turn c)) (origin (turn c .before)) (length (turn c .before .args .l .now))
+found c =
+    let s = turn c .before in
+    let e : toZ w32 (ofZ w32 (element (turn c))) ≡ element (turn c) = toZ-ofZ (sfits-of (c .before .position-arg .given)) in
+    c .position .ensures ∙ ap (λ z. foundOf z (origin s) (length (s .args .l .now))) e
+
+abbrev searched : tie.After-known-told Inv-loop μ-loop → tie.After-position Inv-loop μ-loop
+searched c = c .before .before .before
+
+axis-is : (c : tie.After-known-told Inv-loop μ-loop)
+    → let l = turn (searched c) in
+    IsAt (element l) (origin (l .before)) (length (l .before .args .l .now)) (c .before .axis .given .0 .0)
+axis-is c = found-at _ _ _ _ (sym (c .before .axis .given .1) ∙ found (searched c))
 
 returns : tie.Need-returns Inv-loop μ-loop
 returns c =
-    let s = c .before .before in
-    let l = s .args .l .now in
-    let e : c .before .loop .i ≡ length l = omega arith in
-    let g = read32 (s .args .g) (s .fits .g) in
-    chosen-all (toZ w32 (ofZ w32 (s .args .g))) (s .args .g) l (c .before .loop .i) (c .before .loop .axes) (c .before .loop .to) g e (c .before .loop .inv .1 .0) (c .before .loop .inv .1 .1)
+    let p = c .before .before .before in
+    let l = turn p in
+    rw (read32 _ (l .before .fits .g)) at
+    (choosing-stop (l .loop .inv) (c .nowhere .result) (omega arith) (sym (c .before .enum-told .given .1) ∙ found p) (c .nowhere .ensures))
+
+loop-again : tie.Need-loop-again Inv-loop μ-loop
+loop-again c =
+    let l = turn (searched (c .before)) in
+    choosing-more (l .loop .inv) _ (axis-is (c .before)) (omega arith) (l .before .pre) _
+    (⊎-elim (λ w. omega arith) (λ w. omega arith) (c .if1 .came))
+
+returns-2 : tie.Need-returns-2 Inv-loop μ-loop
+returns-2 c =
+    let l = c .before .before .before in
+    rw (read32 _ (l .before .fits .g)) at (choosing-yes (l .loop .inv) (omega arith) _ (c .before .all-used .ensures) (c .if2 .taken) refl refl refl)
+
+returns-3 : tie.Need-returns-3 Inv-loop μ-loop
+returns-3 c =
+    let a = c .before .before in
+    let l = a .before .before in
+    rw (read32 _ (l .before .fits .g)) at
+    (choosing-no (l .loop .inv) (omega arith) (c .nowhere2 .result) (a .all-used .ensures) (c .before .if2 .left) (c .nowhere2 .ensures))
 
 pub chosen-spec : {M : Type 1} → statement M
 chosen-spec =
@@ -71,14 +76,22 @@ chosen-spec =
     (tie.spec
     Inv-loop
     μ-loop
-    loop-holds
+    (λ c. choosing-none _ _)
     (λ c. search needs)
     (λ c. search needs)
     (λ c κs. search needs)
     (λ c. search needs)
     (λ c. search needs)
-    add-axes
+    (λ c κs. search needs)
+    returns
+    (λ c. search needs)
+    (λ c. search needs)
+    (λ c. omega (arith, axis-is c .below, turn (searched c) .before .pre))
+    (λ c. omega (arith, axis-is (c .before) .below))
     (λ c. search needs)
     (λ c. search needs)
     loop-again
-    returns)
+    (λ c κs. omega (arith, c .before .loop .inv .low, c .before .before .pre))
+    (λ c κs. search needs)
+    returns-2
+    returns-3)

@@ -1,22 +1,23 @@
 use native.Mathlib.Omega.{arith}
-use mathlib.Core.List.{[]}
 use borrow.Author.Needs.{needs}
-use Rattle.transposes.proofs.Placing.{placed-swap}
-use Rattle.transposes.proofs.Reaching.{reach-swap}
+use Rattle.transposes.proofs.Placing.{reach-swap, placed-swap}
 use Rattle.transposes.proofs.put_block.Statement.{statement}
 use Rattle.transposes.proofs.put_block.Tie as tie
 
+abbrev start : tie.Else2 → tie.Start
+start c = c .before .before .before .before
+
 put-plane-requires : tie.Need-put-plane-requires
-put-plane-requires c κs = reach-swap _ _ [] _ _ [] _ _ [] _ _ _ _ (c .before .before .before .pre)
+put-plane-requires c κs = reach-swap (c .before .before .before .pre)
 
 returns : tie.Need-returns
-returns c = placed-swap _ _ [] _ _ [] _ _ [] _ _ _ _ _ (c .before .put-plane .ensures)
+returns c = placed-swap (c .before .put-plane .ensures)
 
 put-strips-requires : tie.Need-put-strips-requires
-put-strips-requires c κs = (omega arith, reach-swap _ _ [] _ _ [] _ _ [] _ _ _ _ (c .before .before .before .before .before .pre))
+put-strips-requires c κs = (omega arith, reach-swap (start (c .before) .pre))
 
 returns-3 : tie.Need-returns-3
-returns-3 c = placed-swap _ _ [] _ _ [] _ _ [] _ _ _ _ _ (c .before .put-strips .ensures)
+returns-3 c = placed-swap (c .before .put-strips .ensures)
 
 pub put-block-spec : {M : Type 1} → statement M
 put-block-spec =

@@ -1,57 +1,76 @@
-use borrow.Author.Needs.{needs}
 use mathlib.Core.Path.{_≡_, sym, ap, _∙_}
 use lib.ListN.{length}
+use lib.IntN.{ℤ}
+use borrow.Author.Needs.{needs}
 use Rattle.shape.specs.Shape.{maxRank}
-use Rattle.meaning.specs.Array.{arrayOf, goodForm}
 use Rattle.signed.proofs.Reading.{read32}
+use Rattle.meaning.specs.Array.{Operand, arrayOf, goodForm}
+use Rattle.meaning.specs.Terms.{rank}
+use Rattle.meaning.specs.Primitives.{backwards, transpose}
 use Rattle.answer.specs.Answer.{lent, early}
-use Rattle.answer.proofs.Order.{early-reply, replied-refused}
+use Rattle.answer.proofs.Order.{early-replied, Ready, late-replied, given-replied, Roomy, late-fine}
 use Rattle.answer.proofs.Lent.{FineOne, fine-one}
-use Rattle.transposes.specs.Sent.{sentReply}
-use Rattle.transposes.proofs.Transposing.{replied-same, transpose-names, transpose-reply, backwards-is, backwards-sends, backwards-moves}
+use Rattle.transposes.proofs.Calls.{transpose-names, transpose-own, Known, transpose-known, sends, transpose-means}
+use Rattle.transposes.proofs.Calls.{sent-ready, sent-given, sent-moves, sent-out}
 use Rattle.transposes.proofs.transpose.Statement.{statement}
 use Rattle.transposes.proofs.transpose.Tie as tie
 
--- FORM and ORIGIN, and what is known of R where neither was met.
-early-is : (c : tie.After-early-one) → c .early-one .result ≡ early (goodForm (lent (c .before .args .rs) (c .before .args .r .now))) (c .before .args .g)
+abbrev right : tie.Start → Operand
+right st = lent (st .args .rs) (st .args .r .now)
+
+-- FORM and ORIGIN, and what is known where neither was met.
+early-is : (c : tie.After-early-one) → c .early-one .result ≡ early (goodForm (right (c .before))) (c .before .args .g)
 early-is c = c .early-one .ensures ∙ ap (early _) (read32 _ (c .before .fits .g))
 
-fine : (c : tie.Else1) → let a = c .before .before .args in FineOne (a .g) (a .rs) (a .r .now)
+fine : (c : tie.Else1) → FineOne (c .before .before .args .g) (c .before .before .args .rs) (c .before .before .args .r .now)
 fine c =
-    let a = c .before .before .args in
-    let long : length (a .rs .lens) ≡ maxRank = search needs in
-    fine-one (a .g) (a .rs) (a .r .now) long (sym (early-is (c .before)) ∙ c .if1 .left)
+    let long : length (c .before .before .args .rs .lens) ≡ maxRank = search needs in
+    fine-one _ _ _ long (sym (early-is (c .before)) ∙ c .if1 .left)
+
+-- Where the axes are sent, and the result's shape.
+abbrev start : tie.After-backwards → tie.Start
+start c = c .before .before .before
+
+known : (c : tie.After-backwards)
+    → Known (c .backwards .result) (start c .args .rs) (start c .args .r .now) (backwards (rank (arrayOf (right (start c)))))
+known c = transpose-known (fine (c .before) .operand) (c .backwards .ensures)
+
+ready : (c : tie.After-sent-shape) (K : ℤ) (L : Operand)
+    → let st = start (c .before) in Ready 15 1 (st .args .g) K L (right st) (transpose (arrayOf (right st))) (c .sent-shape .result)
+ready c K L =
+    sent-ready (known (c .before)) (transpose-means _) (c .sent-shape .ensures) (transpose-names _ _ _ _) (fine (c .before .before) .none) (transpose-own _)
+
+-- LIMIT and SPACE.
+abbrev shaped : tie.After-late → tie.After-sent-shape
+shaped c = c .before .before
+
+roomy : (c : tie.Else2) → let s = shaped (c .before) in Roomy (s .sent-shape .result) (length (start (s .before) .args .out .now))
+roomy c = late-fine _ (c .before .late .ensures) (c .before .before .count .ensures) (c .if2 .left)
 
 returns : tie.Need-returns
-returns c K L =
-    let st = c .before .before .before in
-    replied-refused (c .refused .result) _ (st .args .out .now) (c .refused .ensures)
-    (early-reply (transpose-names (st .args .g) K L (lent (st .args .rs) (st .args .r .now))) (st .args .out .now) _ (early-is (c .before .before)) (c .before .if1 .taken))
-
-backwards-requires : tie.Need-backwards-requires
-backwards-requires c κs =
-    fine c .operand .high
-
-lengths-requires : tie.Need-lengths-requires
-lengths-requires c κs =
-    backwards-sends (c .before .before .before .args .rs) _ (c .backwards .ensures) (fine (c .before) .operand .high)
-
-moved-requires : tie.Need-moved-requires
-moved-requires c κs =
-    let e = c .before .before .before .before .before in
-    let s = e .before .before in
-    backwards-moves (s .args .rs) _ (c .before .before .before .before .backwards .ensures) (fine e .operand .high) (s .args .r .now) _ _ _ (fine e .operand)
-    (c .before .before .before .lengths .ensures) (c .before .before .of-lengths .ensures) (c .before .count .ensures)
+returns c K L = early-replied (transpose-names _ _ _ _) _ (early-is (c .before .before)) (c .before .if1 .taken) (c .refused .ensures)
 
 returns-2 : tie.Need-returns-2
 returns-2 c K L =
-    let e = c .before .before .before .before .before .before .before in
-    let s = e .before .before in
-    let b = backwards-is (s .args .rs) _ (c .before .before .before .before .before .before .backwards .ensures) (fine e .operand .high) in
-    replied-same
-    (transpose-reply (s .args .g) K L (s .args .rs) (s .args .r .now) (s .args .out .now) (fine e .operand) (fine e .none)
-    ∙ sym (ap (λ ts. sentReply ts (arrayOf (lent (s .args .rs) (s .args .r .now))) (s .args .out .now)) b))
-    (c .before .moved .ensures)
+    let l = c .before .before in
+    late-replied (ready (shaped l) K L) _ (l .late .ensures) (l .before .count .ensures) (c .before .if2 .taken) (c .refused2 .ensures)
+
+transpose-into-requires : tie.Need-transpose-into-requires
+transpose-into-requires c κs =
+    let l = c .before .before in
+    let s = shaped l in
+    sent-moves (known (s .before)) (s .sent-shape .ensures) (l .before .count .ensures) (roomy (c .before))
+
+returns-3 : tie.Need-returns-3
+returns-3 c K L =
+    let t = c .before .before in
+    let e = t .before .before in
+    let l = e .before in
+    let s = shaped l in
+    let k = known (s .before) in
+    given-replied (ready s K L) _ (l .late .ensures) (l .before .count .ensures) (e .if2 .left)
+    (sent-given k (transpose-means _) (s .sent-shape .ensures) (c .given .ensures))
+    (sent-out k (transpose-means _) (s .sent-shape .ensures) _ (l .before .count .ensures) (roomy e) (t .transpose-into .ensures))
 
 pub transpose-spec : {M : Type 1} → statement M
 transpose-spec =
@@ -60,10 +79,13 @@ transpose-spec =
     (λ c κs. search needs)
     (λ c κs. search needs)
     returns
-    backwards-requires
-    lengths-requires
+    (λ c κs. fine c .operand .high)
+    (λ c κs. sends (known c))
     (λ c κs. search needs)
     (λ c κs. search needs)
-    moved-requires
+    (λ c κs. search needs)
+    returns-2
+    transpose-into-requires
+    (λ c κs. search needs)
     (λ c. search needs)
-    returns-2)
+    returns-3)

@@ -1,130 +1,101 @@
-use borrow.Author.Needs.{needs}
-use native.Mathlib.Omega.{arith}
 use mathlib.Core.Path.{_≡_, sym, ap, _∙_}
 use mathlib.Core.List.{map}
 use mathlib.Core.Bool.{_&&_}
-use Prim.Native.Nat.{_≤_, _-_}
-use lib.ListN.{length, take}
+use lib.ListN.{length}
+use lib.IntN.{ℤ}
+use borrow.Author.Needs.{needs}
 use Rattle.shape.specs.Shape.{maxRank}
-use Rattle.meaning.specs.Array.{goodForm}
 use Rattle.signed.proofs.Reading.{read32}
-use Rattle.answer.specs.Answer.{lent, early}
-use Rattle.answer.proofs.Order.{early-reply, own-reply, replied-refused}
+use Rattle.meaning.specs.Array.{Operand, arrayOf, goodForm}
+use Rattle.meaning.specs.Terms.{fromZero}
+use Rattle.meaning.specs.Primitives.{transposeBy}
+use Rattle.answer.specs.Answer.{lent, early, own}
+use Rattle.answer.proofs.Order.{early-replied, own-replied, Ready, late-replied, given-replied, Roomy, late-fine}
 use Rattle.answer.proofs.Lent.{FineTwo, fine-two}
-use Rattle.transposes.specs.Sent.{axisOf, Chosen}
-use Rattle.transposes.proofs.Transposing.{replied-same, by-names, sent-rank, sent-length, xs-room, xs-length, sent-over, sent-sends, sent-missing, sent-by-moves, sent-by-reply}
+use Rattle.transposes.specs.Steps.Sent.{Sending}
+use Rattle.transposes.proofs.Calls.{by-names, Known, by-known, sends, by-means, sent-ready, sent-given, sent-moves, sent-out}
 use Rattle.transposes.proofs.transpose_by.Statement.{statement}
 use Rattle.transposes.proofs.transpose_by.Tie as tie
 
--- FORM and ORIGIN, and what is known of L and R where neither was met.
-early-is : (c : tie.After-early-two)
-    → let a = c .before .args in c .early-two .result ≡ early (goodForm (lent (a .ls) (a .l .now)) && goodForm (lent (a .rs) (a .r .now))) (a .g)
+abbrev left : tie.Start → Operand
+left st = lent (st .args .ls) (st .args .l .now)
+
+abbrev right : tie.Start → Operand
+right st = lent (st .args .rs) (st .args .r .now)
+
+-- FORM and ORIGIN, and what is known where neither was met.
+early-is : (c : tie.After-early-two) → c .early-two .result ≡ early (goodForm (left (c .before)) && goodForm (right (c .before))) (c .before .args .g)
 early-is c = c .early-two .ensures ∙ ap (early _) (read32 _ (c .before .fits .g))
 
-fine : (c : tie.Else1) → let a = c .before .before .args in FineTwo (a .g) (a .ls) (a .l .now) (a .rs) (a .r .now)
+fine : (c : tie.Else1) → let st = c .before .before in FineTwo (st .args .g) (st .args .ls) (st .args .l .now) (st .args .rs) (st .args .r .now)
 fine c =
-    let a = c .before .before .args in
-    let ll : length (a .ls .lens) ≡ maxRank = search needs in
-    let rl : length (a .rs .lens) ≡ maxRank = search needs in
-    fine-two (a .g) (a .ls) (a .l .now) (a .rs) (a .r .now) ll rl (sym (early-is (c .before)) ∙ c .if1 .left)
+    let st = c .before .before in
+    let ll : length (st .args .ls .lens) ≡ maxRank = search needs in
+    let rl : length (st .args .rs .lens) ≡ maxRank = search needs in
+    fine-two _ _ _ _ _ ll rl (sym (early-is (c .before)) ∙ c .if1 .left)
 
--- L is a list.
-list : (c : tie.Else2) → c .before .before .before .before .args .ls .rank ≤ 1
-list c = omega arith
+-- RANK, LENGTH and DOMAIN.
+abbrev start : tie.After-sent-by → tie.Start
+start c = c .before .before .before
 
--- The axes that its elements name.
-named : (c : tie.After-chosen)
-    → let a = c .before .before .before .before .before .before .before .before .args in
-    Chosen (map (axisOf (a .g) (length (take (a .rs .rank - 0) (a .l .now)))) (take (a .rs .rank - 0) (a .l .now))) (c .chosen .result .axes) (c .chosen .result .to)
-named c = rw (read32 _ (c .before .before .before .before .before .before .before .before .fits .g)) at (c .chosen .ensures)
+asked : (c : tie.After-sent-by)
+    → let st = start c in
+    Sending (c .sent-by .result) (own 26 (transposeBy (st .args .g) (arrayOf (left st)) (arrayOf (right st)) .refusals))
+    (map (fromZero (st .args .g)) (arrayOf (left st) .elements))
+asked c = let st = start c in rw (read32 _ (st .fits .g)) at (c .sent-by .ensures (st .args .r .now))
 
-few : (c : tie.Else4) → c .before .chosen .result .axes ≤ c .before .before .before .before .before .before .before .before .before .args .rs .rank
-few c = omega arith
+known : (c : tie.Else2)
+    → let st = start (c .before) in
+    Known (c .before .sent-by .result) (st .args .rs) (st .args .r .now) (map (fromZero (st .args .g)) (arrayOf (left st) .elements))
+known c =
+    let a = asked (c .before) in
+    let none = sym (a .own-is) ∙ c .if2 .left in
+    by-known _ (arrayOf (left (start (c .before)))) (fine (c .before .before) .right) none (a .sent none)
+
+ready : (c : tie.After-sent-shape) (K : ℤ)
+    → let st = start (c .before .before) in
+    Ready 26 2 (st .args .g) K (left st) (right st) (transposeBy (st .args .g) (arrayOf (left st)) (arrayOf (right st))) (c .sent-shape .result)
+ready c K =
+    let e = c .before in
+    sent-ready (known e) (by-means _ _ _) (c .sent-shape .ensures) (by-names _ _ _ _) (fine (e .before .before) .none)
+    (sym (asked (e .before) .own-is) ∙ e .if2 .left)
+
+-- LIMIT and SPACE.
+abbrev shaped : tie.After-late → tie.After-sent-shape
+shaped c = c .before .before
+
+roomy : (c : tie.Else3) → let s = shaped (c .before) in Roomy (s .sent-shape .result) (length (start (s .before .before) .args .out .now))
+roomy c = late-fine _ (c .before .late .ensures) (c .before .before .count .ensures) (c .if3 .left)
 
 returns : tie.Need-returns
-returns c K =
-    let a = c .before .before .before .args in
-    replied-refused (c .refused .result) _ (a .out .now) (c .refused .ensures)
-    (early-reply (by-names (a .g) K (lent (a .ls) (a .l .now)) (lent (a .rs) (a .r .now))) (a .out .now) _ (early-is (c .before .before)) (c .before .if1 .taken))
+returns c K = early-replied (by-names _ _ _ _) _ (early-is (c .before .before)) (c .before .if1 .taken) (c .refused .ensures)
 
 returns-2 : tie.Need-returns-2
 returns-2 c K =
-    let e = c .before .before .before in
-    let a = e .before .before .args in
-    replied-refused (c .refused2 .result) _ (a .out .now) (c .refused2 .ensures)
-    (own-reply (by-names (a .g) K (lent (a .ls) (a .l .now)) (lent (a .rs) (a .r .now))) (a .out .now) (fine e .none) _ (sym (sent-rank (a .g) (a .ls) (a .l .now) (a .rs) (a .r .now) (fine e .left) (fine e .right) (omega arith))) (λ z. omega arith))
+    let o = c .before .before in
+    own-replied (by-names _ _ _ _) _ (fine (o .before) .none) (asked o .own-is) (c .before .if2 .taken) (c .refused2 .ensures)
 
 returns-3 : tie.Need-returns-3
 returns-3 c K =
-    let e = c .before .before .before .before .before in
-    let a = e .before .before .args in
-    replied-refused (c .refused3 .result) _ (a .out .now) (c .refused3 .ensures)
-    (own-reply (by-names (a .g) K (lent (a .ls) (a .l .now)) (lent (a .rs) (a .r .now))) (a .out .now) (fine e .none) _ (sym (sent-length (a .g) (a .ls) (a .l .now) (a .rs) (a .r .now) (fine e .left) (fine e .right) (list (c .before .before .before)) _ (c .before .before .count .ensures) (c .before .if3 .taken))) (λ z. omega arith))
+    let l = c .before .before in
+    late-replied (ready (shaped l) K) _ (l .late .ensures) (l .before .count .ensures) (c .before .if3 .taken) (c .refused3 .ensures)
 
-part-chosen-end : tie.Need-part-chosen-end
-part-chosen-end c =
-    let n = c .before in
-    let e = n .before .before .before in
-    let a = e .before .before .args in
-    xs-room (a .g) (a .ls) (a .l .now) (a .rs) (a .r .now) (fine e .left) (fine e .right) (list (n .before)) _ (n .count .ensures) (c .if3 .left)
-
-chosen-requires : tie.Need-chosen-requires
-chosen-requires c κs =
-    let n = c .before .before in
-    let e = n .before .before .before in
-    let a = e .before .before .args in
-    omega (arith, xs-length (a .g) (a .ls) (a .l .now) (a .rs) (a .r .now) (fine e .left) (fine e .right) (list (n .before)) _ (n .count .ensures) (c .before .if3 .left), fine e .right .high)
+transpose-into-requires : tie.Need-transpose-into-requires
+transpose-into-requires c κs =
+    let l = c .before .before in
+    let s = shaped l in
+    sent-moves (known (s .before)) (s .sent-shape .ensures) (l .before .count .ensures) (roomy (c .before))
 
 returns-4 : tie.Need-returns-4
 returns-4 c K =
-    let h = c .before .before in
-    let n = h .before .before .before in
-    let e = n .before .before .before in
-    let a = e .before .before .args in
-    replied-refused (c .refused4 .result) _ (a .out .now) (c .refused4 .ensures)
-    (own-reply (by-names (a .g) K (lent (a .ls) (a .l .now)) (lent (a .rs) (a .r .now))) (a .out .now) (fine e .none) _
-    (sym (sent-over (a .g) (a .ls) (a .l .now) (a .rs) (a .r .now) (fine e .left) (fine e .right) (list (n .before)) _ (n .count .ensures) (h .before .before .if3 .left) _ _ (named h) (omega arith)))
-    (λ z. omega arith))
-
-lengths-requires : tie.Need-lengths-requires
-lengths-requires c κs =
-    let h = c .before .before in
-    let n = h .before .before .before in
-    let e = n .before .before .before in
-    let a = e .before .before .args in
-    sent-sends (a .g) (a .ls) (a .l .now) (a .rs) (a .r .now) (fine e .left) (fine e .right) (list (n .before)) _ (n .count .ensures) (h .before .before .if3 .left) _ _ (named h) (omega arith)
-
-returns-5 : tie.Need-returns-5
-returns-5 c K =
-    let d = c .before .before in
-    let h = d .before .before .before .before .before in
-    let n = h .before .before .before in
-    let e = n .before .before .before in
-    let a = e .before .before .args in
-    replied-refused (c .refused5 .result) _ (a .out .now) (c .refused5 .ensures)
-    (own-reply (by-names (a .g) K (lent (a .ls) (a .l .now)) (lent (a .rs) (a .r .now))) (a .out .now) (fine e .none) _
-    (sym (sent-missing (a .g) (a .ls) (a .l .now) (a .rs) (a .r .now) (fine e .left) (fine e .right) (list (n .before)) _ (n .count .ensures) (h .before .before .if3 .left) _ _ (named h) (few (d .before .before .before .before)) _ (d .before .before .lengths .ensures) _ (d .before .of-lengths .ensures) _ (d .count2 .ensures) (omega arith)))
-    (λ z. omega arith))
-
-moved-requires : tie.Need-moved-requires
-moved-requires c κs =
-    let d = c .before .before in
-    let h = d .before .before .before .before .before in
-    let n = h .before .before .before in
-    let e = n .before .before .before in
-    let a = e .before .before .args in
-    sent-by-moves (a .g) (a .ls) (a .l .now) (a .rs) (a .r .now) (fine e .left) (fine e .right) (list (n .before)) _ (n .count .ensures) (h .before .before .if3 .left) _ _ (named h) (few (d .before .before .before .before)) _ (d .before .before .lengths .ensures) _ (d .before .of-lengths .ensures) _ (d .count2 .ensures) (omega arith)
-
-returns-6 : tie.Need-returns-6
-returns-6 c K =
-    let d = c .before .before .before .before in
-    let h = d .before .before .before .before .before in
-    let n = h .before .before .before in
-    let e = n .before .before .before in
-    let a = e .before .before .args in
-    replied-same
-    (sent-by-reply (a .g) (a .ls) (a .l .now) (a .rs) (a .r .now) (fine e .left) (fine e .right) (list (n .before)) _ (n .count .ensures) (h .before .before .if3 .left) _ _ (named h) (few (d .before .before .before .before)) _ (d .before .before .lengths .ensures) _ (d .before .of-lengths .ensures) _ (d .count2 .ensures) (omega arith) K (a .out .now) (fine e .none))
-    (c .before .moved .ensures)
+    let t = c .before .before in
+    let e = t .before .before in
+    let l = e .before in
+    let s = shaped l in
+    let k = known (s .before) in
+    given-replied (ready s K) _ (l .late .ensures) (l .before .count .ensures) (e .if3 .left)
+    (sent-given k (by-means _ _ _) (s .sent-shape .ensures) (c .given .ensures))
+    (sent-out k (by-means _ _ _) (s .sent-shape .ensures) _ (l .before .count .ensures) (roomy e) (t .transpose-into .ensures))
 
 pub transpose-by-spec : {M : Type 1} → statement M
 transpose-by-spec =
@@ -133,22 +104,15 @@ transpose-by-spec =
     (λ c κs. search needs)
     (λ c κs. search needs)
     returns
+    (λ c κs. (fine c .left .form, fine c .right .good))
     (λ c κs. search needs)
     returns-2
+    (λ c κs. sends (known c))
+    (λ c κs. search needs)
     (λ c κs. search needs)
     (λ c κs. search needs)
     returns-3
+    transpose-into-requires
+    (λ c κs. search needs)
     (λ c. search needs)
-    (λ c. search needs)
-    part-chosen-end
-    chosen-requires
-    (λ c κs. search needs)
-    returns-4
-    lengths-requires
-    (λ c κs. search needs)
-    (λ c κs. search needs)
-    (λ c κs. search needs)
-    returns-5
-    moved-requires
-    (λ c. search needs)
-    returns-6)
+    returns-4)

@@ -1,12 +1,11 @@
 -- A transposition by strides: how far apart in R the elements stand that are neighbours along an axis of the result.
-use Prim.Native.Nat.{ℕ, suc, _+_, _*_, _<_, min}
+use Prim.Native.Nat.{ℕ, _+_, _*_, _<_}
 use mathlib.Core.Path.{_≡_}
 use mathlib.Core.List.{List, [], _∷_}
-use mathlib.Core.Bool.{true}
 use lib.ListN.{length, getD, set, replicate}
 use lib.IntN.{ℤ, pos}
-use Rattle.shape.specs.Shape.{maxCount, count}
-use Rattle.shape.specs.Place.{inside, place}
+use Rattle.shape.specs.Shape.{count}
+use Rattle.shape.specs.Place.{place}
 use Rattle.meaning.specs.Array.{tab}
 
 -- A place's positions times the strides, added up.
@@ -26,15 +25,13 @@ sentStrides r [] ws = replicate r 0
 sentStrides r (t ∷ ts) [] = replicate r 0
 sentStrides r (t ∷ ts) (w ∷ ws) = set (sentStrides r ts ws) t (getD (sentStrides r ts ws) t 0 + w)
 
--- Of the lengths sent to an axis the smallest; one more than the largest length where none is.
-unfoldable pub shortest : ℕ → List ℕ → List ℕ → List ℕ
-shortest r [] ns = replicate r (suc maxCount)
-shortest r (t ∷ ts) [] = replicate r (suc maxCount)
-shortest r (t ∷ ts) (n ∷ ns) = set (shortest r ts ns) t (min n (getD (shortest r ts ns) t 0))
+-- n elements that stand w apart, from `at` on, lie in m elements.
+abbrev pub LineIn : ℕ → ℕ → ℕ → ℕ → Type 0
+LineIn n w at m = (i : ℕ) → i < n → at + i * w < m
 
 -- n elements of r that stand w apart, from `at` on.
-unfoldable pub spaced : ℕ → ℕ → List ℤ → ℕ → List ℤ
-spaced n w r at = tab n (λ i. getD r (at + i * w) (pos 0))
+unfoldable pub strided : ℕ → ℕ → List ℤ → ℕ → List ℤ
+strided n w r at = tab n (λ i. getD r (at + i * w) (pos 0))
 
 -- The elements of r from `at` on, place by place of some lengths, by strides.
 unfoldable pub walked : List ℕ → List ℕ → List ℤ → ℕ → List ℤ
@@ -45,4 +42,4 @@ pub record Walk (ns ws : List ℕ) (at m room : ℕ) : Type 0 where
   pub axes : length ws ≡ length ns
   pub some : 0 < room
   pub whole : room ≡ count ns
-  pub reach : (p : List ℕ) → inside ns p ≡ true → at + dot p ws < m
+  pub reach : (j : ℕ) → j < room → at + dot (place ns j) ws < m

@@ -1,0 +1,4 @@
+-- What the contracts of private functions cite.
+pub mod Sent
+pub mod Strides
+pub mod Placed
