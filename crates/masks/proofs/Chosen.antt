@@ -12,7 +12,7 @@ use borrow.Rule.Slice.PartMut.{putMid}
 use Rattle.meaning.specs.Array.{tab}
 use Rattle.copying.specs.Runs.{copied}
 use Rattle.copying.proofs.Runs.{tab-is}
-use Rattle.masks.specs.Rows.{rowed}
+use Rattle.masks.specs.Steps.Rows.{rowed}
 use Rattle.masks.proofs.Filling.{put-row}
 use Rattle.masks.proofs.Written.{Written, written-none, written-whole, written-room, written-more}
 

@@ -1,23 +1,19 @@
 -- Rows written after the rows before them.
 use mathlib.Core.Path.{_≡_, refl, sym, ap, _∙_}
-use mathlib.Core.List.{List, _++_, append-nil}
+use mathlib.Core.List.{List}
 use mathlib.Core.Bool.{Bool, true, false}
 use Prim.Native.Nat.{ℕ, _+_, _*_, _-_, _/_, _%_, _≤_, _<_}
 use native.Mathlib.Nat.{mod-lt, div-add-mod'}
 use native.Mathlib.Omega.{arith}
-use lib.ListN.{length, getD, take, drop, set, replicate, drop-of-length-le}
+use lib.ListN.{length, getD, take, drop, set, replicate}
 use lib.Arith.{digits-div, digits-mod}
 use lib.IntN.{ℤ, pos}
 use borrow.Rule.Slice.PartMut.{putMid}
 use Rattle.shape.proofs.Places.{row-in}
-use Rattle.meaning.specs.Array.{tab}
 use Rattle.copying.specs.Runs.{copied}
-use Rattle.copying.proofs.Runs.{filled, filled-one, put-copied, put-filled}
-use Rattle.masks.specs.Rows.{rowed}
-
--- All of a buffer is filled.
-pub filled-whole : (g : ℕ → ℤ) (n : ℕ) (out : List ℤ) → length out ≡ n → filled g n out ≡ tab n g
-filled-whole g n out h = ap (λ x. tab n g ++ x) (drop-of-length-le out {i = n} (omega arith)) ∙ append-nil (tab n g)
+use Rattle.copying.proofs.Runs.{filled-one, put-copied, put-filled}
+use Rattle.copying.specs.Steps.{filled}
+use Rattle.masks.specs.Steps.Rows.{rowed}
 
 module _ (t : ℕ → Bool) (φ : ℕ → ℕ) (c : ℕ) (r : List ℤ) (q : ℕ) where
   pub row-at : (p x : ℕ) → t q ≡ true → φ q ≡ p → x < c → rowed t φ c r (q * c + x) ≡ getD r (p * c + x) (pos 0)
@@ -53,7 +49,8 @@ module _ (t : ℕ → Bool) (φ : ℕ → ℕ) (c : ℕ) (r : List ℤ) (q n : �
       let here : q * c + x ≡ (q + x / c) * c + x % c = omega (arith, div-add-mod' x c) in
       ap (rowed t φ c r) here ∙ row-zero t φ c r (q + x / c) (x % c) (e (x / c) (row .1)) (mod-lt x (row .0))
 
-  module _ (out out₀ last : List ℤ) (to e : ℕ) (at : to ≡ q * c) (o : out ≡ filled (rowed t φ c r) to out₀) (end : e ≡ to + n * c) (room : e ≤ length out₀) where
+  module _ (out out₀ last : List ℤ) (to e : ℕ) (at : to ≡ q * c) (o : out ≡ filled (rowed t φ c r) to out₀) (end : e ≡ to + n * c)
+      (room : e ≤ length out₀) where
     -- They are rows of r from row p on.
     pub put-rows : (p from stop : ℕ) → ((j : ℕ) → j < n → t (q + j) ≡ true) → ((j : ℕ) → j < n → φ (q + j) ≡ p + j)
         → from ≡ p * c → stop ≡ from + n * c → stop ≤ length r

@@ -11,34 +11,33 @@ use lib.Seq.{getD-set-same, getD-set-other}
 use lib.IntN.{ℤ, pos}
 use borrow.Rule.Slice.PartMut.{putMid}
 use Rattle.meaning.specs.Array.{tab}
-use Rattle.meaning.specs.Terms.{eqZ, onesFrom, ones}
+use Rattle.meaning.specs.Terms.{onesFrom, ones}
 use Rattle.copying.specs.Runs.{copied}
-use Rattle.copying.proofs.Runs.{filled, tab-is}
-use Rattle.masks.specs.Rows.{rowed, Stretch}
+use Rattle.copying.proofs.Runs.{filled-whole, tab-is}
+use Rattle.copying.specs.Steps.{filled}
+use Rattle.masks.specs.Steps.Actions.{oneAt}
+use Rattle.masks.specs.Steps.Rows.{keptRows, Stretch}
 use Rattle.masks.proofs.Ones.{before, before-none, before-few, before-all, before-most, before-one, before-other, one-at}
-use Rattle.masks.proofs.Filling.{filled-whole, put-rows, one-is}
+use Rattle.masks.proofs.Filling.{put-rows, one-is}
 use Rattle.masks.proofs.Stretches.{ones-add, ones-pass, others-pass, rows-size}
 use Rattle.masks.proofs.Written.{Written, written-none, written-run}
 
-abbrev pub kept : List ℤ → ℕ → List ℤ → ℕ → ℤ
-kept l c r = rowed (λ i. true) (λ i. getD (ones l) i 0) c r
-
 pub record Kept (l r : List ℤ) (c : ℕ) (out₀ out : List ℤ) (to i : ℕ) : Type 0 where
   pub within : i ≤ length l
-  pub written : Written (kept l c r) c out₀ out to (before i l)
+  pub written : Written (keptRows (ones l) c r) c out₀ out to (before i l)
 
 pub kept-none : (l r : List ℤ) (c : ℕ) (out₀ : List ℤ) → Kept l r c out₀ out₀ 0 0
 unfolding onesFrom
-kept-none l r c out₀ = record { within = omega arith; written = written-none (kept l c r) c out₀ }
+kept-none l r c out₀ = record { within = omega arith; written = written-none (keptRows (ones l) c r) c out₀ }
 
 module _ {l r : List ℤ} {c : ℕ} {out₀ out : List ℤ} {to i : ℕ} (k : Kept l r c out₀ out to i) (room : length out₀ ≡ length (ones l) * c) where
   -- The last row stands where the buffer ends.
-  pub kept-full : length out₀ ≤ to → out ≡ tab (length (ones l) * c) (kept l c r)
+  pub kept-full : length out₀ ≤ to → out ≡ tab (length (ones l) * c) (keptRows (ones l) c r)
   kept-full h =
       let most = mul-le-mul-right {m = before i l} {n = length (ones l)} c (before-most l i) in
       k .written .filling
-      ∙ ap (λ x. filled (kept l c r) x out₀) (let e : to ≡ length (ones l) * c = omega (arith, k .written .at, most) in e)
-      ∙ filled-whole (kept l c r) (length (ones l) * c) out₀ room
+      ∙ ap (λ x. filled (keptRows (ones l) c r) x out₀) (let e : to ≡ length (ones l) * c = omega (arith, k .written .at, most) in e)
+      ∙ filled-whole (keptRows (ones l) c r) (length (ones l) * c) out₀ (omega arith)
 
   -- A one is left while the buffer is not full.
   pub kept-first : {first : ℕ} → to < length out₀ → Stretch false l i first → first < length l
@@ -76,7 +75,8 @@ module _ {l r : List ℤ} {c : ℕ} {out₀ out : List ℤ} {to i : ℕ} (k : Ke
           written =
               rw passed
               (written-run (k .written) _ (next - first) (to + (next * c - first * c)) end run-room
-              (put-rows (λ j. true) (λ j. getD (ones l) j 0) c r (before i l) (next - first) out out₀ last to _ (k .written .at) (k .written .filling) end run-room first (first * c) (next * c)
+              (put-rows (λ j. true) (λ j. getD (ones l) j 0) c r (before i l) (next - first) out out₀ last to _ (k .written .at)
+              (k .written .filling) end run-room first (first * c) (next * c)
               (λ j h. refl)
               (λ j h.
               ap (λ x. getD (ones l) x 0) (sym (ones-add b j (omega arith) ∙ ap (λ x. x + j) (others-pass a)))
@@ -106,10 +106,10 @@ module _ {A : Type 0} {l : List ℤ} {g : ℕ → A} {d : A} {out₀ out : List 
     set-front : (j : ℕ) → j < to → g j ≡ getD (set out to v) j d
     set-front j q = k .front j q ∙ sym (getD-set-other out to j v d (λ e. absurd (omega arith)))
 
-    pub front-other : eqZ (getD l i (pos 0)) (pos 1) ≡ false → Front l g d out₀ (set out to v) to (i + 1)
+    pub front-other : oneAt l i ≡ false → Front l g d out₀ (set out to v) to (i + 1)
     front-other e = record { within = omega arith; at = k .at ∙ sym (before-other l i more e); long = set-long; front = set-front }
 
-    pub front-one : eqZ (getD l i (pos 0)) (pos 1) ≡ true → g (before i l) ≡ v → Front l g d out₀ (set out to v) (to + 1) (i + 1)
+    pub front-one : oneAt l i ≡ true → g (before i l) ≡ v → Front l g d out₀ (set out to v) (to + 1) (i + 1)
     front-one e w =
         record { within = omega arith; at = ap (λ x. x + 1) (k .at) ∙ sym (before-one l i more e); long = set-long; front = all }
       where
@@ -117,17 +117,20 @@ module _ {A : Type 0} {l : List ℤ} {g : ℕ → A} {d : A} {out₀ out : List 
         here = ap g (k .at) ∙ w ∙ sym (getD-set-same out to v d (omega (arith, k .long)))
 
         all : (j : ℕ) → j < to + 1 → g j ≡ getD (set out to v) j d
-        all j q = ⊎-elim (λ m. ap g m ∙ here ∙ ap (λ x. getD (set out to v) x d) (sym m)) (λ m. set-front j m) (eq-or-lt-of-le (let n : j ≤ to = omega arith in n))
+        all j q =
+            ⊎-elim (λ m. ap g m ∙ here ∙ ap (λ x. getD (set out to v) x d) (sym m)) (λ m. set-front j m) (eq-or-lt-of-le (let n : j ≤ to = omega arith in n))
 
 -- A one is left while fewer are passed than there are.
-pub front-left : {A : Type 0} {l : List ℤ} {g : ℕ → A} {d : A} {out₀ out : List A} {to i : ℕ} (k : Front l g d out₀ out to i) → to < length (ones l) → i < length l
+pub front-left : {A : Type 0} {l : List ℤ} {g : ℕ → A} {d : A} {out₀ out : List A} {to i : ℕ} (k : Front l g d out₀ out to i) → to < length (ones l)
+    → i < length l
 front-left {l = l} {i = i} k h = ⊎-elim (λ q. absurd (omega (arith, k .at, before-all l i (omega arith)))) (λ q. q) (eq-or-lt-of-le (k .within))
 
 -- The elements of a line.
 module _ (l r : List ℤ) where
-  pub line-all : {out₀ out : List ℤ} {to i : ℕ} (k : Front l (kept l 1 r) (pos 0) out₀ out to i) → length out₀ ≡ length (ones l) * 1 → length out₀ ≤ to
-      → out ≡ tab (length (ones l) * 1) (kept l 1 r)
-  line-all {out = out} k room h = tab-is out (pos 0) (length (ones l) * 1) (kept l 1 r) (k .long ∙ room) (λ j q. k .front j (omega arith))
+  pub line-all : {out₀ out : List ℤ} {to i : ℕ} (k : Front l (keptRows (ones l) 1 r) (pos 0) out₀ out to i) → length out₀ ≡ length (ones l) * 1
+      → length out₀ ≤ to
+      → out ≡ tab (length (ones l) * 1) (keptRows (ones l) 1 r)
+  line-all {out = out} k room h = tab-is out (pos 0) (length (ones l) * 1) (keptRows (ones l) 1 r) (k .long ∙ room) (λ j q. k .front j (omega arith))
 
-  pub line-one : (i : ℕ) → i < length l → eqZ (getD l i (pos 0)) (pos 1) ≡ true → kept l 1 r (before i l) ≡ getD r i (pos 0)
+  pub line-one : (i : ℕ) → i < length l → oneAt l i ≡ true → keptRows (ones l) 1 r (before i l) ≡ getD r i (pos 0)
   line-one i h e = one-is (λ j. true) (λ j. getD (ones l) j 0) r (before i l) i refl (one-at l i h e)

@@ -6,12 +6,9 @@ pub mod Kept
 pub mod Opened
 pub mod Scattered
 pub mod Chosen
-pub mod Uses
+pub mod Actions
 pub mod Placing
-pub mod Results
-pub mod Whole
+pub mod Vectors
 pub mod Lined
-pub mod Compressing
 pub mod Expanding
-pub mod Masking
-pub mod Bits
+pub mod Calls

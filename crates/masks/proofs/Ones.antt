@@ -15,7 +15,8 @@ use mir.Val.{SFits, ofZ}
 use Rattle.signed.proofs.Equal.{eqZ-key}
 use borrow.Author.Tests.{eq-eqb, ne-eqb}
 use Rattle.meaning.specs.Terms.{eqZ, onesFrom, ones}
-use Rattle.masks.specs.Rows.{maskOf}
+use Rattle.masks.specs.declared.Action.the-variants.{Compress}
+use Rattle.masks.specs.Steps.Actions.{maskOf, oneAt}
 
 -- What the code's test `z == 1` tells.
 pub test-one : (z : ℤ) → SFits w32 z → ofZ w32 z ≡ 1 → eqZ z (pos 1) ≡ true
@@ -28,7 +29,8 @@ pub ones-append : (i : ℕ) (xs ys : List ℤ) → onesFrom i (xs ++ ys) ≡ one
 unfolding onesFrom
 ones-append i [] ys = ap (λ k. onesFrom k ys) (sym (add-zero i))
 ones-append i (x ∷ xs) ys =
-    by (eqZ x (pos 1)) (ones-append (suc i) xs ys ∙ ap (λ k. onesFrom (suc i) xs ++ onesFrom k ys) (let e : suc i + length xs ≡ i + suc (length xs) = omega arith in e))
+    let e : suc i + length xs ≡ i + suc (length xs) = omega arith in
+    by (eqZ x (pos 1)) (ones-append (suc i) xs ys ∙ ap (λ k. onesFrom (suc i) xs ++ onesFrom k ys) e)
   where
     by : (b : Bool) → onesFrom (suc i) (xs ++ ys) ≡ onesFrom (suc i) xs ++ onesFrom (i + suc (length xs)) ys
         → cond b (i ∷ onesFrom (suc i) (xs ++ ys)) (onesFrom (suc i) (xs ++ ys))
@@ -75,27 +77,28 @@ module _ (l : List ℤ) (i : ℕ) (h : i < length l) where
   ones-more : ones (take (i + 1) l) ≡ ones (take i l) ++ onesFrom (0 + length (take i l)) (getD l i (pos 0) ∷ [])
   ones-more = ap (λ k. ones (take k l)) (add-one i) ∙ ap ones (take-suc l i (pos 0) h) ∙ ones-append 0 (take i l) (getD l i (pos 0) ∷ [])
 
-  pub before-one : eqZ (getD l i (pos 0)) (pos 1) ≡ true → before (i + 1) l ≡ before i l + 1
+  pub before-one : oneAt l i ≡ true → before (i + 1) l ≡ before i l + 1
   unfolding onesFrom
   before-one e = ap length ones-more ∙ length-append (ones (take i l)) _ ∙ rw e
 
-  pub before-other : eqZ (getD l i (pos 0)) (pos 1) ≡ false → before (i + 1) l ≡ before i l
+  pub before-other : oneAt l i ≡ false → before (i + 1) l ≡ before i l
   unfolding onesFrom
   before-other e = ap length ones-more ∙ length-append (ones (take i l)) _ ∙ rw e (add-zero _)
 
   -- A one at position i is the one that has as many before it.
-  ones-split : eqZ (getD l i (pos 0)) (pos 1) ≡ true → ones l ≡ ones (take i l) ++ (i ∷ onesFrom (suc i) (drop (suc i) l))
+  ones-split : oneAt l i ≡ true → ones l ≡ ones (take i l) ++ (i ∷ onesFrom (suc i) (drop (suc i) l))
   unfolding onesFrom
   ones-split e =
+      let q : 0 + length (take i l) ≡ i = omega (arith, length-take-le i l (omega arith)) in
       ap ones (split-at l i (pos 0) h)
       ∙ ones-append 0 (take i l) (getD l i (pos 0) ∷ drop (suc i) l)
-      ∙ ap (λ k. ones (take i l) ++ onesFrom k (getD l i (pos 0) ∷ drop (suc i) l)) (let q : 0 + length (take i l) ≡ i = omega (arith, length-take-le i l (omega arith)) in q)
+      ∙ ap (λ k. ones (take i l) ++ onesFrom k (getD l i (pos 0) ∷ drop (suc i) l)) q
       ∙ rw e
 
-  pub one-at : eqZ (getD l i (pos 0)) (pos 1) ≡ true → getD (ones l) (before i l) 0 ≡ i
+  pub one-at : oneAt l i ≡ true → getD (ones l) (before i l) 0 ≡ i
   one-at e = ap (λ x. getD x (before i l) 0) (ones-split e) ∙ getD-at (ones (take i l)) i (onesFrom (suc i) (drop (suc i) l)) 0 (before i l) refl
 
-  pub one-below : eqZ (getD l i (pos 0)) (pos 1) ≡ true → before i l < length (ones l)
+  pub one-below : oneAt l i ≡ true → before i l < length (ones l)
   one-below e = omega (arith, ap length (ones-split e), length-append (ones (take i l)) (i ∷ onesFrom (suc i) (drop (suc i) l)))
 
 -- A mask of ones alone.
@@ -104,10 +107,10 @@ module _ (l : List ℤ) (full : length (ones l) ≡ length l) where
   full-before i h =
       omega (arith, before-after l i, before-few l i, ones-le (0 + length (take i l)) (drop i l), length-drop i l)
 
-  pub full-one : (i : ℕ) → i < length l → eqZ (getD l i (pos 0)) (pos 1) ≡ true
+  pub full-one : (i : ℕ) → i < length l → oneAt l i ≡ true
   full-one i h = by _ refl
     where
-      by : (b : Bool) → eqZ (getD l i (pos 0)) (pos 1) ≡ b → b ≡ true
+      by : (b : Bool) → oneAt l i ≡ b → b ≡ true
       by true e = refl
       by false e = absurd (omega (arith, before-other l i h e, full-before i (omega arith), full-before (i + 1) (omega arith)))
 
@@ -138,27 +141,20 @@ unfolding onesFrom
 ones-no k zero x e = refl
 ones-no k (suc n) x e = rw e (ones-no (suc k) n x e)
 
--- Each position of a mask of ones alone is taken.
-pub ones-same : (k n i : ℕ) (x : ℤ) → eqZ x (pos 1) ≡ true → i < n → getD (onesFrom k (replicate n x)) i 0 ≡ k + i
-unfolding onesFrom
-ones-same k zero i x e h = absurd (omega arith)
-ones-same k (suc n) zero x e h = rw e (omega arith)
-ones-same k (suc n) (suc i) x e h = rw e (ones-same (suc k) n i x e (omega arith) ∙ omega arith)
-
 module _ (l : List ℤ) (n : ℕ) where
-  pub mask-single : length l ≡ 1 → maskOf l n ≡ replicate n (getD l 0 (pos 0))
+  pub mask-single : length l ≡ 1 → maskOf Compress l n ≡ replicate n (getD l 0 (pos 0))
   unfolding maskOf
   mask-single h = rw (eq-eqb (length l) 1 h)
 
-  pub mask-list : (length l ≡ 1 → ⊥) → maskOf l n ≡ l
+  pub mask-list : (length l ≡ 1 → ⊥) → maskOf Compress l n ≡ l
   unfolding maskOf
   mask-list h = rw (ne-eqb (length l) 1 h)
 
-  pub kept-list : (length l ≡ 1 → ⊥) → length (ones l) ≡ length (ones (maskOf l n))
+  pub kept-list : (length l ≡ 1 → ⊥) → length (ones l) ≡ length (ones (maskOf Compress l n))
   kept-list h = ap (λ x. length (ones x)) (sym (mask-list h))
 
-  pub kept-all : length l ≡ 1 → eqZ (getD l 0 (pos 0)) (pos 1) ≡ true → n ≡ length (ones (maskOf l n))
+  pub kept-all : length l ≡ 1 → oneAt l 0 ≡ true → n ≡ length (ones (maskOf Compress l n))
   kept-all h e = sym (ap (λ x. length (ones x)) (mask-single h) ∙ ones-all 0 n (getD l 0 (pos 0)) e)
 
-  pub kept-no : length l ≡ 1 → eqZ (getD l 0 (pos 0)) (pos 1) ≡ false → 0 ≡ length (ones (maskOf l n))
+  pub kept-no : length l ≡ 1 → oneAt l 0 ≡ false → 0 ≡ length (ones (maskOf Compress l n))
   kept-no h e = sym (ap (λ x. length (ones x)) (mask-single h) ∙ ones-no 0 n (getD l 0 (pos 0)) e)

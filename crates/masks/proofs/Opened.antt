@@ -1,7 +1,7 @@
 -- The loop of expand over the mask of a block: the positions that were passed are filled.
 use mathlib.Core.Path.{_≡_, refl, sym, ap, _∙_, subst}
 use mathlib.Core.List.{List}
-use mathlib.Core.Bool.{Bool, true, false}
+use mathlib.Core.Bool.{true, false}
 use Prim.Native.Nat.{ℕ, _+_, _*_, _-_, _≤_, _<_}
 use native.Mathlib.Nat.{mul-le-mul-right, zero-mul}
 use native.Mathlib.Omega.{arith}
@@ -9,32 +9,27 @@ use lib.ListN.{length, getD, take, drop, set, replicate}
 use lib.IntN.{ℤ, pos}
 use borrow.Rule.Slice.PartMut.{putMid}
 use Rattle.meaning.specs.Array.{tab}
-use Rattle.meaning.specs.Terms.{eqZ, onesFrom, ones}
+use Rattle.meaning.specs.Terms.{onesFrom, ones}
 use Rattle.copying.specs.Runs.{copied}
-use Rattle.copying.proofs.Runs.{filled}
-use Rattle.masks.specs.Rows.{rowed, Stretch}
+use Rattle.copying.specs.Steps.{filled}
+use Rattle.masks.specs.Steps.Actions.{oneAt}
+use Rattle.masks.specs.Steps.Rows.{openedRows, Stretch}
 use Rattle.masks.proofs.Ones.{before, before-most, before-one, before-other, one-below}
 use Rattle.masks.proofs.Stretches.{ones-add, ones-pass, others-pass, rows-size}
 use Rattle.masks.proofs.Filling.{put-rows, put-zeros, put-one, put-zero}
 use Rattle.masks.proofs.Written.{run-inside, Written, written-none, written-whole, written-room, written-more, written-run}
 
-abbrev pub oneAt : List ℤ → ℕ → Bool
-oneAt l i = eqZ (getD l i (pos 0)) (pos 1)
-
-abbrev pub opened : List ℤ → ℕ → List ℤ → ℕ → ℤ
-opened l c r = rowed (λ i. eqZ (getD l i (pos 0)) (pos 1)) (λ i. length (ones (take i l))) c r
-
 pub record Opened (l r : List ℤ) (c : ℕ) (out₀ out : List ℤ) (from to i : ℕ) : Type 0 where
   pub within : i ≤ length l
   pub source : from ≡ before i l * c
-  pub written : Written (opened l c r) c out₀ out to i
+  pub written : Written (openedRows l c r) c out₀ out to i
 
 pub opened-none : (l r : List ℤ) (c : ℕ) (out₀ : List ℤ) → Opened l r c out₀ out₀ 0 0 0
 unfolding onesFrom
-opened-none l r c out₀ = record { within = omega arith; source = sym (zero-mul c); written = written-none (opened l c r) c out₀ }
+opened-none l r c out₀ = record { within = omega arith; source = sym (zero-mul c); written = written-none (openedRows l c r) c out₀ }
 
 module _ {l r : List ℤ} {c : ℕ} {out₀ out : List ℤ} {from to i : ℕ} (k : Opened l r c out₀ out from to i) (room : length out₀ ≡ length l * c) where
-  pub opened-all : length l ≤ i → out ≡ tab (length l * c) (opened l c r)
+  pub opened-all : length l ≤ i → out ≡ tab (length l * c) (openedRows l c r)
   opened-all h = written-whole (k .written) (length l) (omega (arith, k .within)) room
 
   module _ (h : i < length l) where
@@ -42,11 +37,11 @@ module _ {l r : List ℤ} {c : ℕ} {out₀ out : List ℤ} {from to i : ℕ} (k
     opened-room = written-room (k .written) (length l) h (omega arith)
 
     -- One row more, of r or of zeros.
-    pub opened-next : oneAt l i ≡ true → (next : List ℤ) → next ≡ filled (opened l c r) (to + c) out₀ → Opened l r c out₀ next (from + c) (to + c) (i + 1)
+    pub opened-next : oneAt l i ≡ true → (next : List ℤ) → next ≡ filled (openedRows l c r) (to + c) out₀ → Opened l r c out₀ next (from + c) (to + c) (i + 1)
     opened-next e next f =
         record { within = omega arith; source = rw (before-one l i h e) (omega (arith, k .source)); written = written-more (k .written) opened-room f }
 
-    opened-past : oneAt l i ≡ false → (next : List ℤ) → next ≡ filled (opened l c r) (to + c) out₀ → Opened l r c out₀ next from (to + c) (i + 1)
+    opened-past : oneAt l i ≡ false → (next : List ℤ) → next ≡ filled (openedRows l c r) (to + c) out₀ → Opened l r c out₀ next from (to + c) (i + 1)
     opened-past e next f = record { within = omega arith; source = rw (before-other l i h e) (k .source); written = written-more (k .written) opened-room f }
 
     pub opened-inside : oneAt l i ≡ true → length r ≡ length (ones l) * c → from + c ≤ length r
@@ -60,10 +55,11 @@ module _ {l r : List ℤ} {c : ℕ} {out₀ out : List ℤ} {from i e : ℕ} (k 
   rows-room : e ≤ length l → e * c ≤ length out₀
   rows-room h = omega (arith, mul-le-mul-right {m = e} {n = length l} c h)
 
-  rows-more : {next : List ℤ} → i ≤ e → e ≤ length l → next ≡ filled (opened l c r) (i * c + (e - i) * c) out₀ → Written (opened l c r) c out₀ next (e * c) e
+  rows-more : {next : List ℤ} → i ≤ e → e ≤ length l → next ≡ filled (openedRows l c r) (i * c + (e - i) * c) out₀
+      → Written (openedRows l c r) c out₀ next (e * c) e
   rows-more {next = next} h h′ f =
       let all : i + (e - i) ≡ e = omega arith in
-      subst (λ x. Written (opened l c r) c out₀ next (e * c) x) all (written-run (k .written) next (e - i) (e * c) (rows-end h) (rows-room h′) f)
+      subst (λ x. Written (openedRows l c r) c out₀ next (e * c) x) all (written-run (k .written) next (e - i) (e * c) (rows-end h) (rows-room h′) f)
 
   pub opened-gap : Stretch false l i e → (last : List ℤ) → last ≡ replicate (length (take (e * c - i * c) (drop (i * c) out))) (pos 0)
       → Opened l r c out₀ (putMid (i * c) (e * c - i * c) out last) from (e * c) e
@@ -73,8 +69,8 @@ module _ {l r : List ℤ} {c : ℕ} {out₀ out : List ℤ} {from i e : ℕ} (k 
         source = k .source ∙ ap (λ x. x * c) (sym (others-pass s));
         written =
             rows-more (s .starts) (s .within)
-            (put-zeros (oneAt l) (λ j. before j l) c r i (e - i) out out₀ last (i * c) (e * c) refl (k .written .filling) (rows-end (s .starts)) (rows-room (s .within))
-            (λ j h. s .alike (i + j) (omega arith) (omega arith)) w);
+            (put-zeros (oneAt l) (λ j. before j l) c r i (e - i) out out₀ last (i * c) (e * c) refl (k .written .filling) (rows-end (s .starts))
+            (rows-room (s .within)) (λ j h. s .alike (i + j) (omega arith) (omega arith)) w);
       }
 
   pub opened-run : Stretch true l i e → from + (e * c - i * c) ≤ length r → (last : List ℤ)
@@ -86,9 +82,9 @@ module _ {l r : List ℤ} {c : ℕ} {out₀ out : List ℤ} {from i e : ℕ} (k 
         source = rw (ones-pass s, rows-size i e c (s .starts)) (omega (arith, k .source));
         written =
             rows-more (s .starts) (s .within)
-            (put-rows (oneAt l) (λ j. before j l) c r i (e - i) out out₀ last (i * c) (e * c) refl (k .written .filling) (rows-end (s .starts)) (rows-room (s .within))
-            (before i l) from (from + (e * c - i * c)) (λ j h. s .alike (i + j) (omega arith) (omega arith)) (λ j h. ones-add s j (omega arith)) (k .source)
-            (ap (λ x. from + x) (rows-size i e c (s .starts))) inside w);
+            (put-rows (oneAt l) (λ j. before j l) c r i (e - i) out out₀ last (i * c) (e * c) refl (k .written .filling) (rows-end (s .starts))
+            (rows-room (s .within)) (before i l) from (from + (e * c - i * c)) (λ j h. s .alike (i + j) (omega arith) (omega arith))
+            (λ j h. ones-add s j (omega arith)) (k .source) (ap (λ x. from + x) (rows-size i e c (s .starts))) inside w);
       }
 
 -- The rows of r for a stretch of ones after a gap.

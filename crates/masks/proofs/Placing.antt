@@ -1,42 +1,42 @@
 -- Blocks written one after another.
 use mathlib.Core.Path.{_≡_, sym}
 use mathlib.Core.List.{List}
-use mathlib.Core.Bool.{Bool}
 use Prim.Native.Nat.{ℕ, _+_, _*_, _-_, _≤_, _<_}
 use native.Mathlib.Nat.{zero-mul}
 use native.Mathlib.Omega.{arith}
 use lib.ListN.{length, take, drop}
 use lib.IntN.{ℤ}
 use borrow.Rule.Slice.PartMut.{putMid}
-use Rattle.meaning.specs.Array.{at, tab}
-use Rattle.copying.proofs.Runs.{filled}
+use Rattle.meaning.specs.Array.{tab}
 use Rattle.copying.proofs.Parts.{part-long, part-room}
 use Rattle.copying.proofs.Blocks.{put-block}
-use Rattle.masks.specs.Rows.{takes, taken, rowed, placed, Block, Blocks}
-use Rattle.masks.proofs.Uses.{taken-lt}
+use Rattle.masks.specs.declared.Action.{Action}
+use Rattle.masks.specs.Steps.Actions.{takesAt, taken}
+use Rattle.masks.specs.Steps.Rows.{rowsOf, placed, placedIn, Block, InBlocks}
+use Rattle.masks.proofs.Actions.{taken-lt}
 use Rattle.masks.proofs.Written.{run-inside, Written, written-none, written-front, written-room, written-more}
 
 -- The loop over the blocks: those that were passed stand in front.
-pub record Passed (e : Bool) (l r : List ℤ) (outer n m c : ℕ) (out₀ out : List ℤ) (from to o : ℕ) : Type 0 where
+pub record Passed (a : Action) (l r : List ℤ) (outer n m c : ℕ) (out₀ out : List ℤ) (from to o : ℕ) : Type 0 where
   pub within : o ≤ outer
   pub source-at : from ≡ o * (n * c)
-  pub written : Written (placed (takes e l) (taken e l n) n m c r) (m * c) out₀ out to o
+  pub written : Written (placed a l n m c r) (m * c) out₀ out to o
 
-pub passed-none : (e : Bool) (l r : List ℤ) (outer n m c : ℕ) (out₀ : List ℤ) → Passed e l r outer n m c out₀ out₀ 0 0 0
-passed-none e l r outer n m c out₀ = record { within = omega arith; source-at = sym (zero-mul (n * c)); written = written-none _ (m * c) out₀ }
+pub passed-none : (a : Action) (l r : List ℤ) (outer n m c : ℕ) (out₀ : List ℤ) → Passed a l r outer n m c out₀ out₀ 0 0 0
+passed-none a l r outer n m c out₀ = record { within = omega arith; source-at = sym (zero-mul (n * c)); written = written-none _ (m * c) out₀ }
 
-module _ {e : Bool} {l r : List ℤ} {outer n m c : ℕ} {out₀ out : List ℤ} {from to o : ℕ} (k : Passed e l r outer n m c out₀ out from to o) where
-  pub passed-all : outer ≤ o → out ≡ filled (placed (takes e l) (taken e l n) n m c r) (outer * (m * c)) out₀
+module _ {a : Action} {l r : List ℤ} {outer n m c : ℕ} {out₀ out : List ℤ} {from to o : ℕ} (k : Passed a l r outer n m c out₀ out from to o) where
+  pub passed-all : outer ≤ o → out ≡ placedIn a l outer n m c r out₀
   passed-all h = written-front (k .written) outer (omega (arith, k .within))
 
-  module _ (b : Blocks e l outer n m c (length r) (length out₀)) (h : o < outer) where
+  module _ (b : InBlocks a l outer n m c (length r) (length out₀)) (h : o < outer) where
     pub passed-inside : from + n * c ≤ length r
     passed-inside = run-inside (n * c) from o outer (length r) (k .source-at) h (b .source)
 
     pub passed-room : to + m * c ≤ length out₀
     passed-room = written-room (k .written) outer h (b .room)
 
-    pub passed-block : Block e l n m c (length (take (from + n * c - from) (drop from r))) (length (take (to + m * c - to) (drop to out)))
+    pub passed-block : Block a l n m c (length (take (from + n * c - from) (drop from r))) (length (take (to + m * c - to) (drop to out)))
     passed-block = record {
       fitting = b .fitting;
       wide = b .wide;
@@ -44,21 +44,21 @@ module _ {e : Bool} {l r : List ℤ} {outer n m c : ℕ} {out₀ out : List ℤ}
       room = part-room out to (m * c) (length out₀) (k .written .long) passed-room;
     }
 
-    pub passed-more : (last : List ℤ) → last ≡ tab (m * c) (rowed (takes e l) (taken e l n) c (take (from + n * c - from) (drop from r)))
-        → Passed e l r outer n m c out₀ (putMid to (to + m * c - to) out last) (from + n * c) (to + m * c) (o + 1)
+    pub passed-more : (last : List ℤ) → last ≡ tab (m * c) (rowsOf a l n c (take (from + n * c - from) (drop from r)))
+        → Passed a l r outer n m c out₀ (putMid to (to + m * c - to) out last) (from + n * c) (to + m * c) (o + 1)
     passed-more last w = record {
       within = omega arith;
       source-at = omega (arith, k .source-at);
       written =
           written-more (k .written) passed-room
-          (put-block (takes e l) (taken e l n) n m c r o (λ i q. taken-lt e l n i (b .fitting) (omega (arith, b .wide))) out out₀ last from to (k .written .filling) (k .written .at) (k .source-at) w);
+          (put-block (takesAt a l) (taken a l n) n m c r o (λ i q. taken-lt a l n i (b .fitting) (omega (arith, b .wide))) out out₀ last from to
+          (k .written .filling) (k .written .at) (k .source-at) w);
     }
 
--- Blocks that are called with what they are: the use x, and rows of d elements.
-module _ {e x : Bool} {c d : ℕ} (u : e ≡ x) (s : c ≡ d) where
-  pub blocks-by : {l : List ℤ} {outer n m from to : ℕ} → Blocks e l outer n m c from to → Blocks x l outer n m d from to
+-- Blocks that are called with what they are: the action x, and rows of d elements.
+module _ {a x : Action} {c d : ℕ} (u : a ≡ x) (s : c ≡ d) where
+  pub blocks-by : {l : List ℤ} {outer n m from to : ℕ} → InBlocks a l outer n m c from to → InBlocks x l outer n m d from to
   blocks-by b = rw (u, s) at b
 
-  pub placed-by : (l r : List ℤ) (outer n m : ℕ) (out : List ℤ)
-      → filled (placed (takes x l) (taken x l n) n m d r) (outer * (m * d)) out ≡ filled (placed (takes e l) (taken e l n) n m c r) (outer * (m * c)) out
+  pub placed-by : (l r : List ℤ) (outer n m : ℕ) (out : List ℤ) → placedIn x l outer n m d r out ≡ placedIn a l outer n m c r out
   placed-by l r outer n m out = rw (u, s)

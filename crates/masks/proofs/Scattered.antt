@@ -14,12 +14,13 @@ use Rattle.meaning.specs.Array.{tab}
 use Rattle.meaning.specs.Terms.{ones}
 use Rattle.meaning.proofs.Tab.{length-tab, getD-part}
 use Rattle.copying.specs.Runs.{copied}
-use Rattle.copying.proofs.Runs.{filled}
-use Rattle.masks.specs.Rows.{Stretch}
+use Rattle.copying.specs.Steps.{filled}
+use Rattle.masks.specs.Steps.Actions.{oneAt}
+use Rattle.masks.specs.Steps.Rows.{openedRows, Stretch}
 use Rattle.masks.proofs.Ones.{before, before-none, before-all, before-one, ones-le, one-at, one-below}
 use Rattle.masks.proofs.Stretches.{others-pass}
 use Rattle.masks.proofs.Filling.{put-row, put-one}
-use Rattle.masks.proofs.Opened.{oneAt, opened, Opened, opened-none, opened-all, opened-room, opened-next, opened-inside, opened-gap}
+use Rattle.masks.proofs.Opened.{Opened, opened-none, opened-all, opened-room, opened-next, opened-inside, opened-gap}
 
 -- One position more in front of a stretch of others.
 others-back : {l : List ℤ} {i e : ℕ} → oneAt l i ≡ false → Stretch false l (i + 1) e → Stretch false l i e
@@ -71,7 +72,8 @@ scattered-on {l = l} {r = r} {c = c} {zeros = zeros} {out = out} {from = from} i
     let gap = others-from l (length l - i) i (omega (arith, k .within)) in
     let e = gap .0 in
     let n = e * c - i * c in
-    let rest : drop (i * c) out ≡ drop (i * c) zeros = ap (drop (i * c)) (k .written .filling) ∙ drop-at (tab (i * c) (opened l c r)) (drop (i * c) zeros) (i * c) (length-tab (i * c) (opened l c r)) in
+    let rest : drop (i * c) out ≡ drop (i * c) zeros =
+    ap (drop (i * c)) (k .written .filling) ∙ drop-at (tab (i * c) (openedRows l c r)) (drop (i * c) zeros) (i * c) (length-tab (i * c) (openedRows l c r)) in
     let same : take n (drop (i * c) out) ≡ replicate (length (take n (drop (i * c) out))) (pos 0) = rw rest (zeros-part (length l * c) (i * c) n zeros blank) in
     record {
       next = e;
@@ -93,7 +95,7 @@ module _ {l r : List ℤ} {c : ℕ} {zeros out : List ℤ} {from q : ℕ} (s : S
   scattered-long = s .front .written .long ∙ room
 
   module _ (all : length r ≡ length (ones l) * c) where
-    pub scattered-all : 0 < c → length r ≤ from → out ≡ tab (length l * c) (opened l c r)
+    pub scattered-all : 0 < c → length r ≤ from → out ≡ tab (length l * c) (openedRows l c r)
     scattered-all some h =
         ⊎-elim
         (λ e. opened-all (s .front) room (omega arith))
@@ -125,7 +127,7 @@ module _ {l r : List ℤ} {c : ℕ} {zeros out : List ℤ} {from q : ℕ} (s : S
         here : Opened l r c zeros out from (p * c) p
         here = subst (λ x. Opened l r c zeros out from (x * c) x) at-next (s .front)
 
-        pub one-in : p < length l
+        one-in : p < length l
         one-in = omega (arith, next-in, at-next)
 
         one-here : oneAt l p ≡ true
@@ -141,23 +143,27 @@ module _ {l r : List ℤ} {c : ℕ} {zeros out : List ℤ} {from q : ℕ} (s : S
         row-room = omega (arith, row-zeros, s .front .written .long)
 
         -- The row is written there.
-        scattered-next : (more : List ℤ) → more ≡ filled (opened l c r) (p * c + c) zeros → Scattered l r c zeros more (from + c) (q + 1)
+        scattered-next : (more : List ℤ) → more ≡ filled (openedRows l c r) (p * c + c) zeros → Scattered l r c zeros more (from + c) (q + 1)
         scattered-next more f =
             let end : p * c + c ≡ (p + 1) * c = omega arith in
-            scattered-on (p + 1) (rw end at (opened-next here room one-in one-here more f)) (before-one l p one-in one-here ∙ ap (λ x. x + 1) count-here) (s .blank)
+            scattered-on (p + 1) (rw end at (opened-next here room one-in one-here more f))
+            (before-one l p one-in one-here ∙ ap (λ x. x + 1) count-here) (s .blank)
 
         pub scattered-row : (last : List ℤ) → last ≡ copied (take (from + c - from) (drop from r)) (take (p * c + c - p * c) (drop (p * c) out))
             → Scattered l r c zeros (putMid (p * c) (p * c + c - p * c) out last) (from + c) (q + 1)
         scattered-row last w =
             scattered-next _
-            (put-row (oneAt l) (λ j. before j l) c r p out zeros last (p * c) refl (here .written .filling) row-zeros q from one-here count-here (rw count-here at (here .source)) row-inside w)
+            (put-row (oneAt l) (λ j. before j l) c r p out zeros last (p * c) refl (here .written .filling) row-zeros q from one-here count-here
+            (rw count-here at (here .source)) row-inside w)
 
 -- Where a row is one element.
-pub scattered-one : {l r zeros out : List ℤ} {q p : ℕ} (s : Scattered l r 1 zeros out q q) (all : length r ≡ length (ones l) * 1) (left : q < length r) (noted : p ≡ getD (ones l) q 0)
+pub scattered-one : {l r zeros out : List ℤ} {q p : ℕ} (s : Scattered l r 1 zeros out q q) (all : length r ≡ length (ones l) * 1)
+    (left : q < length r) (noted : p ≡ getD (ones l) q 0)
     → (v : ℤ) → v ≡ getD r q (pos 0) → Scattered l r 1 zeros (set out p v) (q + 1) (q + 1)
 scattered-one {l = l} {r = r} {zeros = zeros} {out = out} {q = q} {p = p} s all left noted v w =
     let single : p * 1 ≡ p = omega arith in
     scattered-next s all left noted _
     (rw single
-    (put-one (oneAt l) (λ j. before j l) r p out zeros (rw single at (here s all left noted .written .filling)) (omega (arith, row-zeros s all left noted)) v q (one-here s all left noted)
+    (put-one (oneAt l) (λ j. before j l) r p out zeros (rw single at (here s all left noted .written .filling))
+    (omega (arith, row-zeros s all left noted)) v q (one-here s all left noted)
     (count-here s all left noted) w))

@@ -5,13 +5,12 @@ use mathlib.Core.Bool.{Bool, true, false, not, Bool·beq}
 use mathlib.Core.Logic.{⊎-elim}
 use Prim.Native.Nat.{ℕ, zero, suc, _+_, _*_, _-_, _≤_, _<_}
 use native.Mathlib.Nat.{add-zero, eq-or-lt-of-le, mul-le-mul-right}
-use native.Mathlib.Numerals.{add-one}
 use native.Mathlib.Omega.{arith}
-use lib.ListN.{length, getD}
-use lib.IntN.{ℤ, pos}
+use lib.ListN.{length}
+use lib.IntN.{ℤ}
 use Rattle.shape.proofs.Bools.{no-way}
-use Rattle.meaning.specs.Terms.{eqZ}
-use Rattle.masks.specs.Rows.{Stretch}
+use Rattle.masks.specs.Steps.Actions.{oneAt}
+use Rattle.masks.specs.Steps.Rows.{Stretch}
 use Rattle.masks.proofs.Ones.{before, before-one, before-other}
 
 -- What the code's test of two bools tells.
@@ -28,9 +27,9 @@ same-bool false true h = no-way (sym h)
 same-bool false false h = refl
 
 -- One position more.
-pub alike-more : (b : Bool) (l : List ℤ) (i e : ℕ) → ((j : ℕ) → i ≤ j → j < e → eqZ (getD l j (pos 0)) (pos 1) ≡ b)
-    → eqZ (getD l e (pos 0)) (pos 1) ≡ b → (j : ℕ) → i ≤ j → j < e + 1 → eqZ (getD l j (pos 0)) (pos 1) ≡ b
-alike-more b l i e all one j h k = ⊎-elim (λ q. ap (λ x. eqZ (getD l x (pos 0)) (pos 1)) q ∙ one) (λ q. all j h q) (eq-or-lt-of-le (let m : j ≤ e = omega arith in m))
+pub alike-more : (b : Bool) (l : List ℤ) (i e : ℕ) → ((j : ℕ) → i ≤ j → j < e → oneAt l j ≡ b)
+    → oneAt l e ≡ b → (j : ℕ) → i ≤ j → j < e + 1 → oneAt l j ≡ b
+alike-more b l i e all one j h k = ⊎-elim (λ q. ap (oneAt l) q ∙ one) (λ q. all j h q) (eq-or-lt-of-le (let m : j ≤ e = omega arith in m))
 
 module _ {l : List ℤ} {i e : ℕ} where
   -- Ones add up.
@@ -60,22 +59,24 @@ module _ {l : List ℤ} {i e : ℕ} where
 
 -- A stretch of others and the ones after it leave no position where they began.
 pub stretch-more : {l : List ℤ} {i first next : ℕ} → Stretch false l i first → Stretch true l first next → i < length l → i < next
-stretch-more {l = l} {i = i} {first = first} {next = next} a b h = ⊎-elim (λ q. absurd (none q)) (λ q. q) (eq-or-lt-of-le (let m : i ≤ next = omega (arith, a .starts, b .starts) in m))
+stretch-more {l = l} {i = i} {first = first} {next = next} a b h =
+    let m : i ≤ next = omega (arith, a .starts, b .starts) in
+    ⊎-elim (λ q. absurd (none q)) (λ q. q) (eq-or-lt-of-le m)
   where
     none : i ≡ next → ⊥
     none q =
         let here : first ≡ i = omega (arith, a .starts, b .starts) in
-        let one : eqZ (getD l first (pos 0)) (pos 1) ≡ true = a .ends (omega arith) in
-        let other : eqZ (getD l next (pos 0)) (pos 1) ≡ false = b .ends (omega arith) in
-        no-way (sym other ∙ ap (λ x. eqZ (getD l x (pos 0)) (pos 1)) (let e : next ≡ first = omega arith in e) ∙ one)
+        let one : oneAt l first ≡ true = a .ends (omega arith) in
+        let other : oneAt l next ≡ false = b .ends (omega arith) in
+        no-way (sym other ∙ ap (oneAt l) (let e : next ≡ first = omega arith in e) ∙ one)
 
 -- The position at which others end is the first of the ones.
 pub from-first : {l : List ℤ} {i first next : ℕ} → Stretch false l i first → first < length l → Stretch true l (first + 1) next → Stretch true l first next
 from-first {l = l} {first = first} {next = next} a h b =
     record { starts = omega (arith, b .starts); within = b .within; alike = all; ends = b .ends }
   where
-    all : (j : ℕ) → first ≤ j → j < next → eqZ (getD l j (pos 0)) (pos 1) ≡ true
-    all j k m = ⊎-elim (λ q. ap (λ x. eqZ (getD l x (pos 0)) (pos 1)) (sym q) ∙ a .ends h) (λ q. b .alike j (omega arith) m) (eq-or-lt-of-le k)
+    all : (j : ℕ) → first ≤ j → j < next → oneAt l j ≡ true
+    all j k m = ⊎-elim (λ q. ap (oneAt l) (sym q) ∙ a .ends h) (λ q. b .alike j (omega arith) m) (eq-or-lt-of-le k)
 
 -- The elements of the rows at a stretch, c a row.
 pub rows-size : (i e c : ℕ) → i ≤ e → e * c - i * c ≡ (e - i) * c

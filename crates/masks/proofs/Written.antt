@@ -7,7 +7,8 @@ use native.Mathlib.Omega.{arith}
 use lib.ListN.{length, set}
 use lib.IntN.{ℤ, pos}
 use Rattle.meaning.specs.Array.{tab}
-use Rattle.copying.proofs.Runs.{filled, filled-none, filled-whole, filled-one, length-filled}
+use Rattle.copying.proofs.Runs.{filled-none, filled-whole, filled-one, length-filled}
+use Rattle.copying.specs.Steps.{filled}
 
 -- Run q of m lies inside n elements.
 pub run-inside : (size at q m n : ℕ) → at ≡ q * size → q < m → m * size ≤ n → at + size ≤ n

@@ -1,13 +1,14 @@
 // The rows of one block. Where a row is one element there is one loop over the line.
 ghost use mathlib.Core.Path.{_≡_};
 ghost use mathlib.Core.Bool.{true, cond};
-ghost use Prim.Native.Nat.{ℕ, _+_, _*_, _≤_, _<_};
-ghost use lib.ListN.{length, take, getD};
+ghost use Prim.Native.Nat.{_*_, _≤_, _<_};
+ghost use lib.ListN.{length};
 ghost use lib.IntN.{pos};
 ghost use Rattle.meaning.specs.Array.{tab};
-ghost use Rattle.meaning.specs.Terms.{eqZ, ones};
-ghost use Rattle.copying.proofs.Runs.{filled};
-ghost use Rattle.masks.specs.Rows.{few, Noted, rowed, Stretch};
+ghost use Rattle.meaning.specs.Terms.{ones};
+ghost use Rattle.copying.specs.Steps.{filled};
+ghost use Rattle.masks.specs.Steps.Actions.{oneAt};
+ghost use Rattle.masks.specs.Steps.Rows.{few, Noted, rowed, keptRows, openedRows, Keeps, Opens, Stretch};
 
 // A mask of up to so many positions is looked at once, and not again for each block.
 pub const FEW: usize = 64;
@@ -40,9 +41,9 @@ fn note(l: &[i32], at: &mut [u16; FEW])
 }
 
 // The elements at the noted positions.
-fn kept_line(at: &[u16; FEW], r: &[i32], out: &mut [i32])
-    requires { ⌜ (length (now out) ≤ few) × ((q : ℕ) → q < length (now out) → getD (now at) q 0 < length (now r)) ⌝ }
-    ensures { λ _. ⌜ now (out .exit) ≡ tab (length (now (out .entry)) * 1) (rowed (λ i. true) (λ i. getD (now (at .entry)) i 0) 1 (now (r .entry))) ⌝ }
+fn kept_line(at: &[u16], r: &[i32], out: &mut [i32])
+    requires { ⌜ Keeps (now at) (length (now out)) 1 (length (now r)) (length (now out)) ⌝ }
+    ensures { λ _. ⌜ now (out .exit) ≡ tab (length (now (out .entry)) * 1) (keptRows (now (at .entry)) 1 (now (r .entry))) ⌝ }
 {
     let mut q = 0;
     while q < out.len() {
@@ -53,9 +54,9 @@ fn kept_line(at: &[u16; FEW], r: &[i32], out: &mut [i32])
 }
 
 // The m rows at the noted positions, each by itself: to join neighbours to one run took longer.
-pub fn kept_rows(at: &[u16; FEW], r: &[i32], m: usize, inner: usize, out: &mut [i32])
-    requires { ⌜ (m ≤ few) × ((0 < inner) × ((length (now out) ≡ m * inner) × ((q : ℕ) → q < m → (getD (now at) q 0 + 1) * inner ≤ length (now r)))) ⌝ }
-    ensures { λ _. ⌜ now (out .exit) ≡ tab (m * inner) (rowed (λ i. true) (λ i. getD (now (at .entry)) i 0) inner (now (r .entry))) ⌝ }
+pub fn kept_rows(at: &[u16], r: &[i32], m: usize, inner: usize, out: &mut [i32])
+    requires { ⌜ (0 < inner) × Keeps (now at) m inner (length (now r)) (length (now out)) ⌝ }
+    ensures { λ _. ⌜ now (out .exit) ≡ tab (m * inner) (keptRows (now (at .entry)) inner (now (r .entry))) ⌝ }
 {
     if inner == 1 {
         kept_line(at, r, out);
@@ -75,13 +76,9 @@ pub fn kept_rows(at: &[u16; FEW], r: &[i32], m: usize, inner: usize, out: &mut [
 }
 
 // The elements in order at the noted positions, over zeros. Only the contract speaks of l.
-fn opened_line(l: &[i32], at: &[u16; FEW], r: &[i32], out: &mut [i32])
-    requires { ⌜ (length (now l) ≤ few)
-        × (Noted (now l) (now at) × ((length (now r) ≡ length (ones (now l)) * 1) × (length (now out) ≡ length (now l) * 1))) ⌝ }
-    ensures { λ _.
-        ⌜ now (out .exit)
-        ≡ tab (length (now (l .entry)) * 1)
-        (rowed (λ i. eqZ (getD (now (l .entry)) i (pos 0)) (pos 1)) (λ i. length (ones (take i (now (l .entry))))) 1 (now (r .entry))) ⌝ }
+fn opened_line(l: &[i32], at: &[u16], r: &[i32], out: &mut [i32])
+    requires { ⌜ Opens (now l) (now at) 1 (length (now r)) (length (now out)) ⌝ }
+    ensures { λ _. ⌜ now (out .exit) ≡ tab (length (now (l .entry)) * 1) (openedRows (now (l .entry)) 1 (now (r .entry))) ⌝ }
 {
     copying::fill_run(0, out);
     let mut q = 0;
@@ -93,14 +90,9 @@ fn opened_line(l: &[i32], at: &[u16; FEW], r: &[i32], out: &mut [i32])
 }
 
 // The rows in order at the noted positions, over zeros: one run of zeros for a block costs less than one for each gap.
-pub fn opened_rows(l: &[i32], at: &[u16; FEW], r: &[i32], inner: usize, out: &mut [i32])
-    requires { ⌜ (0 < inner)
-        × ((length (now l) ≤ few)
-        × (Noted (now l) (now at) × ((length (now r) ≡ length (ones (now l)) * inner) × (length (now out) ≡ length (now l) * inner)))) ⌝ }
-    ensures { λ _.
-        ⌜ now (out .exit)
-        ≡ tab (length (now (l .entry)) * inner)
-        (rowed (λ i. eqZ (getD (now (l .entry)) i (pos 0)) (pos 1)) (λ i. length (ones (take i (now (l .entry))))) inner (now (r .entry))) ⌝ }
+pub fn opened_rows(l: &[i32], at: &[u16], r: &[i32], inner: usize, out: &mut [i32])
+    requires { ⌜ (0 < inner) × Opens (now l) (now at) inner (length (now r)) (length (now out)) ⌝ }
+    ensures { λ _. ⌜ now (out .exit) ≡ tab (length (now (l .entry)) * inner) (openedRows (now (l .entry)) inner (now (r .entry))) ⌝ }
 {
     if inner == 1 {
         opened_line(l, at, r, out);
@@ -123,9 +115,7 @@ pub fn opened_rows(l: &[i32], at: &[u16; FEW], r: &[i32], inner: usize, out: &mu
 // The elements at ones. Every element is written, and the next over it if it is not kept: a branch for each would be guessed wrong.
 pub fn compress_line(l: &[i32], r: &[i32], out: &mut [i32])
     requires { ⌜ (length (now r) ≡ length (now l) * 1) × (length (now out) ≡ length (ones (now l)) * 1) ⌝ }
-    ensures { λ _.
-        ⌜ now (out .exit)
-        ≡ tab (length (ones (now (l .entry))) * 1) (rowed (λ i. true) (λ i. getD (ones (now (l .entry))) i 0) 1 (now (r .entry))) ⌝ }
+    ensures { λ _. ⌜ now (out .exit) ≡ tab (length (ones (now (l .entry))) * 1) (keptRows (ones (now (l .entry))) 1 (now (r .entry))) ⌝ }
 {
     let mut to = 0;
     let mut i = 0;
@@ -156,9 +146,7 @@ fn past(one: bool, l: &[i32], i: usize) -> usize
 // The rows at ones: those at neighbours are one run.
 pub fn compress_rows(l: &[i32], r: &[i32], inner: usize, out: &mut [i32])
     requires { ⌜ (length (now r) ≡ length (now l) * inner) × (length (now out) ≡ length (ones (now l)) * inner) ⌝ }
-    ensures { λ _.
-        ⌜ now (out .exit)
-        ≡ tab (length (ones (now (l .entry))) * inner) (rowed (λ i. true) (λ i. getD (ones (now (l .entry))) i 0) inner (now (r .entry))) ⌝ }
+    ensures { λ _. ⌜ now (out .exit) ≡ tab (length (ones (now (l .entry))) * inner) (keptRows (ones (now (l .entry))) inner (now (r .entry))) ⌝ }
 {
     let mut to = 0;
     let mut i = 0;
@@ -195,10 +183,7 @@ pub fn repeat_row(r: &[i32], m: usize, inner: usize, out: &mut [i32])
 // The elements in order at ones, zeros elsewhere.
 pub fn expand_line(l: &[i32], r: &[i32], out: &mut [i32])
     requires { ⌜ (length (now r) ≡ length (ones (now l)) * 1) × (length (now out) ≡ length (now l) * 1) ⌝ }
-    ensures { λ _.
-        ⌜ now (out .exit)
-        ≡ tab (length (now (l .entry)) * 1)
-        (rowed (λ i. eqZ (getD (now (l .entry)) i (pos 0)) (pos 1)) (λ i. length (ones (take i (now (l .entry))))) 1 (now (r .entry))) ⌝ }
+    ensures { λ _. ⌜ now (out .exit) ≡ tab (length (now (l .entry)) * 1) (openedRows (now (l .entry)) 1 (now (r .entry))) ⌝ }
 {
     let mut from = 0;
     let mut i = 0;
@@ -216,10 +201,7 @@ pub fn expand_line(l: &[i32], r: &[i32], out: &mut [i32])
 // The rows in order at ones, zeros elsewhere: neighbours are one run.
 pub fn expand_rows(l: &[i32], r: &[i32], inner: usize, out: &mut [i32])
     requires { ⌜ (length (now r) ≡ length (ones (now l)) * inner) × (length (now out) ≡ length (now l) * inner) ⌝ }
-    ensures { λ _.
-        ⌜ now (out .exit)
-        ≡ tab (length (now (l .entry)) * inner)
-        (rowed (λ i. eqZ (getD (now (l .entry)) i (pos 0)) (pos 1)) (λ i. length (ones (take i (now (l .entry))))) inner (now (r .entry))) ⌝ }
+    ensures { λ _. ⌜ now (out .exit) ≡ tab (length (now (l .entry)) * inner) (openedRows (now (l .entry)) inner (now (r .entry))) ⌝ }
 {
     let mut from = 0;
     let mut i = 0;
@@ -240,8 +222,7 @@ pub fn expand_rows(l: &[i32], r: &[i32], inner: usize, out: &mut [i32])
 // x at ones, zeros elsewhere.
 pub fn spread(x: i32, l: &[i32], out: &mut [i32])
     requires { ⌜ length (now l) ≤ length (now out) ⌝ }
-    ensures { λ _.
-        ⌜ now (out .exit) ≡ filled (λ i. cond (eqZ (getD (now (l .entry)) i (pos 0)) (pos 1)) x (pos 0)) (length (now (l .entry))) (now (out .entry)) ⌝ }
+    ensures { λ _. ⌜ now (out .exit) ≡ filled (λ i. cond (oneAt (now (l .entry)) i) x (pos 0)) (length (now (l .entry))) (now (out .entry)) ⌝ }
 {
     let mut i = 0;
     while i < l.len() {

@@ -9,7 +9,7 @@ use borrow.Author.Needs.{needs, sfits-of}
 use borrow.Author.Tests.{not-true, not-false}
 use Rattle.meaning.specs.Terms.{every, isBit}
 use Rattle.signed.proofs.Reading.{read32}
-use Rattle.masks.proofs.Bits.{all-kept, all-lost, all-end}
+use Rattle.meaning.proofs.Every.{all-kept, all-lost, all-end}
 use Rattle.masks.proofs.all_bits.Statement.{statement}
 use Rattle.masks.proofs.all_bits.Tie as tie
 
@@ -19,20 +19,27 @@ Inv-loop l all₀ i₀ all i = (i ≤ length l) × (every isBit l ≡ (all && ev
 abbrev μ-loop : tie.MeasureT-loop
 μ-loop l all₀ i₀ all i = length l - i
 
-test : (c : tie.After-is-bit Inv-loop μ-loop) → c .is-bit .result ≡ isBit (getD (c .before .before .before .before .args .l .now) (c .before .before .before .loop .i) (pos 0))
-test c = c .is-bit .ensures ∙ ap isBit (read32 (getD (c .before .before .before .before .args .l .now) (c .before .before .before .loop .i) (pos 0)) (sfits-of (c .before .is-bit-arg .given)))
+abbrev passed : tie.After-is-bit Inv-loop μ-loop → tie.At-loop Inv-loop μ-loop
+passed c = c .before .before .before
+
+test : (c : tie.After-is-bit Inv-loop μ-loop)
+    → let lp = passed c in c .is-bit .result ≡ isBit (getD (lp .before .args .l .now) (lp .loop .i) (pos 0))
+test c =
+    let lp = passed c in
+    c .is-bit .ensures ∙ ap isBit (read32 (getD (lp .before .args .l .now) (lp .loop .i) (pos 0)) (sfits-of (c .before .is-bit-arg .given)))
 
 loop-holds : tie.Need-loop-holds Inv-loop μ-loop
 loop-holds c = (omega arith, refl)
 
 loop-again : tie.Need-loop-again Inv-loop μ-loop
 loop-again c =
-    let lp = c .before .before .before .before .loop in
-    let l = c .before .before .before .before .before .args .l .now in (
+    let lp = passed (c .before) .loop in
+    let l = passed (c .before) .before .args .l .now in
+    let bit = c .before .is-bit .result in (
       omega arith,
       ⊎-elim
-          (λ w. all-lost isBit l (lp .i) (lp .all) (lp .inv .1) (pos 0) (omega arith) (sym (test (c .before)) ∙ not-true (c .before .is-bit .result) (w .0 .taken)) (w .1))
-          (λ w. all-kept isBit l (lp .i) (lp .all) (lp .inv .1) (pos 0) (omega arith) (sym (test (c .before)) ∙ not-false (c .before .is-bit .result) (w .0 .left)) (w .1))
+          (λ w. all-lost isBit l (lp .i) (lp .all) (lp .inv .1) (pos 0) (omega arith) (sym (test (c .before)) ∙ not-true bit (w .0 .taken)) (w .1))
+          (λ w. all-kept isBit l (lp .i) (lp .all) (lp .inv .1) (pos 0) (omega arith) (sym (test (c .before)) ∙ not-false bit (w .0 .left)) (w .1))
           (c .if1 .came),
     )
 

@@ -1,14 +1,16 @@
-use mathlib.Core.Path.{_∙_}
-use Rattle.masks.proofs.Results.{scalar-vector, array-vector}
 use borrow.Author.Needs.{needs}
+use borrow.Author.Tests.{eq-eqb, ne-eqb}
+use Rattle.masks.specs.Steps.Actions.{vectorShape}
 use Rattle.masks.proofs.as_vector.Statement.{statement}
 use Rattle.masks.proofs.as_vector.Tie as tie
 
 returns : tie.Need-returns
-returns c = c .vector .ensures ∙ scalar-vector _ (c .before .if1 .taken)
+unfolding vectorShape
+returns c = rw (eq-eqb _ 0 (c .before .if1 .taken)) (c .vector .ensures)
 
 returns-2 : tie.Need-returns-2
-returns-2 c = array-vector _ (c .if1 .left)
+unfolding vectorShape
+returns-2 c = rw (ne-eqb _ 0 (c .if1 .left))
 
 pub as-vector-spec : {M : Type 1} → statement M
 as-vector-spec = tie.close (tie.spec (λ c κs. search needs) returns returns-2)

@@ -1,36 +1,36 @@
-use mathlib.Core.Path.{refl, _∙_}
-use Rattle.masks.proofs.Uses.{expand-ready, expand-block, noted-few, noted-inside, noted-block}
+use mathlib.Core.Path.{refl, ap, _∙_}
 use borrow.Author.Needs.{needs}
+use Rattle.masks.specs.Steps.Actions.{actionOf}
+use Rattle.masks.proofs.Actions.{expand-block, noted-opens, noted-keeps, noted-block}
 use Rattle.masks.proofs.block.Statement.{statement}
 use Rattle.masks.proofs.block.Tie as tie
+
+abbrev start : tie.Then1 → tie.Start
+start c = c .before .before
 
 opened-rows-requires : tie.Need-opened-rows-requires
 opened-rows-requires c κs =
     let e = c .before in
-    let st = e .before .before in
-    let by = st .pre .1 .1 (e .before .if1 .taken) in
-    (st .pre .0, (by .short, (by .notes, expand-ready _ _ _ _ _ _ _ (st .pre .1 .0) (e .if2 .taken) _ refl)))
-
-returns : tie.Need-returns
-returns c =
-    let e = c .before .before .before in
-    let st = e .before .before in
-    c .before .opened-rows .ensures ∙ expand-block _ _ _ _ _ _ _ (st .pre .1 .0) (e .if2 .taken) (st .args .r .now) _ refl
+    let pre = start (e .before) .pre in
+    (pre .0, noted-opens (pre .1 .0) (ap actionOf (e .if2 .taken)) (pre .1 .1 (e .before .if1 .taken)))
 
 kept-rows-requires : tie.Need-kept-rows-requires
 kept-rows-requires c κs =
     let e = c .before in
-    let st = e .before .before in
-    let b = st .pre .1 .0 in
-    let by = st .pre .1 .1 (e .before .if1 .taken) in
-    (noted-few _ _ _ _ _ _ _ b (e .if2 .left) (st .args .at .now) by, (st .pre .0, (b .room, noted-inside _ _ _ _ _ _ _ b (e .if2 .left) (st .args .at .now) by)))
+    let pre = start (e .before) .pre in
+    (pre .0, noted-keeps (pre .1 .0) (ap actionOf (e .if2 .left)) (pre .1 .1 (e .before .if1 .taken)))
+
+returns : tie.Need-returns
+returns c =
+    let e = c .before .before .before in
+    let st = start (e .before) in
+    c .before .opened-rows .ensures ∙ expand-block (st .pre .1 .0) (ap actionOf (e .if2 .taken)) (st .args .r .now) refl
 
 returns-2 : tie.Need-returns-2
 returns-2 c =
     let e = c .before .before .before in
-    let st = e .before .before in
-    c .before .kept-rows .ensures
-    ∙ noted-block _ _ _ _ _ _ _ (st .pre .1 .0) (e .if2 .left) (st .args .at .now) (st .pre .1 .1 (e .before .if1 .taken)) (st .args .r .now)
+    let st = start (e .before) in
+    c .before .kept-rows .ensures ∙ noted-block (st .pre .1 .0) (ap actionOf (e .if2 .left)) (st .pre .1 .1 (e .before .if1 .taken)) (st .args .r .now)
 
 pub block-spec : {M : Type 1} → statement M
 block-spec =
@@ -38,7 +38,7 @@ block-spec =
     (tie.spec
     opened-rows-requires
     kept-rows-requires
-    (λ c κs. (c .before .before .pre .0, c .before .before .pre .1 .0))
+    (λ c κs. let pre = c .before .before .before .pre in (pre .0, pre .1 .0))
     (λ c. search needs)
     returns
     (λ c. search needs)

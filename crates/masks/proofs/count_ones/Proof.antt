@@ -1,12 +1,9 @@
 use native.Mathlib.Omega.{arith}
 use Prim.Native.Nat.{_-_, _≤_}
 use mathlib.Core.Path.{_≡_, _∙_}
-use mathlib.Core.Bool.{true, false}
-use lib.IntN.{pos}
-use lib.ListN.{length, getD}
+use lib.ListN.{length}
 use borrow.Author.Needs.{needs, sfits-of}
 use mathlib.Core.Logic.{⊎-elim}
-use Rattle.meaning.specs.Terms.{eqZ}
 use Rattle.masks.proofs.Ones.{test-one, test-other, before, before-none, before-one, before-other, before-all, before-le}
 use Rattle.masks.proofs.count_ones.Statement.{statement}
 use Rattle.masks.proofs.count_ones.Tie as tie
@@ -17,27 +14,22 @@ Inv-loop l n₀ i₀ n i = (i ≤ length l) × (n ≡ before i l)
 abbrev μ-loop : tie.MeasureT-loop
 μ-loop l n₀ i₀ n i = length l - i
 
--- What the test tells of the mask's element.
-one : (c : tie.Then1 Inv-loop μ-loop) → eqZ (getD (c .before .before .before .before .args .l .now) (c .before .before .before .loop .i) (pos 0)) (pos 1) ≡ true
-one c = test-one _ (sfits-of (c .before .if12 .given)) (c .if1 .taken)
-
-other : (c : tie.Else1 Inv-loop μ-loop) → eqZ (getD (c .before .before .before .before .args .l .now) (c .before .before .before .loop .i) (pos 0)) (pos 1) ≡ false
-other c = test-other _ (sfits-of (c .before .if12 .given)) (c .if1 .left)
-
 loop-holds : tie.Need-loop-holds Inv-loop μ-loop
 loop-holds c = (omega arith, before-none (c .args .l .now))
 
 add-n : tie.Need-add-n Inv-loop μ-loop
-add-n c = let lp = c .before .before .before .loop in omega (arith, before-le (c .before .before .before .before .args .l .now) (lp .i))
+add-n c = let lp = c .before .before .before in omega (arith, before-le (lp .before .args .l .now) (lp .loop .i))
 
 loop-again : tie.Need-loop-again Inv-loop μ-loop
 loop-again c =
-    let l = c .before .before .before .before .args .l .now in
-    let lp = c .before .before .before .loop in (
+    let at = c .before .before .before in
+    let lp = at .loop in
+    let l = at .before .args .l .now in
+    let fits = sfits-of (c .before .if12 .given) in (
       omega arith,
       ⊎-elim
-          (λ w. omega (arith, w .1, before-one l (lp .i) (omega arith) (one (record { before = c .before; if1 = w .0 }))))
-          (λ w. omega (arith, w .1, before-other l (lp .i) (omega arith) (other (record { before = c .before; if1 = w .0 }))))
+          (λ w. omega (arith, w .1, before-one l (lp .i) (omega arith) (test-one _ fits (w .0 .taken))))
+          (λ w. omega (arith, w .1, before-other l (lp .i) (omega arith) (test-other _ fits (w .0 .left))))
           (c .if1 .came),
     )
 

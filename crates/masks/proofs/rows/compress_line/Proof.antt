@@ -6,13 +6,15 @@ use mathlib.Core.Logic.{⊎-elim}
 use lib.IntN.{pos}
 use lib.ListN.{length, getD}
 use Rattle.signed.proofs.Reading.{read32}
+use Rattle.meaning.specs.Terms.{ones}
+use Rattle.masks.specs.Steps.Rows.{keptRows}
 use Rattle.masks.proofs.Ones.{test-one, test-other}
-use Rattle.masks.proofs.Kept.{kept, Front, front-none, front-one, front-other, front-left, line-all, line-one}
+use Rattle.masks.proofs.Kept.{Front, front-none, front-one, front-other, front-left, line-all, line-one}
 use Rattle.masks.proofs.rows.compress_line.Statement.{statement}
 use Rattle.masks.proofs.rows.compress_line.Tie as tie
 
 abbrev Inv-loop : tie.InvT-loop
-Inv-loop l r out₀ to₀ i₀ out to i = Front l (kept l 1 r) (pos 0) out₀ out to i
+Inv-loop l r out₀ to₀ i₀ out to i = Front l (keptRows (ones l) 1 r) (pos 0) out₀ out to i
 
 abbrev μ-loop : tie.MeasureT-loop
 μ-loop l r out₀ to₀ i₀ out to i = length l - i
@@ -33,7 +35,8 @@ loop-again c =
     let one = test-one _ (sfits-of (c .before .if12 .given)) (w .0 .taken) in
     rw (w .1)
     (front-one (lp .inv) more room _ one
-    (line-one (st .args .l .now) (st .args .r .now) (lp .i) more one ∙ sym (read32 (getD (st .args .r .now) (lp .i) (pos 0)) (sfits-of (c .before .before .out .given))))))
+    (line-one (st .args .l .now) (st .args .r .now) (lp .i) more one
+    ∙ sym (read32 (getD (st .args .r .now) (lp .i) (pos 0)) (sfits-of (c .before .before .out .given))))))
     (λ w. rw (w .1) (front-other (lp .inv) more room _ (test-other _ (sfits-of (c .before .if12 .given)) (w .0 .left))))
     (c .if1 .came)
 

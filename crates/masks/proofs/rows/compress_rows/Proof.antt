@@ -3,7 +3,7 @@ use native.Mathlib.Omega.{arith}
 use Prim.Native.Nat.{_+_, _-_, _*_, _≤_, _<_}
 use mathlib.Core.Bool.{true}
 use lib.ListN.{length}
-use Rattle.masks.specs.Rows.{Stretch}
+use Rattle.masks.specs.Steps.Rows.{Stretch}
 use Rattle.masks.proofs.Stretches.{from-first, rows-within}
 use Rattle.masks.proofs.Kept.{Kept, kept-none, kept-full, kept-first, run-room, kept-run}
 use Rattle.masks.proofs.rows.compress_rows.Statement.{statement}
@@ -15,32 +15,38 @@ Inv-loop l r inner out₀ to₀ i₀ out to i = Kept l r inner out₀ out to i
 abbrev μ-loop : tie.MeasureT-loop
 μ-loop l r inner out₀ to₀ i₀ out to i = length l - i
 
+abbrev start : tie.After-past Inv-loop μ-loop → tie.Start Inv-loop μ-loop
+start c = c .before .before .before
+
 -- A one is left, and the ones from there on.
-left : (c : tie.After-past Inv-loop μ-loop) → c .past .result < length (c .before .before .before .args .l .now)
+left : (c : tie.After-past Inv-loop μ-loop) → c .past .result < length (start c .args .l .now)
 left c = let lp = c .before .before .loop in kept-first (lp .inv) (omega arith) (omega (arith, lp .inv .written .long)) (c .past .ensures)
 
-run : (c : tie.After-past2 Inv-loop μ-loop) → Stretch true (c .before .before .before .before .args .l .now) (c .before .past .result) (c .past2 .result)
+run : (c : tie.After-past2 Inv-loop μ-loop) → Stretch true (start (c .before) .args .l .now) (c .before .past .result) (c .past2 .result)
 run c = from-first (c .before .past .ensures) (left (c .before)) (c .past2 .ensures)
 
 -- The rows that are read, and the place of those that are written.
 rows : (c : tie.After-past2 Inv-loop μ-loop)
-    → (c .before .past .result * c .before .before .before .before .args .inner ≤ c .past2 .result * c .before .before .before .before .args .inner)
-    × (c .past2 .result * c .before .before .before .before .args .inner ≤ length (c .before .before .before .before .args .r .now))
+    → let a = start (c .before) .args in
+    (c .before .past .result * a .inner ≤ c .past2 .result * a .inner) × (c .past2 .result * a .inner ≤ length (a .r .now))
 rows c = rows-within _ _ (run c) (omega arith)
 
 room : (c : tie.After-past2 Inv-loop μ-loop)
-    → c .before .before .before .loop .to + (c .past2 .result * c .before .before .before .before .args .inner - c .before .past .result * c .before .before .before .before .args .inner)
-    ≤ length (c .before .before .before .before .args .out .now)
+    → let a = start (c .before) .args in
+    c .before .before .before .loop .to + (c .past2 .result * a .inner - c .before .past .result * a .inner) ≤ length (a .out .now)
 room c = run-room (c .before .before .before .loop .inv) (omega arith) (c .before .past .ensures) (run c)
+
+abbrev ends : tie.After-out Inv-loop μ-loop → tie.After-past2 Inv-loop μ-loop
+ends c = c .before .before .before .before
 
 loop-less : tie.Need-loop-less Inv-loop μ-loop
 loop-less c =
-    let two = c .before .before .before .before in
+    let two = ends c in
     omega (arith, two .before .past .ensures .starts, left (two .before), two .past2 .ensures .starts)
 
 loop-again : tie.Need-loop-again Inv-loop μ-loop
 loop-again c =
-    let two = c .before .before .before .before in
+    let two = ends c in
     kept-run (two .before .before .before .loop .inv) (omega arith) (two .before .past .ensures) (run two) (rows two .1) _ (c .before .copy-run .ensures)
 
 returns : tie.Need-returns Inv-loop μ-loop
@@ -67,7 +73,7 @@ compress-rows-spec =
     (λ c. omega (arith, room (c .before)))
     (λ c. omega (arith, room (c .before)))
     (λ c. omega (arith, room (c .before)))
-    (λ c. omega (arith, room (c .before), c .before .before .before .before .loop .inv .written .long))
+    (λ c. let two = c .before in omega (arith, room two, two .before .before .before .loop .inv .written .long))
     (λ c κs. search needs)
     loop-less
     loop-again

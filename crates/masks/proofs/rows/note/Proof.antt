@@ -5,7 +5,7 @@ use mathlib.Core.Path.{sym}
 use mathlib.Core.Logic.{⊎-elim}
 use lib.ListN.{length, getD}
 use Rattle.meaning.specs.Terms.{ones}
-use Rattle.masks.specs.Rows.{few}
+use Rattle.masks.specs.Steps.Rows.{few}
 use Rattle.masks.proofs.Ones.{test-one, test-other, one-at, before-all}
 use Rattle.masks.proofs.Kept.{Front, front-none, front-le, front-one, front-other}
 use Rattle.masks.proofs.rows.note.Statement.{statement}

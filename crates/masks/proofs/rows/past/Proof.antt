@@ -6,29 +6,42 @@ use lib.IntN.{pos}
 use lib.ListN.{length, getD}
 use Rattle.meaning.specs.Terms.{eqZ}
 use Rattle.signed.proofs.Reading.{read32}
+use Rattle.masks.specs.Steps.Actions.{oneAt}
 use Rattle.masks.proofs.Stretches.{other-bool, same-bool, alike-more}
 use Rattle.masks.proofs.rows.past.Statement.{statement}
 use Rattle.masks.proofs.rows.past.Tie as tie
 
 abbrev Inv-loop : tie.InvT-loop
-Inv-loop one l i e₀ e = (i ≤ e) × ((e ≤ length l) × ((j : ℕ) → i ≤ j → j < e → eqZ (getD l j (pos 0)) (pos 1) ≡ one))
+Inv-loop one l i e₀ e = (i ≤ e) × ((e ≤ length l) × ((j : ℕ) → i ≤ j → j < e → oneAt l j ≡ one))
 
 abbrev μ-loop : tie.MeasureT-loop
 μ-loop one l i e₀ e = length l - e
 
+abbrev passed : tie.After-is-one Inv-loop μ-loop → tie.At-loop Inv-loop μ-loop
+passed c = c .before .before .before
+
 -- The mask's element.
-test : (c : tie.After-is-one Inv-loop μ-loop) → c .is-one .result ≡ eqZ (getD (c .before .before .before .before .args .l .now) (c .before .before .before .loop .e) (pos 0)) (pos 1)
-test c = c .is-one .ensures ∙ ap (λ z. eqZ z (pos 1)) (read32 (getD (c .before .before .before .before .args .l .now) (c .before .before .before .loop .e) (pos 0)) (sfits-of (c .before .is-one-arg .given)))
+test : (c : tie.After-is-one Inv-loop μ-loop) → let lp = passed c in c .is-one .result ≡ oneAt (lp .before .args .l .now) (lp .loop .e)
+test c =
+    let lp = passed c in
+    c .is-one .ensures
+    ∙ ap (λ z. eqZ z (pos 1)) (read32 (getD (lp .before .args .l .now) (lp .loop .e) (pos 0)) (sfits-of (c .before .is-one-arg .given)))
 
 returns : tie.Need-returns Inv-loop μ-loop
 returns c =
-    let lp = c .before .before .before .before .loop in
-    record { starts = lp .inv .0; within = lp .inv .1 .0; alike = lp .inv .1 .1; ends = λ h. sym (test (c .before)) ∙ other-bool (c .before .is-one .result) _ (c .if1 .taken) }
+    let inv = passed (c .before) .loop .inv in
+    record {
+      starts = inv .0;
+      within = inv .1 .0;
+      alike = inv .1 .1;
+      ends = λ h. sym (test (c .before)) ∙ other-bool (c .before .is-one .result) _ (c .if1 .taken);
+    }
 
 loop-again : tie.Need-loop-again Inv-loop μ-loop
 loop-again c =
-    let lp = c .before .before .before .before .loop in
-    (omega arith, (omega arith, alike-more _ (c .before .before .before .before .before .args .l .now) _ (lp .e) (lp .inv .1 .1) (sym (test (c .before)) ∙ same-bool (c .before .is-one .result) _ (c .if1 .left))))
+    let lp = passed (c .before) in
+    let same = sym (test (c .before)) ∙ same-bool (c .before .is-one .result) _ (c .if1 .left) in
+    (omega arith, (omega arith, alike-more _ (lp .before .args .l .now) _ (lp .loop .e) (lp .loop .inv .1 .1) same))
 
 returns-2 : tie.Need-returns-2 Inv-loop μ-loop
 returns-2 c =

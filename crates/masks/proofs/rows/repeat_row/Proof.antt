@@ -15,7 +15,8 @@ Inv-loop r m inner out₀ to₀ i₀ out to i = Chosen (λ j. 0) r m inner out�
 abbrev μ-loop : tie.MeasureT-loop
 μ-loop r m inner out₀ to₀ i₀ out to i = m - i
 
-room : (c : tie.In-loop Inv-loop μ-loop) → c .before .loop .to + c .before .before .before .args .inner ≤ length (c .before .before .before .args .out .now)
+room : (c : tie.In-loop Inv-loop μ-loop)
+    → let a = c .before .before .before .args in c .before .loop .to + a .inner ≤ length (a .out .now)
 room c =
     let lp = c .before .loop in
     let a = c .before .before .before .args in
@@ -23,10 +24,11 @@ room c =
 
 returns : tie.Need-returns Inv-loop μ-loop
 returns c =
-    let st = c .before .before .before .before .before in
+    let at = c .before .before .before in
+    let st = at .before .before in
     c .before .fill-run .ensures
-    ∙ repeated-one (st .args .r .now) (st .args .m) (st .args .inner) (st .args .out .now) _ (c .before .before .before .before .if1 .taken) (omega arith)
-    (read32 (getD (st .args .r .now) 0 (pos 0)) (sfits-of (c .before .before .before .fill-run-arg .given)))
+    ∙ repeated-one (st .args .r .now) (st .args .m) (st .args .inner) (st .args .out .now) _ (at .before .if1 .taken) (omega arith)
+    (read32 (getD (st .args .r .now) 0 (pos 0)) (sfits-of (at .fill-run-arg .given)))
 
 loop-holds : tie.Need-loop-holds Inv-loop μ-loop
 loop-holds c = chosen-none _ _ _ _ _
@@ -40,12 +42,14 @@ mul-copy-run c = omega (arith, room c)
 part-copy-run-end : tie.Need-part-copy-run-end Inv-loop μ-loop
 part-copy-run-end c = let lp = c .before .loop in omega (arith, room c, lp .inv .written .long)
 
+abbrev passed : tie.After-out2 Inv-loop μ-loop → tie.At-loop Inv-loop μ-loop
+passed c = c .before .before .before .before
+
 loop-again : tie.Need-loop-again Inv-loop μ-loop
 loop-again c =
-    let st = c .before .before .before .before .before .before in
-    let lp = c .before .before .before .before .loop in
-    let a = st .args in
-    repeated-row (a .r .now) (a .m) (a .inner) (lp .inv) (omega arith) (omega arith) (omega arith) _ (c .before .copy-run .ensures)
+    let lp = passed c in
+    let a = lp .before .before .args in
+    repeated-row (a .r .now) (a .m) (a .inner) (lp .loop .inv) (omega arith) (omega arith) (omega arith) _ (c .before .copy-run .ensures)
 
 same-length-2 : tie.Need-same-length-2 Inv-loop μ-loop
 same-length-2 c = c .before .loop .inv .written .long

@@ -1,0 +1,3 @@
+-- What the contracts of private functions cite.
+pub mod Actions
+pub mod Rows
