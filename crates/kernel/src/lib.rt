@@ -1,11 +1,10 @@
 // The numbered entry point.
-ghost use mathlib.Core.Path.{_≡_};
-ghost use lib.IntN.{pos};
 ghost use Rattle.meaning.specs.Array.{Operand};
 ghost use Rattle.meaning.specs.Reply.{reply};
 ghost use Rattle.answer.specs.Answer.{lent, Replied};
-ghost use Rattle.kernel.specs.Numbers.{OneOperand, TwoOperands};
+ghost use Rattle.kernel.specs.Steps.{OneOperand, TwoOperands};
 use answer::Answer;
+use answer::refusal;
 use shape::Shape;
 
 // A call by its primitive's number: 11 to 15 take one operand, 21 to 31 take two, and every other number is refused.
@@ -24,7 +23,7 @@ pub fn call(
     match number {
         11..=15 => call_one(number, g, k, rs, r, out),
         21..=31 => call_two(number, g, k, ls, l, rs, r, out),
-        _ => Answer::refused(1),
+        _ => Answer::refused(refusal::NUMBER),
     }
 }
 
@@ -38,7 +37,7 @@ fn call_one(number: i32, g: i32, k: i32, rs: Shape, r: &[i32], out: &mut [i32]) 
         13 => vectors::interval(g, rs, r, out),
         14 => turns::reverse(g, k, rs, r, out),
         15 => transposes::transpose(g, rs, r, out),
-        _ => Answer::refused(1),
+        _ => Answer::refused(refusal::NUMBER),
     }
 }
 
@@ -67,6 +66,6 @@ fn call_two(
         29 => lookups::index_of(g, ls, l, rs, r, out),
         30 => lookups::member(g, ls, l, rs, r, out),
         31 => selects::select(g, k, ls, l, rs, r, out),
-        _ => Answer::refused(1),
+        _ => Answer::refused(refusal::NUMBER),
     }
 }

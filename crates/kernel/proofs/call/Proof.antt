@@ -1,22 +1,21 @@
-use Prim.Native.Nat.{ℕ}
-use mathlib.Core.Path.{_≡_, sym, ap, _∙_}
-use lib.IntN.{pos}
-use lib.Signed.{ltZ}
+use mathlib.Core.Path.{_≡_}
+use mathlib.Core.Bool.{false}
+use mathlib.Core.Logic.{⊎-elim}
 use mir.Syntax.{w32}
 use mir.Val.{toZ, ofZ}
-use Rattle.signed.proofs.Reading.{read32}
-use Rattle.answer.specs.Answer.{lent}
-use Rattle.answer.proofs.Order.{replied-refused}
-use mathlib.Core.Logic.{⊎-elim}
-use Rattle.kernel.proofs.Numbered.{carried, between, Unnamed, unnamed-reply}
-use Rattle.kernel.proofs.Numbered.Unnamed.{below, amid, above}
 use borrow.Author.Needs.{needs}
+use Rattle.signed.proofs.Reading.{read32}
+use Rattle.meaning.specs.Array.{Operand}
+use Rattle.answer.specs.Answer.{lent}
+use Rattle.kernel.proofs.Numbered.{carried, between, isNumber, unnamed-replied}
 use Rattle.kernel.proofs.call.Statement.{statement}
 use Rattle.kernel.proofs.call.Tie as tie
 
--- A test of the number, as the code makes it.
-tested : (c : tie.Start) (n : ℕ) → ltZ (c .args .number) (pos n) ≡ ltZ (toZ w32 (ofZ w32 (c .args .number))) (pos n)
-tested c n = ap (λ z. ltZ z (pos n)) (sym (read32 _ (c .fits .number)))
+abbrev left : tie.Start → Operand
+left st = lent (st .args .ls) (st .args .l .now)
+
+abbrev right : tie.Start → Operand
+right st = lent (st .args .rs) (st .args .r .now)
 
 call-one-requires : tie.Need-call-one-requires
 call-one-requires c κs = between 11 15 _ (c .before .before .if1 .left) (c .before .if2 .taken)
@@ -24,27 +23,35 @@ call-one-requires c κs = between 11 15 _ (c .before .before .if1 .left) (c .bef
 call-two-requires : tie.Need-call-two-requires
 call-two-requires c κs = between 21 31 _ (c .before .before .if3 .left) (c .before .if4 .taken)
 
+abbrev one : tie.Then2 → tie.Start
+one c = c .before .before
+
+abbrev two : tie.Then4 → tie.Start
+two c = c .before .before .before .before
+
 returns : tie.Need-returns
 returns c =
-    let st = c .before .before .before .before .before in
-    carried (lent (st .args .ls) (st .args .l .now)) (lent (st .args .rs) (st .args .r .now)) (st .args .out .now)
-    (read32 _ (st .fits .number)) (read32 _ (st .fits .g)) (read32 _ (st .fits .k)) (c .before .call-one .ensures (lent (st .args .ls) (st .args .l .now)))
+    let st = one (c .before .before .before) in
+    carried (left st) (right st) (st .args .out .now) (read32 _ (st .fits .number)) (read32 _ (st .fits .g)) (read32 _ (st .fits .k))
+    (c .before .call-one .ensures (left st))
 
 returns-2 : tie.Need-returns-2
 returns-2 c =
-    let st = c .before .before .before .before .before .before .before in
-    carried (lent (st .args .ls) (st .args .l .now)) (lent (st .args .rs) (st .args .r .now)) (st .args .out .now)
-    (read32 _ (st .fits .number)) (read32 _ (st .fits .g)) (read32 _ (st .fits .k)) (c .before .call-two .ensures)
+    let st = two (c .before .before .before) in
+    carried (left st) (right st) (st .args .out .now) (read32 _ (st .fits .number)) (read32 _ (st .fits .g)) (read32 _ (st .fits .k))
+    (c .before .call-two .ensures)
+
+-- The number is below both ranges, between them, or above them.
+none : (c : tie.Joined1) → isNumber (toZ w32 (ofZ w32 (c .before .args .number))) ≡ false
+none c =
+    ⊎-elim (λ w. rw (w .taken)) (λ v. ⊎-elim (λ w. rw (w .0 .left, w .1 .left, w .2 .taken)) (λ w. rw (w .0 .left, w .1 .left, w .2 .left) (w .3 .left)) v)
+    (c .if1 .came)
 
 returns-3 : tie.Need-returns-3
 returns-3 c =
     let st = c .before .before in
-    let none : Unnamed (st .args .number) =
-    ⊎-elim (λ w. below (tested st 11 ∙ w .taken))
-    (λ v. ⊎-elim (λ w. amid (tested st 16 ∙ w .1 .left) (tested st 21 ∙ w .2 .taken)) (λ w. above (tested st 32 ∙ w .3 .left)) v)
-    (c .before .if1 .came) in
-    replied-refused (c .refused .result) 1 (st .args .out .now) (c .refused .ensures)
-    (unnamed-reply (st .args .number) (st .args .g) (st .args .k) (lent (st .args .ls) (st .args .l .now)) (lent (st .args .rs) (st .args .r .now)) (st .args .out .now) none)
+    let z = rw (read32 _ (st .fits .number)) at (none (c .before)) in
+    unnamed-replied (st .args .number) z (st .args .g) (st .args .k) (left st) (right st) (st .args .out .now) (c .refused .ensures)
 
 pub call-spec : {M : Type 1} → statement M
 call-spec =

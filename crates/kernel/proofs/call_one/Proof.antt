@@ -1,45 +1,46 @@
-use mathlib.Core.Path.{refl, sym}
-use Rattle.answer.specs.Answer.{lent}
+use mathlib.Core.Path.{_≡_}
+use mathlib.Core.List.{List}
+use Prim.Native.Nat.{ℕ}
 use native.Mathlib.Omega.{arith}
-use lib.Dec.{lit<}
-use Rattle.signed.proofs.Reading.{read32, key}
-use Rattle.kernel.proofs.Numbered.{carried, not-key}
+use lib.IntN.{ℤ, pos}
+use mir.Syntax.{w32}
+use mir.Val.{toZ, ofZ}
 use borrow.Author.Needs.{needs}
+use Rattle.meaning.specs.Array.{Operand}
+use Rattle.meaning.specs.Reply.{reply}
+use Rattle.answer.specs.declared.Answer.{Answer}
+use Rattle.answer.specs.Answer.{lent, Replied}
+use Rattle.kernel.proofs.Numbered.{keyed, no-arm}
 use Rattle.kernel.proofs.call_one.Statement.{statement}
 use Rattle.kernel.proofs.call_one.Tie as tie
 
+abbrev right : tie.Start → Operand
+right st = lent (st .args .rs) (st .args .r .now)
+
+-- The arm of a key, whatever L is.
+arm : (st : tie.Start) (L : Operand) {n : ℕ} {a : Answer} {out : List ℤ} → ofZ w32 (st .args .number) ≡ n
+    → Replied a out (reply (pos n) (toZ w32 (ofZ w32 (st .args .g))) (toZ w32 (ofZ w32 (st .args .k))) L (right st) (st .args .out .now))
+    → Replied a out (reply (st .args .number) (st .args .g) (st .args .k) L (right st) (st .args .out .now))
+arm st L e r = keyed (st .pre) e (st .fits .g) (st .fits .k) L (right st) (st .args .out .now) r
+
 returns : tie.Need-returns
-returns c L =
-    let st = c .before .before .before .before in
-    carried L (lent (st .args .rs) (st .args .r .now)) (st .args .out .now) (sym (key 11 (st .fits .number) (lit< tt) (c .before .before .before .match .keys1))) (read32 _ (st .fits .g)) refl (c .before .shape-of .ensures (st .args .k) L)
+returns c L = let m = c .before .before .before in arm (m .before) L (m .match .keys1) (c .before .shape-of .ensures _ L)
 
 returns-2 : tie.Need-returns-2
-returns-2 c L =
-    let st = c .before .before .before .before in
-    carried L (lent (st .args .rs) (st .args .r .now)) (st .args .out .now) (sym (key 12 (st .fits .number) (lit< tt) (c .before .before .before .match .keys2))) (read32 _ (st .fits .g)) refl (c .before .ravel .ensures (st .args .k) L)
+returns-2 c L = let m = c .before .before .before in arm (m .before) L (m .match .keys2) (c .before .ravel .ensures _ L)
 
 returns-3 : tie.Need-returns-3
-returns-3 c L =
-    let st = c .before .before .before .before in
-    carried L (lent (st .args .rs) (st .args .r .now)) (st .args .out .now) (sym (key 13 (st .fits .number) (lit< tt) (c .before .before .before .match .keys3))) (read32 _ (st .fits .g)) refl (c .before .interval .ensures (st .args .k) L)
+returns-3 c L = let m = c .before .before .before in arm (m .before) L (m .match .keys3) (c .before .interval .ensures _ L)
 
 returns-4 : tie.Need-returns-4
-returns-4 c L =
-    let st = c .before .before .before .before in
-    carried L (lent (st .args .rs) (st .args .r .now)) (st .args .out .now) (sym (key 14 (st .fits .number) (lit< tt) (c .before .before .before .match .keys4))) (read32 _ (st .fits .g)) (read32 _ (st .fits .k)) (c .before .reverse .ensures L)
+returns-4 c L = let m = c .before .before .before in arm (m .before) L (m .match .keys4) (c .before .reverse .ensures L)
 
 returns-5 : tie.Need-returns-5
-returns-5 c L =
-    let st = c .before .before .before .before in
-    carried L (lent (st .args .rs) (st .args .r .now)) (st .args .out .now) (sym (key 15 (st .fits .number) (lit< tt) (c .before .before .before .match .keys5))) (read32 _ (st .fits .g)) refl (c .before .transpose .ensures (st .args .k) L)
+returns-5 c L = let m = c .before .before .before in arm (m .before) L (m .match .keys5) (c .before .transpose .ensures _ L)
 
 -- No number of the range is left.
 returns-6 : tie.Need-returns-6
-returns-6 c L =
-    let m = c .before .match .rest in
-    let n = c .before .before .pre in
-    let e = n .is in
-    absurd (omega (arith, not-key 11 e (m .0 .0 .0 .0 .1), not-key 12 e (m .0 .0 .0 .1), not-key 13 e (m .0 .0 .1), not-key 14 e (m .0 .1), not-key 15 e (m .1), n .low, n .high))
+returns-6 c L = absurd (no-arm (c .before .before .pre) 5 (omega arith) (c .before .match .rest))
 
 pub call-one-spec : {M : Type 1} → statement M
 call-one-spec =

@@ -1,4 +1,4 @@
--- Paper 01: numbers 11 to 15 take one operand, 21 to 31 take two, and every other number is refused.
+-- What the contracts of private functions cite: numbers 11 to 15 take one operand, 21 to 31 take two.
 use Prim.Native.Nat.{ℕ, _≤_}
 use mathlib.Core.Path.{_≡_}
 use lib.IntN.{ℤ, pos}
