@@ -7,7 +7,7 @@ use shape::Shape;
 // Calls with an output buffer of `room` elements and prints the reply; a result too long to print is only counted.
 fn show(
     line: u64,
-    number: i32,
+    primitive: i32,
     g: i32,
     k: i32,
     ls: Shape,
@@ -17,12 +17,12 @@ fn show(
     room: usize,
 ) {
     let mut held = [0i32; Shape::MAX_COUNT];
-    shown(line, number, g, k, ls, l, rs, r, room, &mut held);
+    shown(line, primitive, g, k, ls, l, rs, r, room, &mut held);
 }
 
 fn shown(
     line: u64,
-    number: i32,
+    primitive: i32,
     g: i32,
     k: i32,
     ls: Shape,
@@ -36,7 +36,7 @@ fn shown(
         return;
     }
     let out = &mut held[0..room];
-    let a = kernel::call(number, g, k, ls, l, rs, r, out);
+    let a = kernel::call(primitive, g, k, ls, l, rs, r, out);
     let answered = a.number;
     let shape = a.shape;
     let mut text = [0u8; 256];
@@ -63,19 +63,29 @@ fn matrix(rows: usize, columns: usize) -> Shape {
 }
 
 // A call of one operand; L is not looked at.
-fn one(line: u64, number: i32, k: i32, rs: Shape, r: &[i32], room: usize) {
+fn one(line: u64, primitive: i32, k: i32, rs: Shape, r: &[i32], room: usize) {
     let none = [0i32; 1];
-    show(line, number, 1, k, Shape::vector(0), &none, rs, r, room);
+    show(line, primitive, 1, k, Shape::vector(0), &none, rs, r, room);
 }
 
 // A call of two operands with G and K 1, L a vector.
-fn two(line: u64, number: i32, l: &[i32], rs: Shape, r: &[i32], room: usize) {
-    show(line, number, 1, 1, Shape::vector(l.len()), l, rs, r, room);
+fn two(line: u64, primitive: i32, l: &[i32], rs: Shape, r: &[i32], room: usize) {
+    show(
+        line,
+        primitive,
+        1,
+        1,
+        Shape::vector(l.len()),
+        l,
+        rs,
+        r,
+        room,
+    );
 }
 
 // A call of two vectors.
-fn vectors(line: u64, number: i32, l: &[i32], r: &[i32], room: usize) {
-    two(line, number, l, Shape::vector(r.len()), r, room);
+fn vectors(line: u64, primitive: i32, l: &[i32], r: &[i32], room: usize) {
+    two(line, primitive, l, Shape::vector(r.len()), r, room);
 }
 
 fn turned_and_cut() {
