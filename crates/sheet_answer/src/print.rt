@@ -124,8 +124,8 @@ fn element_width(z: i32) -> usize
     ensures digits { λ r. ⌜ r ≡ suc (length (decimal z)) ⌝ }
     ensures bound { λ r. ⌜ r ≤ 12 ⌝ }
 {
-    let size = signed::size(z);
-    let n = width(size);
+    let magnitude = signed::magnitude(z);
+    let n = width(magnitude);
     if signed::negative(z) { n + 2 } else { n + 1 }
 }
 
@@ -133,8 +133,8 @@ fn put_element(text: &mut [u8], end: usize, z: i32, pairs: &[u8; 200]) -> usize
     requires { ⌜ (suc (length (decimal z)) ≤ end) × ((end ≤ length (now text)) × Pairs (now pairs)) ⌝ }
     ensures { λ r. ⌜ Written (now (text .entry)) (now (text .exit)) r end (blank ∷ decimal z) ⌝ }
 {
-    let size = signed::size(z);
-    let digits = put_pairs(text, end, size, pairs);
+    let magnitude = signed::magnitude(z);
+    let digits = put_pairs(text, end, magnitude, pairs);
     if signed::negative(z) {
         let sign = put_byte(text, digits, b'-');
         return put_byte(text, sign, b' ');

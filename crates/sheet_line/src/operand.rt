@@ -59,7 +59,7 @@ fn natural_at(line: &[u8], at: usize, most: usize) -> Natural
     if signed::negative(value) {
         return no_natural();
     }
-    let n = signed::size(value);
+    let n = signed::magnitude(value);
     if most < n {
         return no_natural();
     }

@@ -11,8 +11,8 @@ use borrow.Author.Needs.{needs}
 use Rattle.sheet_answer.proofs.print.element_width.Statement.{statement}
 use Rattle.sheet_answer.proofs.print.element_width.Tie as tie
 
-size-is : (c : tie.After-negative) → c .before .before .size .result ≡ natAbs (c .before .before .before .args .z)
-size-is c = rw (toZ-ofZ (c .before .before .before .fits .z)) at (c .before .before .size .ensures)
+size-is : (c : tie.After-negative) → c .before .before .magnitude .result ≡ natAbs (c .before .before .before .args .z)
+size-is c = rw (toZ-ofZ (c .before .before .before .fits .z)) at (c .before .before .magnitude .ensures)
 
 sign-is : (c : tie.After-negative) → c .negative .result ≡ negative (c .before .before .before .args .z)
 sign-is c = rw (toZ-ofZ (c .before .before .before .fits .z)) at (c .negative .ensures)

@@ -12,17 +12,17 @@ use borrow.Author.Needs.{needs}
 use Rattle.sheet_answer.proofs.print.put_element.Statement.{statement}
 use Rattle.sheet_answer.proofs.print.put_element.Tie as tie
 
-size-is : (c : tie.After-size) → c .size .result ≡ natAbs (c .before .before .args .z)
-size-is c = rw (toZ-ofZ (c .before .before .fits .z)) at (c .size .ensures)
+size-is : (c : tie.After-magnitude) → c .magnitude .result ≡ natAbs (c .before .before .args .z)
+size-is c = rw (toZ-ofZ (c .before .before .fits .z)) at (c .magnitude .ensures)
 
 sign-is : (c : tie.After-negative) → c .negative .result ≡ negative (c .before .before .before .before .before .before .before .args .z)
 sign-is c = rw (toZ-ofZ (c .before .before .before .before .before .before .before .fits .z)) at (c .negative .ensures)
 
 -- The element's text, of each sign.
-below : (c : tie.Then1) → decimal (c .before .before .before .before .before .before .before .before .args .z) ≡ minus ∷ digits (c .before .before .before .before .before .before .size .result)
+below : (c : tie.Then1) → decimal (c .before .before .before .before .before .before .before .before .args .z) ≡ minus ∷ digits (c .before .before .before .before .before .before .magnitude .result)
 below c = decimal-negative (c .before .before .before .before .before .before .before .before .args .z) (sym (sign-is (c .before)) ∙ c .if1 .taken) ∙ rw (size-is (c .before .before .before .before .before .before))
 
-above : (c : tie.Else1) → decimal (c .before .before .before .before .before .before .before .before .args .z) ≡ digits (c .before .before .before .before .before .before .size .result)
+above : (c : tie.Else1) → decimal (c .before .before .before .before .before .before .before .before .args .z) ≡ digits (c .before .before .before .before .before .before .magnitude .result)
 above c = decimal-natural (c .before .before .before .before .before .before .before .before .args .z) (sym (sign-is (c .before)) ∙ c .if1 .left) ∙ rw (size-is (c .before .before .before .before .before .before))
 
 put-pairs-requires : tie.Need-put-pairs-requires
@@ -48,7 +48,7 @@ returns : tie.Need-returns
 returns c =
     let st = c .before .before .before .before .before .before .before .before .before .before .before .before .before .before .before .before in
     let t = st .args .text .now in
-    let size = c .before .before .before .before .before .before .before .before .before .before .before .before .before .before .size .result in
+    let size = c .before .before .before .before .before .before .before .before .before .before .before .before .before .before .magnitude .result in
     let d = c .before .before .before .before .before .before .before .before .before .before .before .before .put-pairs in
     let m = c .before .before .before .before .before .before .put-byte in
     let p = c .before .before .put-byte2 in
@@ -66,7 +66,7 @@ returns-2 c =
     let st = c .before .before .before .before .before .before .before .before .before .before .before .before in
     let d = c .before .before .before .before .before .before .before .before .put-pairs in
     let p = c .before .before .put-byte3 in
-    rw (above (c .before .before .before .before)) (write-more (st .args .text .now) (d .last .0) (p .last .0) (p .result) (d .result) (st .args .end) (blank ∷ []) (digits (c .before .before .before .before .before .before .before .before .before .before .size .result)) (st .pre .1 .0) (d .ensures) (p .ensures))
+    rw (above (c .before .before .before .before)) (write-more (st .args .text .now) (d .last .0) (p .last .0) (p .result) (d .result) (st .args .end) (blank ∷ []) (digits (c .before .before .before .before .before .before .before .before .before .before .magnitude .result)) (st .pre .1 .0) (d .ensures) (p .ensures))
 
 pub put-element-spec : {M : Type 1} → statement M
 put-element-spec =

@@ -23,8 +23,8 @@ sign-is c = rw (value-is (c .before .before)) at (c .negative .ensures)
 natural-is : (c : tie.Else2) → negative (c .before .before .before .before .number-at .result .value) ≡ false
 natural-is c = sym (sign-is (c .before)) ∙ c .if2 .left
 
-size-is : (c : tie.After-size) → c .size .result ≡ natAbs (c .before .before .before .before .before .number-at .result .value)
-size-is c = rw (value-is (c .before .before .before .before)) at (c .size .ensures)
+size-is : (c : tie.After-magnitude) → c .magnitude .result ≡ natAbs (c .before .before .before .before .before .number-at .result .value)
+size-is c = rw (value-is (c .before .before .before .before)) at (c .magnitude .ensures)
 
 returns : tie.Need-returns
 returns c =
