@@ -11,56 +11,47 @@ use Rattle.shape.specs.Shape.{maxCount, count, counted, countOf}
 use Rattle.shape.proofs.Counts.{good-count, bad-count, count-of}
 use Rattle.meaning.specs.Array.{Operand, goodForm}
 use Rattle.sheet_line.specs.Text.{newline, blank, digits, decimal, following, spaced}
-use Rattle.sheet_line.specs.Call.{front}
-use Rattle.sheet_answer.specs.Answer.{answerLine, okLine, noLine, badLine, replyLine, fitted}
+use Rattle.sheet_answer.specs.Answer.{answerLine, okLine, noLine, badLine, resultIn, replyLine, fitted, printedTo}
 use Rattle.sheet_answer.specs.Steps.{Written}
 
 -- What printing promises.
 abbrev pub Print : List ℕ → List ℕ → List ℕ → ℕ → Type 0
-Print bytes before after n = (n ≡ length (fitted bytes before)) × (after ≡ front (fitted bytes before) before)
+Print bytes before after n = (n ≡ length (fitted bytes before)) × (after ≡ printedTo bytes before)
 
-module _ (bytes before : List ℕ) where
-  pub no-room : length before < length bytes → Print bytes before before 0
-  unfolding fitted
-  no-room h = rw (lt-leb (length bytes) (length before) h) (refl, refl)
+pub no-room : (bytes before : List ℕ) → length before < length bytes → Print bytes before before 0
+unfolding fitted
+no-room bytes before h = rw (lt-leb (length bytes) (length before) h) (refl, refl)
 
-  pub nothing-to-print : bytes ≡ [] → Print bytes before before 0
-  unfolding fitted
-  nothing-to-print e = rw (e, le-leb 0 (length before) (omega arith)) (refl, refl)
+pub nothing-to-print : (bytes before : List ℕ) → bytes ≡ [] → Print bytes before before 0
+unfolding fitted
+nothing-to-print bytes before e = rw (e, le-leb 0 (length before) (omega arith)) (refl, refl)
 
-  pub all-printed : (after : List ℕ) (start need : ℕ) → need ≡ length bytes → need ≤ length before → Written before after start need bytes → Print bytes before after need
-  unfolding fitted
-  all-printed after start need e h w =
-      let first : start ≡ 0 = omega (arith, w .place) in
-      rw (le-leb (length bytes) (length before) (omega arith)) (e, w .text ∙ rw (first, e))
+pub all-printed : {bytes pieces before after : List ℕ} {start need : ℕ} → bytes ≡ pieces → need ≡ length bytes
+    → Written before after start need pieces → Print bytes before after need
+unfolding fitted
+all-printed {bytes} {before = before} {start = start} p e w =
+    let first : start ≡ 0 = omega (arith, w .place, ap length p) in
+    rw (le-leb (length bytes) (length before) (omega (arith, w .inside))) (e, w .text ∙ rw (first, ← p, e))
 
 following-append : (xs ys : List (List ℕ)) → following (xs ++ ys) ≡ following xs ++ following ys
 unfolding following
 following-append [] ys = refl
 following-append (x ∷ xs) ys = ap (λ l. blank ∷ l) (rw (following-append xs ys) (sym (append-assoc x (following xs) (following ys))))
 
-split : (d xs ys us vs : List ℕ) → xs ++ ys ≡ us ++ vs → (d ++ xs) ++ ys ≡ (d ++ us) ++ vs
-split d xs ys us vs e = append-assoc d xs ys ∙ ap (λ l. d ++ l) e ∙ sym (append-assoc d us vs)
-
 -- The pieces of each kind of line.
 module _ (line : ℕ) where
   pub bad-text : badLine line ≡ (digits line ++ blank ∷ 98 ∷ 97 ∷ []) ++ (100 ∷ newline ∷ [])
   unfolding badLine answerLine spaced following
-  bad-text = split (digits line) (blank ∷ 98 ∷ 97 ∷ 100 ∷ []) (newline ∷ []) (blank ∷ 98 ∷ 97 ∷ []) (100 ∷ newline ∷ []) refl
+  bad-text = simp append-assoc
 
   pub no-text : (n : ℕ) → noLine line n ≡ (digits line ++ blank ∷ 110 ∷ 111 ∷ []) ++ ((blank ∷ digits n) ++ newline ∷ [])
   unfolding noLine answerLine spaced following
-  no-text n =
-      split (digits line) (blank ∷ 110 ∷ 111 ∷ blank ∷ digits n ++ []) (newline ∷ []) (blank ∷ 110 ∷ 111 ∷ []) ((blank ∷ digits n) ++ newline ∷ [])
-      (ap (λ l. blank ∷ 110 ∷ 111 ∷ blank ∷ l ++ newline ∷ []) (append-nil (digits n)))
+  no-text n = simp (append-assoc, append-nil)
 
   pub ok-text : (ns : List ℕ) (zs : List ℤ) → okLine line (record { lengths = ns; elements = zs })
       ≡ (digits line ++ blank ∷ 111 ∷ 107 ∷ []) ++ ((blank ∷ digits (length ns)) ++ (following (map digits ns) ++ (following (map decimal zs) ++ newline ∷ [])))
   unfolding okLine answerLine spaced following
-  ok-text ns zs =
-      split (digits line) (blank ∷ 111 ∷ 107 ∷ blank ∷ digits (length ns) ++ following (map digits ns ++ map decimal zs)) (newline ∷ [])
-      (blank ∷ 111 ∷ 107 ∷ []) ((blank ∷ digits (length ns)) ++ (following (map digits ns) ++ (following (map decimal zs) ++ newline ∷ [])))
-      (ap (λ l. blank ∷ 111 ∷ 107 ∷ blank ∷ l) (rw (following-append (map digits ns) (map decimal zs), append-assoc (digits (length ns)) (following (map digits ns) ++ following (map decimal zs)) (newline ∷ []), append-assoc (following (map digits ns)) (following (map decimal zs)) (newline ∷ []))))
+  ok-text ns zs = simp (following-append, append-assoc)
 
   pub bad-length : length (badLine line) ≡ length (digits line) + 5
   bad-length = ap length bad-text ∙ simp length-append (omega arith)
@@ -74,19 +65,19 @@ module _ (line : ℕ) where
 
 -- A reply without good form prints nothing; one of good form prints its array.
 module _ (line : ℕ) (s : Shape) (out : List ℤ) where
-  pub bad-shape : maxCount < countOf s → replyLine line 0 (record { shape = s; buffer = out }) ≡ []
+  pub bad-shape : maxCount < countOf s → replyLine line 0 (resultIn s out) ≡ []
   unfolding replyLine goodForm
   bad-shape h = rw (bad-count s h)
 
   count-is : countOf s ≤ maxCount → countOf s ≡ count (counted s)
   count-is h = count-of s (good-count s h)
 
-  pub short-buffer : countOf s ≤ maxCount → length out < countOf s → replyLine line 0 (record { shape = s; buffer = out }) ≡ []
+  pub short-buffer : countOf s ≤ maxCount → length out < countOf s → replyLine line 0 (resultIn s out) ≡ []
   unfolding replyLine goodForm
   short-buffer h k = rw (good-count s h, lt-leb (count (counted s)) (length out) (omega (arith, count-is h)))
 
   pub good-reply : countOf s ≤ maxCount → countOf s ≤ length out
-      → replyLine line 0 (record { shape = s; buffer = out }) ≡ okLine line (record { lengths = counted s; elements = take (countOf s) out })
+      → replyLine line 0 (resultIn s out) ≡ okLine line (record { lengths = counted s; elements = take (countOf s) out })
   unfolding replyLine goodForm
   good-reply h k = rw (good-count s h, le-leb (count (counted s)) (length out) (omega (arith, count-is h)), count-is h)
 

@@ -1,40 +1,61 @@
 -- Parts written one before the other, each after a blank.
-use Prim.Native.Nat.{ℕ, zero, suc, _+_, _≤_}
+use Prim.Native.Nat.{ℕ, zero, suc, _+_, _*_, _-_, _≤_, _<_}
 use native.Mathlib.Omega.{arith}
+use native.Mathlib.Nat.{mul-suc}
 use mathlib.Core.Path.{_≡_, refl, sym, ap, _∙_}
 use mathlib.Core.List.{List, [], _∷_, _++_, map}
-use mathlib.Core.Bool.{true, false}
+use mathlib.Core.Bool.{Bool, true, false}
 use lib.ListN.{length, getD, drop, length-append}
 use lib.Seq.{drop-cons, drop-length}
 use lib.IntN.{ℤ, pos, negsuc, natAbs}
 use mir.Syntax.{w32}
-use mir.Val.{SFits}
+use mir.Val.{SFits, toZ, ofZ}
 use Rattle.shape.proofs.Bools.{no-way}
 use Rattle.meaning.specs.Terms.{negative}
+use Rattle.signed.proofs.Reading.{read32}
 use Rattle.sheet_line.specs.Text.{blank, minus, digits, decimal, following}
 use Rattle.sheet_answer.specs.Steps.{Written}
 use Rattle.sheet_answer.proofs.Writing.{width-most, write-none, write-more}
 
--- An element's text by its sign and size.
-pub decimal-natural : (z : ℤ) → negative z ≡ false → decimal z ≡ digits (natAbs z)
-unfolding negative decimal
-decimal-natural (pos n) h = refl
-decimal-natural (negsuc m) h = no-way (sym h)
+-- An element's text, by the magnitude and the sign that `signed` tells.
+module _ (z : ℤ) (f : SFits w32 z) {m : ℕ} (magnitude : m ≡ natAbs (toZ w32 (ofZ w32 z))) where
+  magnitude-is : m ≡ natAbs z
+  magnitude-is = rw (read32 z f) at magnitude
 
-pub decimal-negative : (z : ℤ) → negative z ≡ true → decimal z ≡ minus ∷ digits (natAbs z)
-unfolding negative decimal
-decimal-negative (pos n) h = no-way h
-decimal-negative (negsuc m) h = refl
+  pub magnitude-short : length (digits m) ≤ 10
+  magnitude-short = rw magnitude-is (by z f)
+    where
+      by : (z : ℤ) → SFits w32 z → length (digits (natAbs z)) ≤ 10
+      by (pos n) h = width-most 9 n (omega (arith, h .sfits))
+      by (negsuc m) h = width-most 9 (suc m) (omega (arith, h .sfits))
 
-pub decimal-longer : (z : ℤ) → length (digits (natAbs z)) ≤ length (decimal z)
-unfolding decimal
-decimal-longer (pos n) = omega arith
-decimal-longer (negsuc m) = omega arith
+  pub magnitude-within : length (digits m) ≤ length (decimal z)
+  unfolding decimal
+  magnitude-within = rw magnitude-is (by z)
+    where
+      by : (z : ℤ) → length (digits (natAbs z)) ≤ length (decimal z)
+      by (pos n) = omega arith
+      by (negsuc m) = omega arith
 
--- An element's size has at most ten digits.
-pub size-short : (z : ℤ) → SFits w32 z → length (digits (natAbs z)) ≤ 10
-size-short (pos n) h = width-most 9 n (omega (arith, h .sfits))
-size-short (negsuc m) h = width-most 9 (suc m) (omega (arith, h .sfits))
+  module _ {b : Bool} (sign : b ≡ negative (toZ w32 (ofZ w32 z))) where
+    sign-is : b ≡ negative z
+    sign-is = rw (read32 z f) at sign
+
+    pub from-zero-up : b ≡ false → decimal z ≡ digits m
+    unfolding negative decimal
+    from-zero-up e = rw magnitude-is (by z (sym sign-is ∙ e))
+      where
+        by : (z : ℤ) → negative z ≡ false → decimal z ≡ digits (natAbs z)
+        by (pos n) h = refl
+        by (negsuc m) h = no-way (sym h)
+
+    pub below-zero : b ≡ true → decimal z ≡ minus ∷ digits m
+    unfolding negative decimal
+    below-zero e = rw magnitude-is (by z (sym sign-is ∙ e))
+      where
+        by : (z : ℤ) → negative z ≡ true → decimal z ≡ minus ∷ digits (natAbs z)
+        by (pos n) h = no-way h
+        by (negsuc m) h = refl
 
 drop-shorter : {A : Type 0} (f : A → List ℕ) (ys : List A) (k : ℕ) → length (following (map f (drop k ys))) ≤ length (following (map f ys))
 unfolding following
@@ -46,27 +67,58 @@ module _ {A : Type 0} (f : A → List ℕ) (xs : List A) where
   abbrev pub partsFrom : ℕ → List ℕ
   partsFrom i = following (map f (drop i xs))
 
-  pub parts-end : partsFrom (length xs) ≡ []
+  parts-end : partsFrom (length xs) ≡ []
   unfolding following
   parts-end = rw (drop-length xs)
 
-  pub parts-none : (t : List ℕ) (e : ℕ) → Written t t e e (partsFrom (length xs))
-  parts-none t e = rw parts-end (write-none t e)
-
-  shorter : (j : ℕ) → length (partsFrom j) ≤ length (following (map f xs))
-  shorter j = drop-shorter f xs j
-
   -- The part before those from i on.
   module _ (d : A) (i j : ℕ) (e : i ≡ suc j) (h : i ≤ length xs) where
-    pub part-on : partsFrom j ≡ (blank ∷ f (getD xs j d)) ++ partsFrom i
+    part-on : partsFrom j ≡ (blank ∷ f (getD xs j d)) ++ partsFrom i
     unfolding following
     part-on = rw (drop-cons xs j d (omega arith), e)
 
-    pub part-width : length (partsFrom j) ≡ suc (length (f (getD xs j d))) + length (partsFrom i)
+    part-width : length (partsFrom j) ≡ suc (length (f (getD xs j d))) + length (partsFrom i)
     part-width = ap length part-on ∙ (let l = length-append (f (getD xs j d)) (partsFrom i) in omega arith)
 
-    pub part-room : (at end : ℕ) → length (following (map f xs)) ≤ end → at + length (partsFrom i) ≡ end → suc (length (f (getD xs j d))) ≤ at
-    part-room at end p q = omega (arith, part-width, shorter j)
+-- A loop that writes parts from the last to the first: those from i on are written.
+pub record Put {A : Type 0} (f : A → List ℕ) (xs : List A) (before text : List ℕ) (at end i : ℕ) : Type 0 where
+  pub left : i ≤ length xs
+  pub written : Written before text at end (partsFrom f xs i)
 
-    pub part-put : (t₀ t₁ t₂ : List ℕ) (start at end : ℕ) → end ≤ length t₀ → Written t₀ t₁ at end (partsFrom i) → Written t₁ t₂ start at (blank ∷ f (getD xs j d)) → Written t₀ t₂ start end (partsFrom j)
-    part-put t₀ t₁ t₂ start at end k p q = rw part-on (write-more t₀ t₁ t₂ start at end (blank ∷ f (getD xs j d)) (partsFrom i) k p q)
+pub put-none : {A : Type 0} (f : A → List ℕ) (xs : List A) {t : List ℕ} {end : ℕ} → end ≤ length t → Put f xs t t end end (length xs)
+put-none f xs h = record { left = omega arith; written = rw (parts-end f xs) (write-none h) }
+
+module _ {A : Type 0} {f : A → List ℕ} {xs : List A} {before text : List ℕ} {at end i : ℕ} (p : Put f xs before text at end i) where
+  pub put-room : (d : A) → 0 < i → length (following (map f xs)) ≤ end → suc (length (f (getD xs (i - 1) d))) ≤ at
+  put-room d some h = omega (arith, part-width f xs d i (i - 1) (omega arith) (p .left), drop-shorter f xs (i - 1), p .written .place)
+
+  pub put-more : (d : A) → 0 < i → {after : List ℕ} {start : ℕ} → Written text after start at (blank ∷ f (getD xs (i - 1) d))
+      → Put f xs before after start end (i - 1)
+  put-more d some w =
+      let on = part-on f xs d i (i - 1) (omega arith) (p .left) in
+      record { left = omega (arith, p .left); written = rw on (write-more (p .written) w) }
+
+  pub put-all : i ≡ 0 → Written before text at end (following (map f xs))
+  put-all e = rw e at (p .written)
+
+-- A loop that adds up the parts' widths, each at most `most`: those from i on are in the sum.
+pub record Summed {A : Type 0} (f : A → List ℕ) (xs : List A) (most sum i : ℕ) : Type 0 where
+  pub left : i ≤ length xs
+  pub width : sum ≡ length (partsFrom f xs i)
+  pub bound : sum + most * i ≤ most * length xs
+
+pub sum-none : {A : Type 0} (f : A → List ℕ) (xs : List A) (most : ℕ) → Summed f xs most 0 (length xs)
+sum-none f xs most = record { left = omega arith; width = sym (ap length (parts-end f xs)); bound = omega arith }
+
+module _ {A : Type 0} {f : A → List ℕ} {xs : List A} {most sum i : ℕ} (s : Summed f xs most sum i) where
+  pub sum-more : (d : A) → 0 < i → {n : ℕ} → n ≡ suc (length (f (getD xs (i - 1) d))) → n ≤ most → Summed f xs most (sum + n) (i - 1)
+  sum-more d some e h =
+      let m : most * i ≡ most * (i - 1) + most = ap (λ k. most * k) (omega arith) ∙ mul-suc most (i - 1) in
+      record {
+        left = omega (arith, s .left);
+        width = omega (arith, part-width f xs d i (i - 1) (omega arith) (s .left), s .width);
+        bound = omega (arith, s .bound);
+      }
+
+  pub sum-all : i ≡ 0 → (sum ≡ length (following (map f xs))) × (sum ≤ most * length xs)
+  sum-all e = (rw e at (s .width), omega (arith, s .bound))

@@ -7,29 +7,31 @@ use mathlib.Core.Path.{_≡_, refl, sym, ap, _∙_}
 use mathlib.Core.List.{List, [], _∷_, _++_, append-assoc, append-nil}
 use mathlib.Core.Bool.{cond}
 use lib.Dec.{leb}
-use lib.ListN.{length, take, drop, set, length-append, take-append-drop}
+use lib.ListN.{length, take, drop, set, length-set, length-append, take-append-drop}
 use lib.Seq.{set-split, take-append-le, take-take, drop-at, length-take-le, append-snoc}
 use borrow.Author.Tests.{le-leb, lt-leb}
 use Rattle.sheet_line.specs.Text.{digit, digits}
 use Rattle.sheet_answer.specs.Steps.{Written}
 use Rattle.sheet_line.proofs.Digits.{digits-one, digits-more}
 
-pub write-none : (t : List ℕ) (e : ℕ) → Written t t e e []
-write-none t e = record { place = omega arith; text = sym (take-append-drop e t) }
+pub write-none : {t : List ℕ} {e : ℕ} → e ≤ length t → Written t t e e []
+write-none {t} {e} h = record { place = omega arith; inside = h; kept = refl; text = sym (take-append-drop e t) }
 
 pub write-byte : (t : List ℕ) (j e b : ℕ) → e ≡ suc j → e ≤ length t → Written t (set t j b) j e (b ∷ [])
-write-byte t j e b h k = record { place = omega arith; text = rw h (set-split t j b (omega arith)) }
+write-byte t j e b h k = record { place = omega arith; inside = k; kept = length-set t j b; text = rw h (set-split t j b (omega arith)) }
 
 -- More bytes before those that were written.
-pub write-more : (t₀ t₁ t₂ : List ℕ) (j i e : ℕ) (vs ws : List ℕ) → e ≤ length t₀ → Written t₀ t₁ i e ws → Written t₁ t₂ j i vs → Written t₀ t₂ j e (vs ++ ws)
-write-more t₀ t₁ t₂ j i e vs ws h p q =
+pub write-more : {t₀ t₁ t₂ : List ℕ} {j i e : ℕ} {vs ws : List ℕ} → Written t₀ t₁ i e ws → Written t₁ t₂ j i vs → Written t₀ t₂ j e (vs ++ ws)
+write-more {t₀} {t₁} {t₂} {j} {i} {e} {vs} {ws} p q =
     let a = p .place in
     let b = q .place in
-    let long : length (take i t₀) ≡ i = length-take-le i t₀ (omega arith) in
+    let long : length (take i t₀) ≡ i = length-take-le i t₀ (omega (arith, p .inside)) in
     let front : take j t₁ ≡ take j t₀ = rw (p .text, take-append-le j (take i t₀) (ws ++ drop e t₀) (omega arith)) (take-take j i t₀ (omega arith)) in
     let back : drop i t₁ ≡ ws ++ drop e t₀ = rw (p .text) (drop-at (take i t₀) (ws ++ drop e t₀) i long) in
     record {
       place = rw (length-append vs ws) (omega arith);
+      inside = p .inside;
+      kept = q .kept ∙ p .kept;
       text = q .text ∙ rw (front, back, append-assoc vs ws (drop e t₀));
     }
 
@@ -87,56 +89,42 @@ width-above (suc k) n h =
     let same : n / 10 / 10 ^ k ≡ n / 10 ^ suc k = div-div-eq-div-mul n 10 (10 ^ k) ∙ rw p in
     omega (arith, width-more n (omega arith), rw same at rest)
 
+-- Two digits at a time.
+pub digits-pair : (n : ℕ) → 10 ≤ n → n < 100 → digits n ≡ digit (n / 10) ∷ digit (n % 10) ∷ []
+digits-pair n h k = digits-more n h ∙ rw (digits-one (n / 10) (omega arith))
+
+pub digits-two : (n : ℕ) → 100 ≤ n → digits n ≡ digits (n / 100) ++ digit (n % 100 / 10) ∷ digit (n % 100 % 10) ∷ []
+digits-two n h =
+    let tens : n % 100 / 10 ≡ n / 10 % 10 = omega arith in
+    let ones : n % 100 % 10 ≡ n % 10 = omega arith in
+    let above : n / 10 / 10 ≡ n / 100 = omega arith in
+    digits-more n (omega arith)
+    ∙ rw (digits-more (n / 10) (omega arith), above, tens, ones)
+    (append-snoc (digits (n / 100)) (digit (n / 10 % 10)) (digit (n % 10) ∷ []))
+
+pub two-digits : (n : ℕ) → 10 ≤ n → 1 < length (digits n)
+two-digits n h = omega (arith, width-more n h, digits-some (n / 10))
+
 -- The digits of n, of which those of `rest` are still to be written.
 pub record Spelt (before text : List ℕ) (i end n rest : ℕ) : Type 0 where
   pub tail : List ℕ
   pub spelt : digits rest ++ tail ≡ digits n
   pub written : Written before text i end tail
-  pub kept : length text ≡ length before
 
-pub spell-none : (t : List ℕ) (end n : ℕ) → Spelt t t end end n n
-spell-none t end n = record { tail = []; spelt = append-nil (digits n); written = write-none t end; kept = refl }
+pub spell-none : {t : List ℕ} {end : ℕ} (n : ℕ) → end ≤ length t → Spelt t t end end n n
+spell-none n h = record { tail = []; spelt = append-nil (digits n); written = write-none h }
 
-module _ (before text : List ℕ) (i end n rest : ℕ) (s : Spelt before text i end n rest) where
-  pub spell-room : length (digits n) ≤ end → 0 < i
-  spell-room h =
-      let l : length (digits rest) + length (s .tail) ≡ length (digits n) = sym (length-append (digits rest) (s .tail)) ∙ ap length (s .spelt) in
-      let p = s .written .place in
-      let q = digits-some rest in
-      omega arith
+module _ {before text : List ℕ} {i end n rest : ℕ} (s : Spelt before text i end n rest) where
+  pub spell-room : length (digits n) ≤ end → length (digits rest) ≤ i
+  spell-room h = omega (arith, s .written .place, ap length (s .spelt), length-append (digits rest) (s .tail))
 
-  pub spell-room-two : length (digits n) ≤ end → 10 ≤ rest → 1 < i
-  spell-room-two h k =
-      let l : length (digits rest) + length (s .tail) ≡ length (digits n) = sym (length-append (digits rest) (s .tail)) ∙ ap length (s .spelt) in
-      let p = s .written .place in
-      let q = digits-some (rest / 10) in
-      omega (arith, width-more rest k)
-
-  module _ (after : List ℕ) (j : ℕ) (h : end ≤ length before) where
-    pub spell-more : 10 ≤ rest → Written text after j i (digit (rest % 10) ∷ []) → length after ≡ length text → Spelt before after j end n (rest / 10)
-    spell-more k w l = record {
-      tail = digit (rest % 10) ∷ s .tail;
-      spelt = sym (append-snoc (digits (rest / 10)) (digit (rest % 10)) (s .tail)) ∙ rw (← digits-more rest k) (s .spelt);
-      written = write-more before text after j i end (digit (rest % 10) ∷ []) (s .tail) h (s .written) w;
-      kept = l ∙ s .kept;
+  module _ {after : List ℕ} {j : ℕ} {ds : List ℕ} (w : Written text after j i ds) where
+    pub spell-more : (next : ℕ) → digits rest ≡ digits next ++ ds → Spelt before after j end n next
+    spell-more next e = record {
+      tail = ds ++ s .tail;
+      spelt = sym (append-assoc (digits next) ds (s .tail)) ∙ rw (← e) (s .spelt);
+      written = write-more (s .written) w;
     }
 
-    pub spell-last : rest < 10 → Written text after j i (digit rest ∷ []) → Written before after j end (digits n)
-    spell-last k w = rw (← s .spelt, digits-one rest k) (write-more before text after j i end (digit rest ∷ []) (s .tail) h (s .written) w)
-
-    -- Two digits at a time.
-    pub spell-two : 100 ≤ rest → Written text after j i (digit (rest % 100 / 10) ∷ digit (rest % 100 % 10) ∷ []) → length after ≡ length text → Spelt before after j end n (rest / 100)
-    spell-two k w l =
-        let tens : rest % 100 / 10 ≡ rest / 10 % 10 = omega arith in
-        let ones : rest % 100 % 10 ≡ rest % 10 = omega arith in
-        let above : rest / 10 / 10 ≡ rest / 100 = omega arith in
-        let two : digits rest ≡ (digits (rest / 100) ++ digit (rest % 100 / 10) ∷ []) ++ digit (rest % 100 % 10) ∷ [] = digits-more rest (omega arith) ∙ rw (digits-more (rest / 10) (omega arith), above, tens, ones) in
-        record {
-          tail = digit (rest % 100 / 10) ∷ digit (rest % 100 % 10) ∷ s .tail;
-          spelt = sym (append-snoc (digits (rest / 100)) (digit (rest % 100 / 10)) (digit (rest % 100 % 10) ∷ s .tail)) ∙ sym (append-snoc (digits (rest / 100) ++ digit (rest % 100 / 10) ∷ []) (digit (rest % 100 % 10)) (s .tail)) ∙ rw (← two) (s .spelt);
-          written = write-more before text after j i end (digit (rest % 100 / 10) ∷ digit (rest % 100 % 10) ∷ []) (s .tail) h (s .written) w;
-          kept = l ∙ s .kept;
-        }
-
-    pub spell-last-two : 10 ≤ rest → rest < 100 → Written text after j i (digit (rest / 10) ∷ digit (rest % 10) ∷ []) → Written before after j end (digits n)
-    spell-last-two k m w = rw (← s .spelt, digits-more rest k, digits-one (rest / 10) (omega arith)) (write-more before text after j i end (digit (rest / 10) ∷ digit (rest % 10) ∷ []) (s .tail) h (s .written) w)
+    pub spell-last : digits rest ≡ ds → Written before after j end (digits n)
+    spell-last e = rw (← s .spelt, e) (write-more (s .written) w)

@@ -4,8 +4,11 @@ use mathlib.Core.List.{List, [], _∷_, _++_, map}
 use mathlib.Core.Bool.{cond}
 use lib.Dec.{leb}
 use lib.ListN.{length}
+use lib.IntN.{ℤ}
+use Rattle.shape.specs.declared.Shape.{Shape}
 use Rattle.meaning.specs.Array.{Operand, Array, arrayOf, goodForm}
 use Rattle.sheet_line.specs.Text.{newline, digits, decimal, spaced}
+use Rattle.sheet_line.specs.Call.{front}
 
 -- `ok`, `no`, `bad`.
 abbrev pub ok-word : List ℕ
@@ -33,7 +36,11 @@ noLine line refusal = answerLine line (no-word ∷ digits refusal ∷ [])
 unfoldable pub badLine : ℕ → List ℕ
 badLine line = answerLine line (bad-word ∷ [])
 
--- The line for a reply: its number, and for a success its shape and buffer, which print nothing where they are not of good form.
+-- The result of a success: its shape, and the buffer that holds its elements.
+abbrev pub resultIn : Shape → List ℤ → Operand
+resultIn s out = record { shape = s; buffer = out }
+
+-- The line for a reply: its number, and for a success its result, which prints nothing where it is not of good form.
 unfoldable pub replyLine : ℕ → ℕ → Operand → List ℕ
 replyLine line zero o = cond (goodForm o) (okLine line (arrayOf o)) []
 replyLine line (suc n) o = noLine line (suc n)
@@ -41,3 +48,7 @@ replyLine line (suc n) o = noLine line (suc n)
 -- What is written to a text: all of a line if it fits, else nothing.
 unfoldable pub fitted : List ℕ → List ℕ → List ℕ
 fitted bytes text = cond (leb (length bytes) (length text)) bytes []
+
+-- The text then; its other bytes stay.
+abbrev pub printedTo : List ℕ → List ℕ → List ℕ
+printedTo bytes text = front (fitted bytes text) text

@@ -10,7 +10,7 @@ use Rattle.shape.specs.Shape.{shapeOf}
 use Rattle.meaning.specs.Array.{Operand, Array}
 use Rattle.meaning.specs.Reply.{Reply, reply}
 use Rattle.sheet_line.specs.Call.{maxLine, maxHeld, Call, lineCall}
-use Rattle.sheet_answer.specs.Answer.{replyLine, badLine}
+use Rattle.sheet_answer.specs.Answer.{resultIn, replyLine, badLine}
 
 -- An operand of a line.
 abbrev pub operandOf : Array → Operand
@@ -23,7 +23,7 @@ replyTo c =
 
 unfoldable pub answerTo : ℕ → Option Call → List ℕ
 answerTo line none = badLine line
-answerTo line (some c) = let r : Reply = replyTo c in replyLine line (r .number) (record { shape = r .shape; buffer = r .out })
+answerTo line (some c) = let r : Reply = replyTo c in replyLine line (r .number) (resultIn (r .shape) (r .out))
 
 -- What is printed for line number `line`.
 unfoldable pub sheetAnswer : ℕ → List ℕ → List ℕ

@@ -3,8 +3,8 @@ ghost use mathlib.Core.Path.{_≡_};
 ghost use Prim.Native.Nat.{_≤_};
 ghost use lib.ListN.{length};
 ghost use Rattle.shape.specs.Shape.{maxRank, maxCount};
-ghost use Rattle.sheet_line.specs.Call.{maxLine, maxHeld, front};
-ghost use Rattle.sheet_answer.specs.Answer.{okLine, noLine, replyLine, fitted};
+ghost use Rattle.sheet_line.specs.Call.{maxLine, maxHeld};
+ghost use Rattle.sheet_answer.specs.Answer.{okLine, noLine, resultIn, replyLine, fitted, printedTo};
 use crate::print::digit_pairs;
 use crate::print::elements_width;
 use crate::print::lengths_width;
@@ -16,9 +16,10 @@ use crate::print::put_part;
 use crate::print::width;
 use shape::Shape;
 
+// A refusal, by its number.
 pub fn print_no(line: usize, refusal: usize, text: &mut [u8]) -> usize
     ensures count { λ n. ⌜ n ≡ length (fitted (noLine line refusal) (now (text .entry))) ⌝ }
-    ensures text { λ n. ⌜ now (text .exit) ≡ front (fitted (noLine line refusal) (now (text .entry))) (now (text .entry)) ⌝ }
+    ensures text { λ n. ⌜ now (text .exit) ≡ printedTo (noLine line refusal) (now (text .entry)) ⌝ }
 {
     let need = width(line) + width(refusal) + 5;
     if text.len() < need {
@@ -34,8 +35,9 @@ pub fn print_no(line: usize, refusal: usize, text: &mut [u8]) -> usize
 fn print_array(line: usize, lens: &[usize], out: &[i32], text: &mut [u8]) -> usize
     requires { ⌜ (length (now lens) ≤ maxRank) × (length (now out) ≤ maxCount) ⌝ }
     ensures count { λ n. ⌜ n ≡ length (fitted (okLine line (record { lengths = now (lens .entry); elements = now (out .entry) })) (now (text .entry))) ⌝ }
-    ensures text { λ n. ⌜ now (text .exit) ≡ front (fitted (okLine line (record { lengths = now (lens .entry); elements = now (out .entry) })) (now (text .entry))) (now (text .entry)) ⌝ }
-    ensures room { λ n. ⌜ (length (now (out .entry)) ≤ maxHeld → length (okLine line (record { lengths = now (lens .entry); elements = now (out .entry) })) ≤ maxLine) ⌝ }
+    ensures text { λ n. ⌜ now (text .exit) ≡ printedTo (okLine line (record { lengths = now (lens .entry); elements = now (out .entry) })) (now (text .entry)) ⌝ }
+    ensures room { λ n.
+        ⌜ (length (now (out .entry)) ≤ maxHeld → length (okLine line (record { lengths = now (lens .entry); elements = now (out .entry) })) ≤ maxLine) ⌝ }
 {
     let rank = lens.len();
     let need = width(line) + width(rank) + lengths_width(lens) + elements_width(out) + 5;
@@ -51,10 +53,11 @@ fn print_array(line: usize, lens: &[usize], out: &[i32], text: &mut [u8]) -> usi
     need
 }
 
+// A success: nothing for a shape or a buffer that no reply has.
 pub fn print_ok(line: usize, shape: Shape, out: &[i32], text: &mut [u8]) -> usize
-    ensures count { λ n. ⌜ n ≡ length (fitted (replyLine line 0 (record { shape = shape; buffer = now (out .entry) })) (now (text .entry))) ⌝ }
-    ensures text { λ n. ⌜ now (text .exit) ≡ front (fitted (replyLine line 0 (record { shape = shape; buffer = now (out .entry) })) (now (text .entry))) (now (text .entry)) ⌝ }
-    ensures room { λ n. ⌜ (length (now (out .entry)) ≤ maxHeld → length (replyLine line 0 (record { shape = shape; buffer = now (out .entry) })) ≤ maxLine) ⌝ }
+    ensures count { λ n. ⌜ n ≡ length (fitted (replyLine line 0 (resultIn shape (now (out .entry)))) (now (text .entry))) ⌝ }
+    ensures text { λ n. ⌜ now (text .exit) ≡ printedTo (replyLine line 0 (resultIn shape (now (out .entry)))) (now (text .entry)) ⌝ }
+    ensures room { λ n. ⌜ (length (now (out .entry)) ≤ maxHeld → length (replyLine line 0 (resultIn shape (now (out .entry)))) ≤ maxLine) ⌝ }
 {
     let count = shape.count();
     if Shape::MAX_COUNT < count {

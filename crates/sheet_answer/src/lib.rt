@@ -5,8 +5,8 @@ mod print;
 ghost use mathlib.Core.Path.{_≡_};
 ghost use Prim.Native.Nat.{_≤_};
 ghost use lib.ListN.{length};
-ghost use Rattle.sheet_line.specs.Call.{maxLine, maxHeld, front};
-ghost use Rattle.sheet_answer.specs.Answer.{badLine, replyLine, fitted};
+ghost use Rattle.sheet_line.specs.Call.{maxLine, maxHeld};
+ghost use Rattle.sheet_answer.specs.Answer.{badLine, resultIn, replyLine, fitted, printedTo};
 use answer::print_no;
 use answer::print_ok;
 use print::put_byte;
@@ -17,7 +17,7 @@ use shape::Shape;
 // The answer to a bad line.
 pub fn print_bad(line_number: u64, text: &mut [u8]) -> usize
     ensures count { λ n. ⌜ n ≡ length (fitted (badLine «line_number») (now (text .entry))) ⌝ }
-    ensures text { λ n. ⌜ now (text .exit) ≡ front (fitted (badLine «line_number») (now (text .entry))) (now (text .entry)) ⌝ }
+    ensures text { λ n. ⌜ now (text .exit) ≡ printedTo (badLine «line_number») (now (text .entry)) ⌝ }
 {
     let line = line_number as usize;
     let need = width(line) + 5;
@@ -30,7 +30,7 @@ pub fn print_bad(line_number: u64, text: &mut [u8]) -> usize
     need
 }
 
-// The answer to a call's reply: its number, and for number 0 its shape and the buffer that holds the elements.
+// The answer to a call's reply: its number, which is 0 or the refusal's and not the line's, and for 0 its shape and the buffer that holds the elements.
 // With a buffer of no more elements than the program's it is no longer than the longest line.
 pub fn print_reply(
     line_number: u64,
@@ -39,9 +39,9 @@ pub fn print_reply(
     out: &[i32],
     text: &mut [u8],
 ) -> usize
-    ensures count { λ n. ⌜ n ≡ length (fitted (replyLine «line_number» number (record { shape = shape; buffer = now (out .entry) })) (now (text .entry))) ⌝ }
-    ensures text { λ n. ⌜ now (text .exit) ≡ front (fitted (replyLine «line_number» number (record { shape = shape; buffer = now (out .entry) })) (now (text .entry))) (now (text .entry)) ⌝ }
-    ensures room { λ n. ⌜ (length (now (out .entry)) ≤ maxHeld → length (replyLine «line_number» number (record { shape = shape; buffer = now (out .entry) })) ≤ maxLine) ⌝ }
+    ensures count { λ n. ⌜ n ≡ length (fitted (replyLine «line_number» number (resultIn shape (now (out .entry)))) (now (text .entry))) ⌝ }
+    ensures text { λ n. ⌜ now (text .exit) ≡ printedTo (replyLine «line_number» number (resultIn shape (now (out .entry)))) (now (text .entry)) ⌝ }
+    ensures room { λ n. ⌜ (length (now (out .entry)) ≤ maxHeld → length (replyLine «line_number» number (resultIn shape (now (out .entry)))) ≤ maxLine) ⌝ }
 {
     let line = line_number as usize;
     if number == 0 {

@@ -1,9 +1,7 @@
-use Prim.Native.Nat.{_+_, _≤_}
+use Prim.Native.Nat.{ℕ, _+_}
 use mathlib.Core.Path.{_≡_}
-use mathlib.Core.List.{[], _∷_, _++_}
 use native.Mathlib.Omega.{arith}
 use lib.ListN.{length}
-use Rattle.sheet_line.specs.Text.{newline, blank, digits}
 use Rattle.sheet_answer.specs.Answer.{badLine}
 use Rattle.sheet_answer.proofs.Writing.{write-more}
 use Rattle.sheet_answer.proofs.Answers.{no-room, all-printed, bad-text, bad-length}
@@ -11,25 +9,22 @@ use borrow.Author.Needs.{needs}
 use Rattle.sheet_answer.proofs.print_bad.Statement.{statement}
 use Rattle.sheet_answer.proofs.print_bad.Tie as tie
 
+need-is : (c : tie.After-width) → c .width .result + 5 ≡ length (badLine (c .before .before .args .line-number))
+need-is c = omega (arith, bad-length (c .before .before .args .line-number), c .width .ensures .0)
+
 returns : tie.Need-returns
 returns c =
     let st = c .before .before .before in
-    no-room (badLine (st .args .line-number)) (st .args .text .now) (omega (arith, bad-length (st .args .line-number), c .before .width .ensures .0))
+    no-room (badLine (st .args .line-number)) (st .args .text .now) (omega (arith, need-is (c .before)))
 
 returns-2 : tie.Need-returns-2
 returns-2 c =
-    let st = c .before .before .before .before .before .before .before .before .before .before .before .before .before .before .before in
-    let line = st .args .line-number in
-    let t = st .args .text .now in
-    let need = c .before .before .before .before .before .before .before .before .before .before .before .before .before .width .result + 5 in
-    let long : need ≡ length (badLine line) = omega (arith, bad-length line, c .before .before .before .before .before .before .before .before .before .before .before .before .before .width .ensures .0) in
-    let room : need ≤ length t = c .before .before .before .before .before .before .before .before .before .before .before .before .if1 .left in
-    let e = c .before .before .before .before .before .before .before .before .before .before .put-byte in
-    let p = c .before .before .before .before .before .before .put-byte2 in
-    let h = c .before .before .put-head in
-    let one = write-more t (e .last .0) (p .last .0) (p .result) (e .result) need (100 ∷ []) (newline ∷ []) room (e .ensures) (p .ensures) in
-    let all = write-more t (p .last .0) (h .last .0) (h .result) (p .result) need (digits line ++ blank ∷ 98 ∷ 97 ∷ []) (100 ∷ newline ∷ []) room one (h .ensures) in
-    all-printed (badLine line) t (h .last .0) (h .result) need long room (rw (bad-text line) all)
+    let head = c .before .before in
+    let word = head .before .before .before .before in
+    let end = word .before .before .before .before in
+    let width = end .before .before .before in
+    all-printed (bad-text (width .before .before .args .line-number)) (need-is width)
+    (write-more (write-more (end .put-byte .ensures) (word .put-byte2 .ensures)) (head .put-head .ensures))
 
 pub print-bad-spec : {M : Type 1} → statement M
 print-bad-spec =

@@ -1,9 +1,7 @@
-use Prim.Native.Nat.{_+_, _≤_}
+use Prim.Native.Nat.{_+_}
 use mathlib.Core.Path.{_≡_}
-use mathlib.Core.List.{[], _∷_, _++_}
 use native.Mathlib.Omega.{arith}
 use lib.ListN.{length}
-use Rattle.sheet_line.specs.Text.{newline, blank, digits}
 use Rattle.sheet_answer.specs.Answer.{noLine}
 use Rattle.sheet_answer.proofs.Writing.{write-more}
 use Rattle.sheet_answer.proofs.Answers.{no-room, all-printed, no-text, no-length}
@@ -11,24 +9,26 @@ use borrow.Author.Needs.{needs}
 use Rattle.sheet_answer.proofs.answer.print_no.Statement.{statement}
 use Rattle.sheet_answer.proofs.answer.print_no.Tie as tie
 
+abbrev begun : tie.After-width2 → tie.Start
+begun c = c .before .before .before
+
+need-is : (c : tie.After-width2)
+    → c .before .width .result + c .width2 .result + 5 ≡ length (noLine (begun c .args .line) (begun c .args .refusal))
+need-is c = omega (arith, no-length (begun c .args .line) (begun c .args .refusal), c .before .width .ensures .0, c .width2 .ensures .0)
+
 returns : tie.Need-returns
 returns c =
-    let st = c .before .before .before .before in
-    no-room (noLine (st .args .line) (st .args .refusal)) (st .args .text .now) (omega (arith, no-length (st .args .line) (st .args .refusal), c .before .before .width .ensures .0, c .before .width2 .ensures .0))
+    let a = begun (c .before) .args in
+    no-room (noLine (a .line) (a .refusal)) (a .text .now) (omega (arith, need-is (c .before)))
 
 returns-2 : tie.Need-returns-2
 returns-2 c =
-    let st = c .before .before .before .before .before .before .before .before .before .before .before .before .before .before .before .before in
-    let t = st .args .text .now in
-    let need = c .before .before .before .before .before .before .before .before .before .before .before .before .before .before .width .result + c .before .before .before .before .before .before .before .before .before .before .before .before .before .width2 .result + 5 in
-    let long : need ≡ length (noLine (st .args .line) (st .args .refusal)) = omega (arith, no-length (st .args .line) (st .args .refusal), c .before .before .before .before .before .before .before .before .before .before .before .before .before .before .width .ensures .0, c .before .before .before .before .before .before .before .before .before .before .before .before .before .width2 .ensures .0) in
-    let room : need ≤ length t = c .before .before .before .before .before .before .before .before .before .before .before .before .if1 .left in
-    let e = c .before .before .before .before .before .before .before .before .before .before .put-byte in
-    let p = c .before .before .before .before .before .before .put-part in
-    let h = c .before .before .put-head in
-    let one = write-more t (e .last .0) (p .last .0) (p .result) (e .result) need (blank ∷ digits (st .args .refusal)) (newline ∷ []) room (e .ensures) (p .ensures) in
-    let all = write-more t (p .last .0) (h .last .0) (h .result) (p .result) need (digits (st .args .line) ++ blank ∷ 110 ∷ 111 ∷ []) ((blank ∷ digits (st .args .refusal)) ++ newline ∷ []) room one (h .ensures) in
-    all-printed (noLine (st .args .line) (st .args .refusal)) t (h .last .0) (h .result) need long room (rw (no-text (st .args .line) (st .args .refusal)) all)
+    let head = c .before .before in
+    let refusal = head .before .before .before .before in
+    let end = refusal .before .before .before .before in
+    let widths = end .before .before .before in
+    all-printed (no-text (begun widths .args .line) (begun widths .args .refusal)) (need-is widths)
+    (write-more (write-more (end .put-byte .ensures) (refusal .put-part .ensures)) (head .put-head .ensures))
 
 pub print-no-spec : {M : Type 1} → statement M
 print-no-spec =

@@ -1,72 +1,69 @@
 use native.Mathlib.Omega.{arith}
-use mathlib.Core.Path.{_≡_, sym, ap, _∙_}
-use mathlib.Core.List.{[], _∷_}
+use mathlib.Core.Path.{_≡_, ap}
+use mathlib.Core.List.{_∷_}
 use lib.ListN.{length}
-use lib.IntN.{natAbs}
-use mir.Facts.{toZ-ofZ}
-use Rattle.meaning.specs.Terms.{negative}
-use Rattle.sheet_line.specs.Text.{blank, minus, digits, decimal}
+use Rattle.sheet_line.specs.Text.{minus, digits, decimal}
 use Rattle.sheet_answer.proofs.Writing.{write-more}
-use Rattle.sheet_answer.proofs.Parts.{decimal-natural, decimal-negative, decimal-longer}
+use Rattle.sheet_answer.proofs.Parts.{magnitude-within, from-zero-up, below-zero}
 use borrow.Author.Needs.{needs}
 use Rattle.sheet_answer.proofs.print.put_element.Statement.{statement}
 use Rattle.sheet_answer.proofs.print.put_element.Tie as tie
 
-size-is : (c : tie.After-magnitude) → c .magnitude .result ≡ natAbs (c .before .before .args .z)
-size-is c = rw (toZ-ofZ (c .before .before .fits .z)) at (c .magnitude .ensures)
+-- The points of the code: the digits are put, and before that the magnitude is known.
+abbrev put : tie.After-negative → tie.After-put-pairs
+put c = c .before .before .before
 
-sign-is : (c : tie.After-negative) → c .negative .result ≡ negative (c .before .before .before .before .before .before .before .args .z)
-sign-is c = rw (toZ-ofZ (c .before .before .before .before .before .before .before .fits .z)) at (c .negative .ensures)
+abbrev sized : tie.After-negative → tie.After-magnitude
+sized c = put c .before .before
+
+abbrev begun : tie.After-negative → tie.Start
+begun c = sized c .before .before
 
 -- The element's text, of each sign.
-below : (c : tie.Then1) → decimal (c .before .before .before .before .before .before .before .before .args .z) ≡ minus ∷ digits (c .before .before .before .before .before .before .magnitude .result)
-below c = decimal-negative (c .before .before .before .before .before .before .before .before .args .z) (sym (sign-is (c .before)) ∙ c .if1 .taken) ∙ rw (size-is (c .before .before .before .before .before .before))
+below : (c : tie.Then1) → decimal (begun (c .before) .args .z) ≡ minus ∷ digits (sized (c .before) .magnitude .result)
+below c =
+    let st = begun (c .before) in
+    below-zero (st .args .z) (st .fits .z) (sized (c .before) .magnitude .ensures) (c .before .negative .ensures) (c .if1 .taken)
 
-above : (c : tie.Else1) → decimal (c .before .before .before .before .before .before .before .before .args .z) ≡ digits (c .before .before .before .before .before .before .magnitude .result)
-above c = decimal-natural (c .before .before .before .before .before .before .before .before .args .z) (sym (sign-is (c .before)) ∙ c .if1 .left) ∙ rw (size-is (c .before .before .before .before .before .before))
+above : (c : tie.Else1) → decimal (begun (c .before) .args .z) ≡ digits (sized (c .before) .magnitude .result)
+above c =
+    let st = begun (c .before) in
+    from-zero-up (st .args .z) (st .fits .z) (sized (c .before) .magnitude .ensures) (c .before .negative .ensures) (c .if1 .left)
 
 put-pairs-requires : tie.Need-put-pairs-requires
 put-pairs-requires c κs =
     let st = c .before .before .before in
-    let e = ap (λ n. length (digits n)) (size-is (c .before)) in
-    (omega (arith, decimal-longer (st .args .z)), st .pre .1)
+    (omega (arith, magnitude-within (st .args .z) (st .fits .z) (c .before .magnitude .ensures)), st .pre .1)
 
 put-byte-requires : tie.Need-put-byte-requires
 put-byte-requires c κs =
-    let e = ap length (below (c .before)) in
-    let d = c .before .before .before .before .before .put-pairs in
-    omega (arith, d .ensures .place, d .kept .0, c .before .before .before .before .before .before .before .before .before .pre)
+    let neg = c .before .before in
+    omega (arith, ap length (below (c .before)), put neg .put-pairs .ensures, begun neg .pre)
 
 put-byte-requires-2 : tie.Need-put-byte-requires-2
 put-byte-requires-2 c κs =
-    let e = ap length (below (c .before .before .before .before .before)) in
-    let d = c .before .before .before .before .before .before .before .before .before .put-pairs in
-    let m = c .before .before .before .put-byte in
-    omega (arith, d .ensures .place, d .kept .0, m .ensures .place, m .kept .0, c .before .before .before .before .before .before .before .before .before .before .before .before .before .pre)
+    let sign = c .before .before .before in
+    let then = sign .before .before in
+    let digits = put (then .before) .put-pairs .ensures in
+    omega (arith, ap length (below then), digits, sign .put-byte .ensures, begun (then .before) .pre)
 
 returns : tie.Need-returns
 returns c =
-    let st = c .before .before .before .before .before .before .before .before .before .before .before .before .before .before .before .before in
-    let t = st .args .text .now in
-    let size = c .before .before .before .before .before .before .before .before .before .before .before .before .before .before .magnitude .result in
-    let d = c .before .before .before .before .before .before .before .before .before .before .before .before .put-pairs in
-    let m = c .before .before .before .before .before .before .put-byte in
-    let p = c .before .before .put-byte2 in
-    let signed = write-more t (d .last .0) (m .last .0) (m .result) (d .result) (st .args .end) (minus ∷ []) (digits size) (st .pre .1 .0) (d .ensures) (m .ensures) in
-    rw (below (c .before .before .before .before .before .before .before .before)) (write-more t (m .last .0) (p .last .0) (p .result) (m .result) (st .args .end) (blank ∷ []) (minus ∷ digits size) (st .pre .1 .0) signed (p .ensures))
+    let blank = c .before .before in
+    let sign = blank .before .before .before .before in
+    let then = sign .before .before in
+    rw (below then) (write-more (write-more (put (then .before) .put-pairs .ensures) (sign .put-byte .ensures)) (blank .put-byte2 .ensures))
 
 put-byte-requires-3 : tie.Need-put-byte-requires-3
 put-byte-requires-3 c κs =
-    let e = ap length (above (c .before)) in
-    let d = c .before .before .before .before .before .put-pairs in
-    omega (arith, d .ensures .place, d .kept .0, c .before .before .before .before .before .before .before .before .before .pre)
+    let neg = c .before .before in
+    omega (arith, ap length (above (c .before)), put neg .put-pairs .ensures, begun neg .pre)
 
 returns-2 : tie.Need-returns-2
 returns-2 c =
-    let st = c .before .before .before .before .before .before .before .before .before .before .before .before in
-    let d = c .before .before .before .before .before .before .before .before .put-pairs in
-    let p = c .before .before .put-byte3 in
-    rw (above (c .before .before .before .before)) (write-more (st .args .text .now) (d .last .0) (p .last .0) (p .result) (d .result) (st .args .end) (blank ∷ []) (digits (c .before .before .before .before .before .before .before .before .before .before .magnitude .result)) (st .pre .1 .0) (d .ensures) (p .ensures))
+    let blank = c .before .before in
+    let else = blank .before .before in
+    rw (above else) (write-more (put (else .before) .put-pairs .ensures) (blank .put-byte3 .ensures))
 
 pub put-element-spec : {M : Type 1} → statement M
 put-element-spec =

@@ -1,57 +1,42 @@
-use Prim.Native.Nat.{_-_, _≤_}
+use Prim.Native.Nat.{_-_}
 use native.Mathlib.Omega.{arith}
-use mathlib.Core.Path.{_≡_, refl, _∙_}
-use lib.ListN.{length, getD}
-use lib.IntN.{pos}
+use mathlib.Core.Path.{_≡_}
+use lib.ListN.{getD}
+use lib.IntN.{ℤ, pos}
 use mir.Syntax.{w32}
 use mir.Val.{toZ, ofZ}
-use mir.Facts.{toZ-ofZ}
 use borrow.Author.Needs.{needs, sfits-of}
+use Rattle.signed.proofs.Reading.{read32}
 use Rattle.sheet_line.specs.Text.{decimal}
-use Rattle.sheet_answer.specs.Steps.{Written}
-use Rattle.sheet_answer.proofs.Parts.{partsFrom, parts-none, part-room, part-put}
+use Rattle.sheet_answer.proofs.Parts.{Put, put-none, put-room, put-more, put-all}
 use Rattle.sheet_answer.proofs.print.put_elements.Statement.{statement}
 use Rattle.sheet_answer.proofs.print.put_elements.Tie as tie
 
 abbrev Inv-loop : tie.InvT-loop
-Inv-loop text₀ end out pairs at₀ i₀ text at i = (i ≤ length out) × (Written text₀ text at end (partsFrom decimal out i) × (length text ≡ length text₀))
+Inv-loop text₀ end out pairs at₀ i₀ text at i = Put decimal out text₀ text at end i
 
 abbrev μ-loop : tie.MeasureT-loop
 μ-loop text₀ end out pairs at₀ i₀ text at i = i
 
-loop-holds : tie.Need-loop-holds Inv-loop μ-loop
-loop-holds c =
-    let st = c .before in
-    (omega arith, (parts-none decimal (st .args .out .now) (st .args .text .now) (st .args .end), refl))
+-- The element that is read before the loop's i.
+abbrev element : tie.At-loop Inv-loop μ-loop → ℤ
+element c = getD (c .before .before .args .out .now) (c .loop .i - 1) (pos 0)
+
+read : (c : tie.After-z Inv-loop μ-loop) → let z = element (c .before .before) in toZ w32 (ofZ w32 z) ≡ z
+read c = read32 (element (c .before .before)) (sfits-of (c .z .given))
 
 put-element-requires : tie.Need-put-element-requires Inv-loop μ-loop
 put-element-requires c κs =
-    let st = c .before .before .before .before .before in
-    let lp = c .before .before .before .loop in
-    let xs = st .args .out .now in
-    let z : toZ w32 (ofZ w32 (getD xs (lp .i - 1) (pos 0))) ≡ getD xs (lp .i - 1) (pos 0) = toZ-ofZ (sfits-of (c .before .z .given)) in
-    let p = lp .inv .1 .0 .place in
-    let room = part-room decimal xs (pos 0) (lp .i) (lp .i - 1) (omega arith) (omega arith) (lp .at) (st .args .end) (st .pre .0) p in
-    rw z (room, (omega (arith, lp .inv .1 .1), st .pre .1 .1))
+    let lp = c .before .before .before in
+    let w = lp .loop .inv .written in
+    let st = lp .before .before in
+    rw (read (c .before)) (put-room (lp .loop .inv) (pos 0) (omega arith) (st .pre .0), (omega arith, st .pre .1 .1))
 
 loop-again : tie.Need-loop-again Inv-loop μ-loop
 loop-again c =
-    let st = c .before .before .before .before .before .before .before .before in
-    let lp = c .before .before .before .before .before .before .loop in
-    let put = c .before .before .put-element in
-    let xs = st .args .out .now in
-    let z : toZ w32 (ofZ w32 (getD xs (lp .i - 1) (pos 0))) ≡ getD xs (lp .i - 1) (pos 0) = toZ-ofZ (sfits-of (c .before .before .before .before .z .given)) in (
-      omega arith,
-      (
-        part-put decimal xs (pos 0) (lp .i) (lp .i - 1) (omega arith) (omega arith) (st .args .text .now) (lp .text) (put .last .0) (put .result) (lp .at) (st .args .end) (st .pre .1 .0) (lp .inv .1 .0) (rw z at (put .ensures)),
-        put .kept .0 ∙ lp .inv .1 .1,
-      ),
-    )
-
-returns : tie.Need-returns Inv-loop μ-loop
-returns c =
-    let e : c .before .loop .i ≡ 0 = omega arith in
-    rw e at (c .before .loop .inv .1 .0)
+    let put = c .before .before in
+    let z = put .before .before in
+    put-more (z .before .before .loop .inv) (pos 0) (omega arith) (rw (read z) at (put .put-element .ensures))
 
 pub put-elements-spec : {M : Type 1} → statement M
 put-elements-spec =
@@ -59,7 +44,7 @@ put-elements-spec =
     (tie.spec
     Inv-loop
     μ-loop
-    loop-holds
+    (λ c. put-none decimal _ (c .before .pre .1 .0))
     (λ c. search needs)
     (λ c. search needs)
     (λ c. search needs)
@@ -67,4 +52,4 @@ put-elements-spec =
     (λ c. search needs)
     loop-again
     (λ c. search needs)
-    returns)
+    (λ c. put-all (c .before .loop .inv) (omega arith)))

@@ -1,7 +1,10 @@
+use Prim.Native.Nat.{_≤_}
 use native.Mathlib.Omega.{arith}
-use mathlib.Core.Path.{_∙_}
+use lib.ListN.{length}
 use borrow.Author.Needs.{needs}
-use Rattle.sheet_answer.proofs.Writing.{Spelt, spell-none, spell-room, spell-room-two, spell-two, spell-last, spell-last-two}
+use Rattle.sheet_line.specs.Text.{digits}
+use Rattle.sheet_line.proofs.Digits.{digits-one}
+use Rattle.sheet_answer.proofs.Writing.{digits-some, two-digits, digits-pair, digits-two, Spelt, spell-none, spell-room, spell-more, spell-last}
 use Rattle.sheet_answer.proofs.print.put_pairs.Statement.{statement}
 use Rattle.sheet_answer.proofs.print.put_pairs.Tie as tie
 
@@ -11,56 +14,46 @@ Inv-loop text₀ end n pairs i₀ rest₀ text i rest = Spelt text₀ text i end
 abbrev μ-loop : tie.MeasureT-loop
 μ-loop text₀ end n pairs i₀ rest₀ text i rest = rest
 
-loop-holds : tie.Need-loop-holds Inv-loop μ-loop
-loop-holds c = spell-none (c .before .args .text .now) (c .before .args .end) (c .before .args .n)
+room : (c : tie.At-loop Inv-loop μ-loop) → (length (digits (c .loop .rest)) ≤ c .loop .i) × (c .loop .i ≤ length (c .loop .text))
+room c =
+    let w = c .loop .inv .written in
+    (spell-room (c .loop .inv) (c .before .before .pre .0), omega arith)
 
 put-pair-requires : tie.Need-put-pair-requires Inv-loop μ-loop
 put-pair-requires c κs =
-    let st = c .before .before .before .before in
-    let lp = c .before .before .loop in
-    (spell-room-two (st .args .text .now) (lp .text) (lp .i) (st .args .end) (st .args .n) (lp .rest) (lp .inv) (st .pre .0) (omega arith), (omega (arith, lp .inv .kept, lp .inv .written .place), (omega arith, st .pre .1 .1)))
-
-loop-less : tie.Need-loop-less Inv-loop μ-loop
-loop-less c = omega arith
+    let lp = c .before .before in
+    let h = room lp in
+    (omega (arith, two-digits (lp .loop .rest) (omega arith)), (h .1, (omega arith, lp .before .before .pre .1 .1)))
 
 loop-again : tie.Need-loop-again Inv-loop μ-loop
 loop-again c =
-    let st = c .before .before .before .before .before .before .before in
-    let lp = c .before .before .before .before .before .loop in
-    let put = c .before .before .put-pair in
-    spell-two (st .args .text .now) (lp .text) (lp .i) (st .args .end) (st .args .n) (lp .rest) (lp .inv) (put .last .0) (put .result) (st .pre .1 .0) (c .before .before .before .before .loop-test .taken) (put .ensures) (put .kept .0)
+    let put = c .before .before in
+    let test = put .before .before in
+    spell-more (test .before .loop .inv) (put .put-pair .ensures) _ (digits-two _ (test .loop-test .taken))
 
 put-pair-requires-2 : tie.Need-put-pair-requires-2 Inv-loop μ-loop
 put-pair-requires-2 c κs =
-    let st = c .before .before .before .before .before in
-    let lp = c .before .before .before .loop in
-    (spell-room-two (st .args .text .now) (lp .text) (lp .i) (st .args .end) (st .args .n) (lp .rest) (lp .inv) (st .pre .0) (c .before .if1 .taken), (omega (arith, lp .inv .kept, lp .inv .written .place), (omega arith, st .pre .1 .1)))
-
-same-length : tie.Need-same-length Inv-loop μ-loop
-same-length c = c .before .before .put-pair2 .kept .0 ∙ c .before .before .before .before .before .before .loop .inv .kept
+    let lp = c .before .before .before in
+    let h = room lp in
+    (omega (arith, two-digits (lp .loop .rest) (omega arith)), (h .1, (omega arith, lp .before .before .pre .1 .1)))
 
 returns : tie.Need-returns Inv-loop μ-loop
 returns c =
-    let st = c .before .before .before .before .before .before .before .before in
-    let lp = c .before .before .before .before .before .before .loop in
-    let put = c .before .before .put-pair2 in
-    spell-last-two (st .args .text .now) (lp .text) (lp .i) (st .args .end) (st .args .n) (lp .rest) (lp .inv) (put .last .0) (put .result) (st .pre .1 .0) (c .before .before .before .before .if1 .taken) (c .before .before .before .before .before .loop-test .left) (put .ensures)
+    let put = c .before .before in
+    let test = put .before .before in
+    spell-last (test .before .before .loop .inv) (put .put-pair2 .ensures) (digits-pair _ (test .if1 .taken) (test .before .loop-test .left))
 
 put-byte-requires : tie.Need-put-byte-requires Inv-loop μ-loop
 put-byte-requires c κs =
-    let st = c .before .before .before .before .before in
-    let lp = c .before .before .before .loop in
-    (spell-room (st .args .text .now) (lp .text) (lp .i) (st .args .end) (st .args .n) (lp .rest) (lp .inv) (st .pre .0), omega (arith, lp .inv .kept, lp .inv .written .place))
-
-same-length-2 : tie.Need-same-length-2 Inv-loop μ-loop
-same-length-2 c = c .before .before .put-byte .kept .0 ∙ c .before .before .before .before .before .before .loop .inv .kept
+    let lp = c .before .before .before in
+    let h = room lp in
+    omega (arith, digits-some (lp .loop .rest))
 
 returns-2 : tie.Need-returns-2 Inv-loop μ-loop
 returns-2 c =
-    let st = c .before .before .before .before .before .before .before .before in
-    let lp = c .before .before .before .before .before .before .loop in
-    let put = c .before .before .put-byte in
-    spell-last (st .args .text .now) (lp .text) (lp .i) (st .args .end) (st .args .n) (lp .rest) (lp .inv) (put .last .0) (put .result) (st .pre .1 .0) (c .before .before .before .before .if1 .left) (put .ensures)
+    let put = c .before .before in
+    let test = put .before .before in
+    spell-last (test .before .before .loop .inv) (put .put-byte .ensures) (digits-one _ (test .if1 .left))
 
 pub put-pairs-spec : {M : Type 1} → statement M
 put-pairs-spec =
@@ -68,15 +61,15 @@ put-pairs-spec =
     (tie.spec
     Inv-loop
     μ-loop
-    loop-holds
+    (λ c. spell-none _ (c .before .pre .1 .0))
     put-pair-requires
-    loop-less
+    (λ c. omega arith)
     loop-again
     put-pair-requires-2
-    same-length
+    (λ c. search needs)
     returns
     (λ c. search needs)
     (λ c. search needs)
     put-byte-requires
-    same-length-2
+    (λ c. search needs)
     returns-2)
