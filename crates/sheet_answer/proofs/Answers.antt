@@ -11,6 +11,7 @@ use Rattle.shape.specs.Shape.{maxCount, count, counted, countOf}
 use Rattle.shape.proofs.Counts.{good-count, bad-count, count-of}
 use Rattle.meaning.specs.Array.{Operand, goodForm}
 use Rattle.sheet_line.specs.Text.{newline, blank, digits, decimal, following, spaced}
+use Rattle.sheet_line.specs.Call.{maxLine}
 use Rattle.sheet_answer.specs.Answer.{answerLine, okLine, noLine, badLine, resultIn, replyLine, fitted, printedTo}
 use Rattle.sheet_answer.specs.Steps.{Written}
 
@@ -22,9 +23,11 @@ pub no-room : (bytes before : List ℕ) → length before < length bytes → Pri
 unfolding fitted
 no-room bytes before h = rw (lt-leb (length bytes) (length before) h) (refl, refl)
 
-pub nothing-to-print : (bytes before : List ℕ) → bytes ≡ [] → Print bytes before before 0
+-- Whatever the line may have been asked to fit.
+pub nothing-to-print : {asked : Type 0} (bytes before : List ℕ) → bytes ≡ []
+    → (0 ≡ length (fitted bytes before)) × ((before ≡ printedTo bytes before) × (asked → length bytes ≤ maxLine))
 unfolding fitted
-nothing-to-print bytes before e = rw (e, le-leb 0 (length before) (omega arith)) (refl, refl)
+nothing-to-print bytes before e = rw (e, le-leb 0 (length before) (omega arith)) (refl, (refl, λ h. omega arith))
 
 pub all-printed : {bytes pieces before after : List ℕ} {start need : ℕ} → bytes ≡ pieces → need ≡ length bytes
     → Written before after start need pieces → Print bytes before after need
@@ -49,7 +52,8 @@ module _ (line : ℕ) where
   no-text n = simp (append-assoc, append-nil)
 
   pub ok-text : (ns : List ℕ) (zs : List ℤ) → okLine line (record { lengths = ns; elements = zs })
-      ≡ (digits line ++ blank ∷ 111 ∷ 107 ∷ []) ++ ((blank ∷ digits (length ns)) ++ (following (map digits ns) ++ (following (map decimal zs) ++ newline ∷ [])))
+      ≡ (digits line ++ blank ∷ 111 ∷ 107 ∷ [])
+      ++ ((blank ∷ digits (length ns)) ++ (following (map digits ns) ++ (following (map decimal zs) ++ newline ∷ [])))
   unfolding okLine answerLine spaced following
   ok-text ns zs = simp (following-append, append-assoc)
 

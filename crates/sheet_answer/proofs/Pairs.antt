@@ -17,7 +17,8 @@ pairsFrom i [] = true
 pairsFrom i (a ∷ []) = true
 pairsFrom i (a ∷ b ∷ xs) = eqb a (digit (i / 10)) && (eqb b (digit (i % 10)) && pairsFrom (suc i) xs)
 
-pair-at : (xs : List ℕ) (i k n : ℕ) → pairsFrom i xs ≡ true → k * 2 + 1 < length xs → i + k ≡ n → (getD xs (k * 2) 0 ≡ digit (n / 10)) × (getD xs (k * 2 + 1) 0 ≡ digit (n % 10))
+pair-at : (xs : List ℕ) (i k n : ℕ) → pairsFrom i xs ≡ true → k * 2 + 1 < length xs → i + k ≡ n
+    → (getD xs (k * 2) 0 ≡ digit (n / 10)) × (getD xs (k * 2 + 1) 0 ≡ digit (n % 10))
 pair-at [] i k n t h e = absurd (omega arith)
 pair-at (a ∷ []) i k n t h e = absurd (omega arith)
 pair-at (a ∷ b ∷ xs) i zero n t h e =

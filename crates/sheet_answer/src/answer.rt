@@ -35,7 +35,8 @@ pub fn print_no(line: usize, refusal: usize, text: &mut [u8]) -> usize
 fn print_array(line: usize, lens: &[usize], out: &[i32], text: &mut [u8]) -> usize
     requires { ⌜ (length (now lens) ≤ maxRank) × (length (now out) ≤ maxCount) ⌝ }
     ensures count { λ n. ⌜ n ≡ length (fitted (okLine line (record { lengths = now (lens .entry); elements = now (out .entry) })) (now (text .entry))) ⌝ }
-    ensures text { λ n. ⌜ now (text .exit) ≡ printedTo (okLine line (record { lengths = now (lens .entry); elements = now (out .entry) })) (now (text .entry)) ⌝ }
+    ensures text { λ n.
+        ⌜ now (text .exit) ≡ printedTo (okLine line (record { lengths = now (lens .entry); elements = now (out .entry) })) (now (text .entry)) ⌝ }
     ensures room { λ n.
         ⌜ (length (now (out .entry)) ≤ maxHeld → length (okLine line (record { lengths = now (lens .entry); elements = now (out .entry) })) ≤ maxLine) ⌝ }
 {

@@ -6,8 +6,9 @@ use Rattle.sheet_answer.proofs.print.short_width.Tie as tie
 
 returns : tie.Need-returns
 returns c =
-    let w = width-reached 9 (c .before .before .before .before .before .before .before .before .before .args .n) (c .before .before .before .before .before .before .before .before .before .pre) in
-    omega (arith, w, c .before .before .before .before .before .before .before .before .reaches .ensures, c .before .before .before .before .before .before .before .reaches2 .ensures, c .before .before .before .before .before .before .reaches3 .ensures, c .before .before .before .before .before .reaches4 .ensures, c .before .before .before .before .reaches5 .ensures, c .before .before .before .reaches6 .ensures, c .before .before .reaches7 .ensures, c .before .reaches8 .ensures, c .reaches9 .ensures)
+    let fifth = c .before .before .before .before in
+    let st = fifth .before .before .before .before .before in
+    omega (arith, width-reached 9 (st .args .n) (st .pre))
 
 pub short-width-spec : {M : Type 1} → statement M
 short-width-spec =
