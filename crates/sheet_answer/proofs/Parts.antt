@@ -4,13 +4,12 @@ use native.Mathlib.Omega.{arith}
 use native.Mathlib.Nat.{mul-suc}
 use mathlib.Core.Path.{_≡_, refl, sym, ap, _∙_}
 use mathlib.Core.List.{List, [], _∷_, _++_, map}
-use mathlib.Core.Bool.{Bool, true, false}
+use mathlib.Core.Bool.{Bool, cond}
 use lib.ListN.{length, getD, drop, length-append}
 use lib.Seq.{drop-cons, drop-length}
 use lib.IntN.{ℤ, pos, negsuc, natAbs}
 use mir.Syntax.{w32}
 use mir.Val.{SFits, toZ, ofZ}
-use Rattle.shape.proofs.Bools.{no-way}
 use Rattle.meaning.specs.Terms.{negative}
 use Rattle.signed.proofs.Reading.{read32}
 use Rattle.sheet_line.specs.Text.{blank, minus, digits, decimal, following}
@@ -37,25 +36,13 @@ module _ (z : ℤ) (f : SFits w32 z) {m : ℕ} (magnitude : m ≡ natAbs (toZ w3
       by (pos n) = omega arith
       by (negsuc m) = omega arith
 
-  module _ {b : Bool} (sign : b ≡ negative (toZ w32 (ofZ w32 z))) where
-    sign-is : b ≡ negative z
-    sign-is = rw (read32 z f) at sign
-
-    pub from-zero-up : b ≡ false → decimal z ≡ digits m
-    unfolding negative decimal
-    from-zero-up e = rw magnitude-is (by z (sym sign-is ∙ e))
-      where
-        by : (z : ℤ) → negative z ≡ false → decimal z ≡ digits (natAbs z)
-        by (pos n) h = refl
-        by (negsuc m) h = no-way (sym h)
-
-    pub below-zero : b ≡ true → decimal z ≡ minus ∷ digits m
-    unfolding negative decimal
-    below-zero e = rw magnitude-is (by z (sym sign-is ∙ e))
-      where
-        by : (z : ℤ) → negative z ≡ true → decimal z ≡ minus ∷ digits (natAbs z)
-        by (pos n) h = no-way h
-        by (negsuc m) h = refl
+  pub decimal-is : {b known : Bool} → b ≡ negative (toZ w32 (ofZ w32 z)) → b ≡ known → decimal z ≡ cond known (minus ∷ digits m) (digits m)
+  unfolding negative decimal
+  decimal-is sign e = rw (← e, rw (read32 z f) at sign, magnitude-is) (by z)
+    where
+      by : (z : ℤ) → decimal z ≡ cond (negative z) (minus ∷ digits (natAbs z)) (digits (natAbs z))
+      by (pos n) = refl
+      by (negsuc m) = refl
 
 drop-shorter : {A : Type 0} (f : A → List ℕ) (ys : List A) (k : ℕ) → length (following (map f (drop k ys))) ≤ length (following (map f ys))
 unfolding following

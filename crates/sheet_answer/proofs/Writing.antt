@@ -36,48 +36,45 @@ write-more {t₀} {t₁} {t₂} {j} {i} {e} {vs} {ws} p q =
     }
 
 -- The number of digits.
-pub digits-some : (n : ℕ) → 0 < length (digits n)
-digits-some n = by-case (decLt n 10)
-  where
-    by-case : Dec (n < 10) → 0 < length (digits n)
-    by-case (yes h) = rw (digits-one n h) (omega arith)
-    by-case (no h) = rw (digits-more n (omega arith), length-append (digits (n / 10)) (digit (n % 10) ∷ [])) (omega arith)
-
-pub width-more : (n : ℕ) → 10 ≤ n → length (digits n) ≡ length (digits (n / 10)) + 1
+width-more : (n : ℕ) → 10 ≤ n → length (digits n) ≡ length (digits (n / 10)) + 1
 width-more n h = rw (digits-more n h) (length-append (digits (n / 10)) (digit (n % 10) ∷ []))
 
-pub width-one : (n : ℕ) → n < 10 → length (digits n) ≡ 1
+width-one : (n : ℕ) → n < 10 → length (digits n) ≡ 1
 width-one n h = rw (digits-one n h)
 
-width-case : (k n : ℕ) → n < 10 ^ suc (suc k) → (n / 10 < 10 ^ suc k → length (digits (n / 10)) ≤ suc k) → Dec (n < 10) → length (digits n) ≤ suc (suc k)
-width-case k n h shorter (yes q) = omega (arith, width-one n q)
-width-case k n h shorter (no q) = omega (arith, width-more n (omega arith), shorter (omega (arith, pow-succ' 10 (suc k))))
+digits-some : (n : ℕ) → 0 < length (digits n)
+digits-some n = elim (decLt n 10) [ yes h ↦ omega (arith, width-one n h) | no h ↦ omega (arith, width-more n (omega arith)) ]
 
 pub width-most : (k n : ℕ) → n < 10 ^ suc k → length (digits n) ≤ suc k
 width-most zero n h = omega (arith, width-one n h)
-width-most (suc k) n h = width-case k n h (width-most k (n / 10)) (decLt n 10)
+width-most (suc k) n h =
+    let tenth : n / 10 < 10 ^ suc k = omega (arith, pow-succ' 10 (suc k)) in
+    elim (decLt n 10) [ yes q ↦ omega (arith, width-one n q) | no q ↦ omega (arith, width-more n (omega arith), width-most k (n / 10) tenth) ]
 
 -- How many of k powers of ten n reaches; the first of them is p.
-abbrev pub reached : ℕ → ℕ → ℕ → ℕ
+abbrev reached : ℕ → ℕ → ℕ → ℕ
 reached zero p n = 0
 reached (suc k) p n = cond (leb p n) 1 0 + reached k (p * 10) n
 
-reach-case : (p n : ℕ) → Dec (p * 10 ≤ n) → leb (p * 10) n ≡ leb p (n / 10)
-reach-case p n (yes h) = rw (le-leb (p * 10) n h, le-leb p (n / 10) (omega arith))
-reach-case p n (no h) = rw (lt-leb (p * 10) n (omega arith), lt-leb p (n / 10) (omega arith))
-
 reach-tenth : (k p n : ℕ) → reached k (p * 10) n ≡ reached k p (n / 10)
 reach-tenth zero p n = refl
-reach-tenth (suc k) p n = rw (reach-case p n (decLe (p * 10) n), reach-tenth k (p * 10) n)
-
-reached-case : (k n : ℕ) → length (digits (n / 10)) ≡ 1 + reached k 10 (n / 10) → Dec (n < 10) → length (digits n) ≡ 1 + reached (suc k) 10 n
-reached-case k n shorter (yes q) = rw (lt-leb 10 n q, reach-tenth k 10 n) (omega (arith, width-one n q, width-one (n / 10) (omega arith)))
-reached-case k n shorter (no q) = rw (le-leb 10 n (omega arith), reach-tenth k 10 n) (omega (arith, width-more n (omega arith)))
+reach-tenth (suc k) p n = rw (same, reach-tenth k (p * 10) n)
+  where
+    same : leb (p * 10) n ≡ leb p (n / 10)
+    same = elim (decLe (p * 10) n) [
+      | yes h ↦ rw (le-leb (p * 10) n h, le-leb p (n / 10) (omega arith))
+      | no h ↦ rw (lt-leb (p * 10) n (omega arith), lt-leb p (n / 10) (omega arith))
+    ]
 
 -- A number has one digit more than there are powers of ten that it reaches.
 pub width-reached : (k n : ℕ) → n < 10 ^ suc k → length (digits n) ≡ 1 + reached k 10 n
 width-reached zero n h = omega (arith, width-one n h)
-width-reached (suc k) n h = reached-case k n (width-reached k (n / 10) (omega (arith, pow-succ' 10 (suc k)))) (decLt n 10)
+width-reached (suc k) n h =
+    let shorter = width-reached k (n / 10) (omega (arith, pow-succ' 10 (suc k))) in
+    elim (decLt n 10) [
+      | yes q ↦ rw (lt-leb 10 n q, reach-tenth k 10 n) (omega (arith, width-one n q, width-one (n / 10) (omega arith)))
+      | no q ↦ rw (le-leb 10 n (omega arith), reach-tenth k 10 n) (omega (arith, width-more n (omega arith)))
+    ]
 
 -- The digits before the last k.
 pub width-above : (k n : ℕ) → 10 ^ k ≤ n → length (digits n) ≡ k + length (digits (n / 10 ^ k))
@@ -102,9 +99,6 @@ digits-two n h =
     ∙ rw (digits-more (n / 10) (omega arith), above, tens, ones)
     (append-snoc (digits (n / 100)) (digit (n / 10 % 10)) (digit (n % 10) ∷ []))
 
-pub two-digits : (n : ℕ) → 10 ≤ n → 1 < length (digits n)
-two-digits n h = omega (arith, width-more n h, digits-some (n / 10))
-
 -- The digits of n, of which those of `rest` are still to be written.
 pub record Spelt (before text : List ℕ) (i end n rest : ℕ) : Type 0 where
   pub tail : List ℕ
@@ -115,8 +109,14 @@ pub spell-none : {t : List ℕ} {end : ℕ} (n : ℕ) → end ≤ length t → S
 spell-none n h = record { tail = []; spelt = append-nil (digits n); written = write-none h }
 
 module _ {before text : List ℕ} {i end n rest : ℕ} (s : Spelt before text i end n rest) where
-  pub spell-room : length (digits n) ≤ end → length (digits rest) ≤ i
-  spell-room h = omega (arith, s .written .place, ap length (s .spelt), length-append (digits rest) (s .tail))
+  left : length (digits n) ≤ end → (length (digits rest) ≤ i) × (i ≤ length text)
+  left h = let w = s .written in omega (arith, ap length (s .spelt), length-append (digits rest) (s .tail))
+
+  pub spell-room : length (digits n) ≤ end → (0 < i) × (i ≤ length text)
+  spell-room h = omega (arith, left h, digits-some rest)
+
+  pub spell-room-two : length (digits n) ≤ end → 10 ≤ rest → 1 < i
+  spell-room-two h k = omega (arith, left h, width-more rest k, digits-some (rest / 10))
 
   module _ {after : List ℕ} {j : ℕ} {ds : List ℕ} (w : Written text after j i ds) where
     pub spell-more : (next : ℕ) → digits rest ≡ digits next ++ ds → Spelt before after j end n next

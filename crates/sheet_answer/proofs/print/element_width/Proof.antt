@@ -1,26 +1,29 @@
+use Prim.Native.Nat.{_≤_}
 use native.Mathlib.Omega.{arith}
-use Rattle.sheet_answer.proofs.Parts.{magnitude-short, from-zero-up, below-zero}
+use Rattle.sheet_answer.proofs.Parts.{magnitude-short, decimal-is}
 use borrow.Author.Needs.{needs}
 use Rattle.sheet_answer.proofs.print.element_width.Statement.{statement}
 use Rattle.sheet_answer.proofs.print.element_width.Tie as tie
 
+abbrev sized : tie.After-negative → tie.After-magnitude
+sized c = c .before .before
+
+short : (c : tie.After-negative) → c .before .width .result ≤ 10
+short c = omega (arith, magnitude-short _ (sized c .before .fits .z) (sized c .magnitude .ensures), c .before .width .ensures)
+
 returns : tie.Need-returns
 returns c =
-    let size = c .before .before .before in
-    let z = size .before .args .z in
-    let f = size .before .fits .z in
+    let size = sized (c .before) in
     let w = c .before .before .width .ensures in
-    let short = magnitude-short z f (size .magnitude .ensures) in
-    rw (below-zero z f (size .magnitude .ensures) (c .before .negative .ensures) (c .if1 .taken)) (omega arith)
+    rw (decimal-is _ (size .before .fits .z) (size .magnitude .ensures) (c .before .negative .ensures) (c .if1 .taken))
+    (omega (arith, short (c .before)))
 
 returns-2 : tie.Need-returns-2
 returns-2 c =
-    let size = c .before .before .before in
-    let z = size .before .args .z in
-    let f = size .before .fits .z in
+    let size = sized (c .before) in
     let w = c .before .before .width .ensures in
-    let short = magnitude-short z f (size .magnitude .ensures) in
-    rw (from-zero-up z f (size .magnitude .ensures) (c .before .negative .ensures) (c .if1 .left)) (omega arith)
+    rw (decimal-is _ (size .before .fits .z) (size .magnitude .ensures) (c .before .negative .ensures) (c .if1 .left))
+    (omega (arith, short (c .before)))
 
 pub element-width-spec : {M : Type 1} → statement M
 element-width-spec =

@@ -3,7 +3,7 @@ use native.Mathlib.Omega.{arith}
 use lib.ListN.{length}
 use borrow.Author.Needs.{needs}
 use Rattle.sheet_line.proofs.Digits.{digits-one, digits-more}
-use Rattle.sheet_answer.proofs.Writing.{digits-some, Spelt, spell-none, spell-room, spell-more, spell-last}
+use Rattle.sheet_answer.proofs.Writing.{Spelt, spell-none, spell-room, spell-more, spell-last}
 use Rattle.sheet_answer.proofs.print.put_digits.Statement.{statement}
 use Rattle.sheet_answer.proofs.print.put_digits.Tie as tie
 
@@ -14,9 +14,7 @@ abbrev μ-loop : tie.MeasureT-loop
 μ-loop text₀ end n i₀ rest₀ text i rest = rest
 
 room : (c : tie.At-loop Inv-loop μ-loop) → (0 < c .loop .i) × (c .loop .i ≤ length (c .loop .text))
-room c =
-    let w = c .loop .inv .written in
-    omega (arith, spell-room (c .loop .inv) (c .before .before .pre .0), digits-some (c .loop .rest))
+room c = spell-room (c .loop .inv) (c .before .before .pre .0)
 
 loop-again : tie.Need-loop-again Inv-loop μ-loop
 loop-again c =

@@ -4,7 +4,7 @@ use mathlib.Core.List.{_∷_}
 use lib.ListN.{length}
 use Rattle.sheet_line.specs.Text.{minus, digits, decimal}
 use Rattle.sheet_answer.proofs.Writing.{write-more}
-use Rattle.sheet_answer.proofs.Parts.{magnitude-within, from-zero-up, below-zero}
+use Rattle.sheet_answer.proofs.Parts.{magnitude-within, decimal-is}
 use borrow.Author.Needs.{needs}
 use Rattle.sheet_answer.proofs.print.put_element.Statement.{statement}
 use Rattle.sheet_answer.proofs.print.put_element.Tie as tie
@@ -21,14 +21,10 @@ begun c = sized c .before .before
 
 -- The element's text, of each sign.
 below : (c : tie.Then1) → decimal (begun (c .before) .args .z) ≡ minus ∷ digits (sized (c .before) .magnitude .result)
-below c =
-    let st = begun (c .before) in
-    below-zero (st .args .z) (st .fits .z) (sized (c .before) .magnitude .ensures) (c .before .negative .ensures) (c .if1 .taken)
+below c = decimal-is _ (begun (c .before) .fits .z) (sized (c .before) .magnitude .ensures) (c .before .negative .ensures) (c .if1 .taken)
 
 above : (c : tie.Else1) → decimal (begun (c .before) .args .z) ≡ digits (sized (c .before) .magnitude .result)
-above c =
-    let st = begun (c .before) in
-    from-zero-up (st .args .z) (st .fits .z) (sized (c .before) .magnitude .ensures) (c .before .negative .ensures) (c .if1 .left)
+above c = decimal-is _ (begun (c .before) .fits .z) (sized (c .before) .magnitude .ensures) (c .before .negative .ensures) (c .if1 .left)
 
 put-pairs-requires : tie.Need-put-pairs-requires
 put-pairs-requires c κs =

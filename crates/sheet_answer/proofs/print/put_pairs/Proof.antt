@@ -1,10 +1,9 @@
-use Prim.Native.Nat.{_≤_}
+use Prim.Native.Nat.{_≤_, _<_}
 use native.Mathlib.Omega.{arith}
 use lib.ListN.{length}
 use borrow.Author.Needs.{needs}
-use Rattle.sheet_line.specs.Text.{digits}
 use Rattle.sheet_line.proofs.Digits.{digits-one}
-use Rattle.sheet_answer.proofs.Writing.{digits-some, two-digits, digits-pair, digits-two, Spelt, spell-none, spell-room, spell-more, spell-last}
+use Rattle.sheet_answer.proofs.Writing.{digits-pair, digits-two, Spelt, spell-none, spell-room, spell-room-two, spell-more, spell-last}
 use Rattle.sheet_answer.proofs.print.put_pairs.Statement.{statement}
 use Rattle.sheet_answer.proofs.print.put_pairs.Tie as tie
 
@@ -14,16 +13,14 @@ Inv-loop text₀ end n pairs i₀ rest₀ text i rest = Spelt text₀ text i end
 abbrev μ-loop : tie.MeasureT-loop
 μ-loop text₀ end n pairs i₀ rest₀ text i rest = rest
 
-room : (c : tie.At-loop Inv-loop μ-loop) → (length (digits (c .loop .rest)) ≤ c .loop .i) × (c .loop .i ≤ length (c .loop .text))
-room c =
-    let w = c .loop .inv .written in
-    (spell-room (c .loop .inv) (c .before .before .pre .0), omega arith)
+room : (c : tie.At-loop Inv-loop μ-loop) → (0 < c .loop .i) × (c .loop .i ≤ length (c .loop .text))
+room c = spell-room (c .loop .inv) (c .before .before .pre .0)
+
+two : (c : tie.At-loop Inv-loop μ-loop) → 10 ≤ c .loop .rest → 1 < c .loop .i
+two c = spell-room-two (c .loop .inv) (c .before .before .pre .0)
 
 put-pair-requires : tie.Need-put-pair-requires Inv-loop μ-loop
-put-pair-requires c κs =
-    let lp = c .before .before in
-    let h = room lp in
-    (omega (arith, two-digits (lp .loop .rest) (omega arith)), (h .1, (omega arith, lp .before .before .pre .1 .1)))
+put-pair-requires c κs = let lp = c .before .before in (two lp (omega arith), (room lp .1, (omega arith, lp .before .before .pre .1 .1)))
 
 loop-again : tie.Need-loop-again Inv-loop μ-loop
 loop-again c =
@@ -32,22 +29,13 @@ loop-again c =
     spell-more (test .before .loop .inv) (put .put-pair .ensures) _ (digits-two _ (test .loop-test .taken))
 
 put-pair-requires-2 : tie.Need-put-pair-requires-2 Inv-loop μ-loop
-put-pair-requires-2 c κs =
-    let lp = c .before .before .before in
-    let h = room lp in
-    (omega (arith, two-digits (lp .loop .rest) (omega arith)), (h .1, (omega arith, lp .before .before .pre .1 .1)))
+put-pair-requires-2 c κs = let lp = c .before .before .before in (two lp (omega arith), (room lp .1, (omega arith, lp .before .before .pre .1 .1)))
 
 returns : tie.Need-returns Inv-loop μ-loop
 returns c =
     let put = c .before .before in
     let test = put .before .before in
     spell-last (test .before .before .loop .inv) (put .put-pair2 .ensures) (digits-pair _ (test .if1 .taken) (test .before .loop-test .left))
-
-put-byte-requires : tie.Need-put-byte-requires Inv-loop μ-loop
-put-byte-requires c κs =
-    let lp = c .before .before .before in
-    let h = room lp in
-    omega (arith, digits-some (lp .loop .rest))
 
 returns-2 : tie.Need-returns-2 Inv-loop μ-loop
 returns-2 c =
@@ -70,6 +58,6 @@ put-pairs-spec =
     returns
     (λ c. search needs)
     (λ c. search needs)
-    put-byte-requires
+    (λ c κs. room (c .before .before .before))
     (λ c. search needs)
     returns-2)
