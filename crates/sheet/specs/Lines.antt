@@ -8,19 +8,19 @@ use Rattle.sheet_answer.specs.Sheet.{sheetAnswer}
 
 -- The number of the next line; no sheet has so many lines that it starts again.
 abbrev pub next : ℕ → ℕ
-next number = number % 1000000000000000000 + 1
+next line = line % 1000000000000000000 + 1
 
 -- What is printed for the lines that end among some bytes, and the line that has begun after them: its number and its bytes so far.
 pub record Lines : Type 0 where
   pub printed : List ℕ
-  pub number : ℕ
+  pub line : ℕ
   pub begun : List ℕ
 
 abbrev pub after : List ℕ → Lines → Lines
-after printed s = record { printed = printed ++ s .printed; number = s .number; begun = s .begun }
+after printed s = record { printed = printed ++ s .printed; line = s .line; begun = s .begun }
 
 -- A newline ends a line, and a line without one has begun.
 unfoldable pub linesFrom : ℕ → List ℕ → List ℕ → Lines
-linesFrom number begun [] = record { printed = []; number = number; begun = begun }
-linesFrom number begun (b ∷ bs) =
-    cond (eqb b newline) (after (sheetAnswer number begun) (linesFrom (next number) [] bs)) (linesFrom number (begun ++ b ∷ []) bs)
+linesFrom line begun [] = record { printed = []; line = line; begun = begun }
+linesFrom line begun (b ∷ bs) =
+    cond (eqb b newline) (after (sheetAnswer line begun) (linesFrom (next line) [] bs)) (linesFrom line (begun ++ b ∷ []) bs)

@@ -12,7 +12,7 @@ returns : tie.Need-returns
 returns c =
     let st = c .before .before .before in
     let a = st .args in
-    (omega arith, ((refl, refl), λ bytes o. hold-over (a .held) _ (a .line .now) (a .run .now) bytes (st .pre) o refl (c .if1 .taken)))
+    (omega arith, ((refl, (refl, refl)), λ bytes o. hold-over (a .held) _ (a .begun .now) (a .run .now) bytes (st .pre) o refl (c .if1 .taken)))
 
 same-length : tie.Need-same-length
 same-length c = search needs
@@ -21,11 +21,12 @@ returns-2 : tie.Need-returns-2
 returns-2 c =
     let st = c .before .before .before .before .before .before .before in
     let a = st .args in
-    let line = a .line .now in
+    let begun = a .begun .now in
     let at = a .held .len in
+    let rest = length begun - at in
     let copied = c .before .before .copy-bytes in
-    let held = put-front line (a .run .now) (midOf at (length line - at) line) (copied .last .1 .0) at (length line - at) _ (st .pre) (copied .ensures) refl in
-    (omega arith, ((refl, refl), λ bytes o. hold-more (a .held) _ line (a .run .now) bytes (st .pre) o _ (same-length c) refl held))
+    let held = put-front begun (a .run .now) (midOf at rest begun) (copied .last .1 .0) at rest _ (st .pre) (copied .ensures) refl in
+    (omega arith, ((refl, (refl, refl)), λ bytes o. hold-more (a .held) _ begun (a .run .now) bytes (st .pre) o _ (same-length c) refl held))
 
 pub hold-run-spec : {M : Type 1} → statement M
 hold-run-spec =

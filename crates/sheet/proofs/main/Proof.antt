@@ -7,10 +7,15 @@ use Rattle.sheet.proofs.main.Statement.{statement}
 use Rattle.sheet.proofs.main.Tie as tie
 
 abbrev Inv-loop : tie.InvT-loop
-Inv-loop chunk₀ line₀ l₀ r₀ out₀ text₀ held₀ turns₀ chunk line l r out text held turns = (length chunk ≡ 65536) × ((length line ≡ maxLine) × ((length l ≡ maxHeld) × ((length r ≡ maxHeld) × ((length out ≡ maxHeld) × ((length text ≡ 65536) × ((held .len ≤ maxLine) × (held .waiting ≤ 65536)))))))
+Inv-loop chunk₀ begun₀ l₀ r₀ out₀ text₀ held₀ turns₀ message chunk begun l r out text held turns =
+    (length chunk ≡ 65536)
+    × ((length begun ≡ maxLine)
+    × ((length l ≡ maxHeld)
+    × ((length r ≡ maxHeld)
+    × ((length out ≡ maxHeld) × ((length text ≡ 65536) × ((held .len ≤ maxLine) × (held .waiting ≤ 65536)))))))
 
 abbrev μ-loop : tie.MeasureT-loop
-μ-loop chunk₀ line₀ l₀ r₀ out₀ text₀ held₀ turns₀ chunk line l r out text held turns = turns
+μ-loop chunk₀ begun₀ l₀ r₀ out₀ text₀ held₀ turns₀ message chunk begun l r out text held turns = turns
 
 pub main-spec : {M : Type 1} → statement M
 main-spec =
@@ -23,6 +28,13 @@ main-spec =
     (λ c. search needs)
     (λ c κs. search needs)
     (λ c. search needs)
+    (λ c. search needs)
+    (λ c. search needs)
+    (λ c κs. search needs)
+    (λ c. search needs)
+    (λ c κs. search needs)
+    (λ c. search needs)
+    (λ c. search needs)
     (λ c κs. search needs)
     (λ c. search needs)
     (λ c. search needs)
@@ -34,8 +46,6 @@ main-spec =
     (λ c. search needs)
     (λ c κs. search needs)
     (λ c. search needs)
-    (λ c. search needs)
-    (λ c. search needs)
     (λ c κs. search needs)
     (λ c. search needs)
     (λ c. search needs)
@@ -49,8 +59,6 @@ main-spec =
     (λ c. search needs)
     (λ c. search needs)
     (λ c κs. search needs)
-    (λ c. search needs)
-    (λ c. search needs)
     (λ c. search needs)
     (λ c κs. search needs)
     (λ c. search needs)
