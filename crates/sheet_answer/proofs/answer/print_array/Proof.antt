@@ -42,12 +42,6 @@ returns c =
     let p = no-room (bytes w) (begun w .args .text .now) (omega (arith, need-is w)) in
     (p .0, (p .1, fits w))
 
-put-elements-requires : tie.Need-put-elements-requires
-put-elements-requires c κs =
-    let end = c .before .before .before .before .before in
-    let w = end .before .before .before in
-    (omega (arith, end .put-byte .ensures, w .elements-width .ensures .0), (omega (arith, end .put-byte .ensures), c .before .before .digit-pairs .ensures))
-
 returns-2 : tie.Need-returns-2
 returns-2 c =
     let head = c .before .before in
@@ -77,7 +71,7 @@ print-array-spec =
     returns
     (λ c κs. search needs)
     (λ c κs. search needs)
-    put-elements-requires
+    (λ c κs. (search needs, (search needs, c .before .before .digit-pairs .ensures)))
     (λ c κs. search needs)
     (λ c κs. search needs)
     (λ c κs. search needs)
