@@ -22,19 +22,10 @@ abbrev need : tie.After-elements-width → ℕ
 need c = c .before .before .before .width .result + c .before .before .width2 .result + c .before .lengths-width .result + c .elements-width .result + 5
 
 need-is : (c : tie.After-elements-width) → need c ≡ length (bytes c)
-need-is c =
-    let a = begun c .args in
-    let lengths = c .before .lengths-width .ensures in
-    let rank = c .before .before .width2 .ensures in
-    let line = c .before .before .before .width .ensures in
-    omega (arith, ok-length (a .line) (a .lens .now) (a .out .now), line .0, rank .0, lengths .0, c .elements-width .ensures .0)
+need-is c = let a = begun c .args in omega (arith, ok-length (a .line) (a .lens .now) (a .out .now))
 
 fits : (c : tie.After-elements-width) → length (begun c .args .out .now) ≤ maxHeld → length (bytes c) ≤ maxLine
-fits c few =
-    let lengths = c .before .lengths-width .ensures in
-    let rank = c .before .before .width2 .ensures in
-    let line = c .before .before .before .width .ensures in
-    omega (arith, need-is c, line .1, rank .1, lengths .1, c .elements-width .ensures .1)
+fits c few = omega (arith, need-is c)
 
 returns : tie.Need-returns
 returns c =
