@@ -4,7 +4,7 @@ use libc::STDOUT_FILENO;
 use shape::Place;
 use shape::Shape;
 
-// Calls with an output buffer of `room` elements and prints the reply; a result too long to print is only counted.
+// Calls a primitive with an output buffer of `room` elements and prints the reply as line `line`; a result too long to print is only counted.
 fn show(
     line: u64,
     primitive: i32,

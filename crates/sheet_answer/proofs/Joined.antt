@@ -24,7 +24,7 @@ use Rattle.sheet_line.specs.Call.{maxHeld, maxLine, Reader, give, fail, _then_,
 use Rattle.sheet_line.specs.Call.{readOf, leftOf, rightOf, front, room}
 use Rattle.sheet_line.proofs.Calls.{too-long}
 use Rattle.sheet_line.proofs.Options.{none-some, some-inj, passed, if-some}
-use Rattle.sheet_answer.specs.Answer.{okLine, badLine, replyLine, fitted}
+use Rattle.sheet_answer.specs.Answer.{okLine, badLine, resultIn, replyLine, fitted}
 use Rattle.sheet_answer.specs.Sheet.{operandOf, replyTo, answerTo, sheetAnswer, heldAnswer}
 use Rattle.sheet_answer.proofs.Answers.{Print}
 
@@ -122,12 +122,13 @@ module _ (n G K : ℤ) {L L′ R R′ : Operand} (l : Alike L L′) (r : Alike R
   same-reply out =
       let p = named n primitives in
       let m = meaningOf n G K L′ R′ in
-      ap₂ (λ a b. let x = p .meaning G K a b in settle (winner (precedence (p .number)) (refusals p G L R x (length out))) x out) (l .array) (r .array)
-      ∙ ap (λ rules. settle (winner (precedence (p .number)) rules) m out) (same-refusals p m (length out))
+      let wins = winner (precedence (p .number)) in
+      ap₂ (λ a b. let x = p .meaning G K a b in settle (wins (refusals p G L R x (length out))) x out) (l .array) (r .array)
+      ∙ ap (λ rules. settle (wins rules) m out) (same-refusals p m (length out))
 
 -- The line that is printed for a reply does not depend on what the output buffer held.
 abbrev lineOf : ℕ → Reply → List ℕ
-lineOf line y = replyLine line (y .number) (record { shape = y .shape; buffer = y .out })
+lineOf line y = replyLine line (y .number) (resultIn (y .shape) (y .out))
 
 alike-line : (line : ℕ) {o o′ : Operand} → Alike o o′ → replyLine line 0 o ≡ replyLine line 0 o′
 unfolding replyLine
@@ -147,8 +148,8 @@ unfolding reply
 reply-line line n G K L R out out′ e =
     let p = named n primitives in
     let m = meaningOf n G K L R in
-    settled-line line (winner (precedence (p .number)) (refusals p G L R m (length out))) m out out′
-    ∙ ap (λ k. lineOf line (settle (winner (precedence (p .number)) (refusals p G L R m k)) m out′)) e
+    let wins = winner (precedence (p .number)) in
+    settled-line line (wins (refusals p G L R m (length out))) m out out′ ∙ ap (λ k. lineOf line (settle (wins (refusals p G L R m k)) m out′)) e
 
 -- The line that is printed for what was read, with the operands' elements in l and r.
 abbrev lineFor : ℕ → List ℤ → Read → List ℤ → List ℤ → List ℕ

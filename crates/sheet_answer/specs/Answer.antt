@@ -40,7 +40,7 @@ badLine line = answerLine line (bad-word ∷ [])
 abbrev pub resultIn : Shape → List ℤ → Operand
 resultIn s out = record { shape = s; buffer = out }
 
--- The line for a reply: its number, and for a success its result, which prints nothing where it is not of good form.
+-- The line for a reply, by its number: 0 is a success, whose result prints nothing where it is not of good form; every other is a refusal's.
 unfoldable pub replyLine : ℕ → ℕ → Operand → List ℕ
 replyLine line zero o = cond (goodForm o) (okLine line (arrayOf o)) []
 replyLine line (suc n) o = noLine line (suc n)

@@ -30,8 +30,8 @@ pub fn print_bad(line_number: u64, text: &mut [u8]) -> usize
     need
 }
 
-// The answer to a call's reply: its number, which is 0 or the refusal's and not the line's, and for 0 its shape and the buffer that holds the elements.
-// With a buffer of no more elements than the program's it is no longer than the longest line.
+// The answer to a call's reply. `number` is the reply's, not the line's: 0 for a success, of that shape and with its elements in `out`, else the refusal's.
+// With a buffer of no more elements than the program's the answer is no longer than the longest line.
 pub fn print_reply(
     line_number: u64,
     number: usize,

@@ -1,4 +1,4 @@
-use Prim.Native.Nat.{ℕ, _+_}
+use Prim.Native.Nat.{_+_}
 use mathlib.Core.Path.{_≡_}
 use native.Mathlib.Omega.{arith}
 use lib.ListN.{length}
@@ -10,7 +10,7 @@ use Rattle.sheet_answer.proofs.print_bad.Statement.{statement}
 use Rattle.sheet_answer.proofs.print_bad.Tie as tie
 
 need-is : (c : tie.After-width) → c .width .result + 5 ≡ length (badLine (c .before .before .args .line-number))
-need-is c = omega (arith, bad-length (c .before .before .args .line-number), c .width .ensures .0)
+need-is c = omega (arith, bad-length (c .before .before .args .line-number))
 
 returns : tie.Need-returns
 returns c =

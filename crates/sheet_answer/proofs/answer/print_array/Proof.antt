@@ -22,31 +22,16 @@ abbrev need : tie.After-elements-width → ℕ
 need c = c .before .before .before .width .result + c .before .before .width2 .result + c .before .lengths-width .result + c .elements-width .result + 5
 
 need-is : (c : tie.After-elements-width) → need c ≡ length (bytes c)
-need-is c =
-    let a = begun c .args in
-    let lengths = c .before .lengths-width .ensures in
-    let rank = c .before .before .width2 .ensures in
-    let line = c .before .before .before .width .ensures in
-    omega (arith, ok-length (a .line) (a .lens .now) (a .out .now), line .0, rank .0, lengths .0, c .elements-width .ensures .0)
+need-is c = let a = begun c .args in omega (arith, ok-length (a .line) (a .lens .now) (a .out .now))
 
 fits : (c : tie.After-elements-width) → length (begun c .args .out .now) ≤ maxHeld → length (bytes c) ≤ maxLine
-fits c few =
-    let lengths = c .before .lengths-width .ensures in
-    let rank = c .before .before .width2 .ensures in
-    let line = c .before .before .before .width .ensures in
-    omega (arith, need-is c, line .1, rank .1, lengths .1, c .elements-width .ensures .1)
+fits c few = omega (arith, need-is c)
 
 returns : tie.Need-returns
 returns c =
     let w = c .before in
     let p = no-room (bytes w) (begun w .args .text .now) (omega (arith, need-is w)) in
     (p .0, (p .1, fits w))
-
-put-elements-requires : tie.Need-put-elements-requires
-put-elements-requires c κs =
-    let end = c .before .before .before .before .before in
-    let w = end .before .before .before in
-    (omega (arith, end .put-byte .ensures, w .elements-width .ensures .0), (omega (arith, end .put-byte .ensures), c .before .before .digit-pairs .ensures))
 
 returns-2 : tie.Need-returns-2
 returns-2 c =
@@ -77,7 +62,7 @@ print-array-spec =
     returns
     (λ c κs. search needs)
     (λ c κs. search needs)
-    put-elements-requires
+    (λ c κs. (search needs, (search needs, c .before .before .digit-pairs .ensures)))
     (λ c κs. search needs)
     (λ c κs. search needs)
     (λ c κs. search needs)

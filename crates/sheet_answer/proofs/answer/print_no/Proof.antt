@@ -14,7 +14,7 @@ begun c = c .before .before .before
 
 need-is : (c : tie.After-width2)
     → c .before .width .result + c .width2 .result + 5 ≡ length (noLine (begun c .args .line) (begun c .args .refusal))
-need-is c = omega (arith, no-length (begun c .args .line) (begun c .args .refusal), c .before .width .ensures .0, c .width2 .ensures .0)
+need-is c = omega (arith, no-length (begun c .args .line) (begun c .args .refusal))
 
 returns : tie.Need-returns
 returns c =

@@ -5,25 +5,23 @@ use borrow.Author.Needs.{needs}
 use Rattle.sheet_answer.proofs.print.element_width.Statement.{statement}
 use Rattle.sheet_answer.proofs.print.element_width.Tie as tie
 
-abbrev sized : tie.After-negative → tie.After-magnitude
-sized c = c .before .before
+abbrev told : tie.After-negative → tie.After-magnitude
+told c = c .before .before
 
 short : (c : tie.After-negative) → c .before .width .result ≤ 10
-short c = omega (arith, magnitude-short _ (sized c .before .fits .z) (sized c .magnitude .ensures), c .before .width .ensures)
+short c = omega (arith, magnitude-short _ (told c .before .fits .z) (told c .magnitude .ensures))
 
 returns : tie.Need-returns
 returns c =
-    let size = sized (c .before) in
-    let w = c .before .before .width .ensures in
-    rw (decimal-is _ (size .before .fits .z) (size .magnitude .ensures) (c .before .negative .ensures) (c .if1 .taken))
-    (omega (arith, short (c .before)))
+    let known = told (c .before) in
+    let text = decimal-is _ (known .before .fits .z) (known .magnitude .ensures) (c .before .negative .ensures) (c .if1 .taken) in
+    rw text (omega (arith, short (c .before)))
 
 returns-2 : tie.Need-returns-2
 returns-2 c =
-    let size = sized (c .before) in
-    let w = c .before .before .width .ensures in
-    rw (decimal-is _ (size .before .fits .z) (size .magnitude .ensures) (c .before .negative .ensures) (c .if1 .left))
-    (omega (arith, short (c .before)))
+    let known = told (c .before) in
+    let text = decimal-is _ (known .before .fits .z) (known .magnitude .ensures) (c .before .negative .ensures) (c .if1 .left) in
+    rw text (omega (arith, short (c .before)))
 
 pub element-width-spec : {M : Type 1} → statement M
 element-width-spec =

@@ -33,7 +33,7 @@ elements-width-spec =
     (λ c. search needs)
     (λ c. search needs)
     (λ c κs. search needs)
-    (λ c. omega (arith, c .element-width .ensures .1))
+    (λ c. search needs)
     (λ c. search needs)
     loop-again
     (λ c. sum-all (c .before .loop .inv) (omega arith)))

@@ -30,8 +30,8 @@ lengths-width-spec =
     (λ c. search needs)
     (λ c. search needs)
     (λ c κs. search needs)
-    (λ c. omega (arith, c .width .ensures .1))
-    (λ c. omega (arith, c .width .ensures .1))
+    (λ c. search needs)
+    (λ c. search needs)
     (λ c. search needs)
     loop-again
     returns)

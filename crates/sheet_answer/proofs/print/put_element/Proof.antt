@@ -1,3 +1,4 @@
+use Prim.Native.Nat.{_≤_, _<_}
 use native.Mathlib.Omega.{arith}
 use mathlib.Core.Path.{_≡_, ap}
 use mathlib.Core.List.{_∷_}
@@ -9,32 +10,29 @@ use borrow.Author.Needs.{needs}
 use Rattle.sheet_answer.proofs.print.put_element.Statement.{statement}
 use Rattle.sheet_answer.proofs.print.put_element.Tie as tie
 
--- The points of the code: the digits are put, and before that the magnitude is known.
+-- The points of the code: the digits are put, and before that the magnitude is told.
 abbrev put : tie.After-negative → tie.After-put-pairs
 put c = c .before .before .before
 
-abbrev sized : tie.After-negative → tie.After-magnitude
-sized c = put c .before .before
+abbrev told : tie.After-negative → tie.After-magnitude
+told c = put c .before .before
 
 abbrev begun : tie.After-negative → tie.Start
-begun c = sized c .before .before
+begun c = told c .before .before
 
--- The element's text, of each sign.
-below : (c : tie.Then1) → decimal (begun (c .before) .args .z) ≡ minus ∷ digits (sized (c .before) .magnitude .result)
-below c = decimal-is _ (begun (c .before) .fits .z) (sized (c .before) .magnitude .ensures) (c .before .negative .ensures) (c .if1 .taken)
+-- A byte has room before the digits.
+room : (c : tie.After-negative) → let p = put c .put-pairs in (0 < p .result) × (p .result ≤ length (p .last .0))
+room c =
+    let p = put c .put-pairs .ensures in
+    omega (arith, magnitude-within _ (begun c .fits .z) (told c .magnitude .ensures), begun c .pre)
 
-above : (c : tie.Else1) → decimal (begun (c .before) .args .z) ≡ digits (sized (c .before) .magnitude .result)
-above c = decimal-is _ (begun (c .before) .fits .z) (sized (c .before) .magnitude .ensures) (c .before .negative .ensures) (c .if1 .left)
+below : (c : tie.Then1) → decimal (begun (c .before) .args .z) ≡ minus ∷ digits (told (c .before) .magnitude .result)
+below c = decimal-is _ (begun (c .before) .fits .z) (told (c .before) .magnitude .ensures) (c .before .negative .ensures) (c .if1 .taken)
 
 put-pairs-requires : tie.Need-put-pairs-requires
 put-pairs-requires c κs =
     let st = c .before .before .before in
     (omega (arith, magnitude-within (st .args .z) (st .fits .z) (c .before .magnitude .ensures)), st .pre .1)
-
-put-byte-requires : tie.Need-put-byte-requires
-put-byte-requires c κs =
-    let neg = c .before .before in
-    omega (arith, ap length (below (c .before)), put neg .put-pairs .ensures, begun neg .pre)
 
 put-byte-requires-2 : tie.Need-put-byte-requires-2
 put-byte-requires-2 c κs =
@@ -50,16 +48,13 @@ returns c =
     let then = sign .before .before in
     rw (below then) (write-more (write-more (put (then .before) .put-pairs .ensures) (sign .put-byte .ensures)) (blank .put-byte2 .ensures))
 
-put-byte-requires-3 : tie.Need-put-byte-requires-3
-put-byte-requires-3 c κs =
-    let neg = c .before .before in
-    omega (arith, ap length (above (c .before)), put neg .put-pairs .ensures, begun neg .pre)
-
 returns-2 : tie.Need-returns-2
 returns-2 c =
     let blank = c .before .before in
     let else = blank .before .before in
-    rw (above else) (write-more (put (else .before) .put-pairs .ensures) (blank .put-byte3 .ensures))
+    let neg = else .before in
+    rw (decimal-is _ (begun neg .fits .z) (told neg .magnitude .ensures) (neg .negative .ensures) (else .if1 .left))
+    (write-more (put neg .put-pairs .ensures) (blank .put-byte3 .ensures))
 
 pub put-element-spec : {M : Type 1} → statement M
 put-element-spec =
@@ -68,10 +63,10 @@ put-element-spec =
     (λ c κs. search needs)
     put-pairs-requires
     (λ c κs. search needs)
-    put-byte-requires
+    (λ c κs. room (c .before .before))
     put-byte-requires-2
     (λ c. search needs)
     returns
-    put-byte-requires-3
+    (λ c κs. room (c .before .before))
     (λ c. search needs)
     returns-2)

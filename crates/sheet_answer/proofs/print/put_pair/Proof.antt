@@ -1,4 +1,3 @@
-use mathlib.Core.List.{[], _∷_}
 use Rattle.sheet_answer.proofs.Writing.{write-more}
 use borrow.Author.Needs.{needs}
 use Rattle.sheet_answer.proofs.print.put_pair.Statement.{statement}

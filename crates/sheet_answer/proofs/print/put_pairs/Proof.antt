@@ -1,8 +1,9 @@
-use Prim.Native.Nat.{_≤_, _<_}
+use Prim.Native.Nat.{ℕ, _≤_, _<_}
 use native.Mathlib.Omega.{arith}
 use lib.ListN.{length}
 use borrow.Author.Needs.{needs}
 use Rattle.sheet_line.proofs.Digits.{digits-one}
+use Rattle.sheet_answer.specs.Steps.{Pairs}
 use Rattle.sheet_answer.proofs.Writing.{digits-pair, digits-two, Spelt, spell-none, spell-room, spell-room-two, spell-more, spell-last}
 use Rattle.sheet_answer.proofs.print.put_pairs.Statement.{statement}
 use Rattle.sheet_answer.proofs.print.put_pairs.Tie as tie
@@ -16,20 +17,17 @@ abbrev μ-loop : tie.MeasureT-loop
 room : (c : tie.At-loop Inv-loop μ-loop) → (0 < c .loop .i) × (c .loop .i ≤ length (c .loop .text))
 room c = spell-room (c .loop .inv) (c .before .before .pre .0)
 
-two : (c : tie.At-loop Inv-loop μ-loop) → 10 ≤ c .loop .rest → 1 < c .loop .i
-two c = spell-room-two (c .loop .inv) (c .before .before .pre .0)
-
-put-pair-requires : tie.Need-put-pair-requires Inv-loop μ-loop
-put-pair-requires c κs = let lp = c .before .before in (two lp (omega arith), (room lp .1, (omega arith, lp .before .before .pre .1 .1)))
+pair : (c : tie.At-loop Inv-loop μ-loop) {n : ℕ} → 10 ≤ c .loop .rest → n < 100
+    → (1 < c .loop .i) × ((c .loop .i ≤ length (c .loop .text)) × ((n < 100) × Pairs (c .before .before .args .pairs .now)))
+pair c h k =
+    let st = c .before .before in
+    (spell-room-two (c .loop .inv) (st .pre .0) h, (room c .1, (k, st .pre .1 .1)))
 
 loop-again : tie.Need-loop-again Inv-loop μ-loop
 loop-again c =
     let put = c .before .before in
     let test = put .before .before in
     spell-more (test .before .loop .inv) (put .put-pair .ensures) _ (digits-two _ (test .loop-test .taken))
-
-put-pair-requires-2 : tie.Need-put-pair-requires-2 Inv-loop μ-loop
-put-pair-requires-2 c κs = let lp = c .before .before .before in (two lp (omega arith), (room lp .1, (omega arith, lp .before .before .pre .1 .1)))
 
 returns : tie.Need-returns Inv-loop μ-loop
 returns c =
@@ -50,10 +48,10 @@ put-pairs-spec =
     Inv-loop
     μ-loop
     (λ c. spell-none _ (c .before .pre .1 .0))
-    put-pair-requires
+    (λ c κs. pair (c .before .before) (omega arith) (omega arith))
     (λ c. omega arith)
     loop-again
-    put-pair-requires-2
+    (λ c κs. pair (c .before .before .before) (omega arith) (omega arith))
     (λ c. search needs)
     returns
     (λ c. search needs)

@@ -10,10 +10,4 @@ returns c =
     write-more (digits .put-digits .ensures) (blank .put-byte .ensures)
 
 pub put-part-spec : {M : Type 1} → statement M
-put-part-spec =
-    tie.close
-    (tie.spec
-    (λ c κs. search needs)
-    (λ c κs. search needs)
-    (λ c. search needs)
-    returns)
+put-part-spec = tie.close (tie.spec (λ c κs. search needs) (λ c κs. search needs) (λ c. search needs) returns)
