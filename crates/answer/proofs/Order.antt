@@ -63,7 +63,7 @@ earlyOf operands G L R = early ((leb operands 1 || goodForm L) && goodForm R) G
 -- A call's primitive: number n of the table, which takes so many operands and means m.
 pub record Names (n operands : ℕ) (G K : ℤ) (L R : Operand) (m : Meaning) : Type 0 where
   pub number : named (pos n) primitives .number ≡ n
-  pub takes : named (pos n) primitives .operands ≡ operands
+  pub arity : named (pos n) primitives .operands ≡ operands
   pub meaning : meaningOf (pos n) G K L R ≡ m
   pub own : Own n (m .refusals)
 
@@ -123,7 +123,7 @@ module _ {n operands : ℕ} {G K : ℤ} {L R : Operand} {m : Meaning} (names : N
   unfolding refusals
   number-is =
       ap₂ (λ x y. winner (precedence x) (rulesOf (named (pos n) primitives .operands) G L R y (length out))) (names .number) (names .meaning)
-      ∙ ap (λ x. winner (precedence n) (rulesOf x G L R m (length out))) (names .takes)
+      ∙ ap (λ x. winner (precedence n) (rulesOf x G L R m (length out))) (names .arity)
       ∙ winner-first n (rulesOf operands G L R m (length out)) (sorted-rules n operands G L R m (length out) (names .own))
       ∙ in-turn (leb operands 1 || goodForm L) (goodForm R) (isOrigin G) (firstMet (m .refusals ++ late-rules))
       ∙ ap₂ orElse (sym (early-first ((leb operands 1 || goodForm L) && goodForm R) G))

@@ -40,8 +40,8 @@ one-each L R = eqb (length (L .elements)) (rank (read L R))
 
 pub cut-names : (kind : CutKind) (G K : ℤ) (L R : Operand) → Names (cutNumber kind) 2 G K L R (cutMeaning kind (arrayOf L) (arrayOf R))
 unfolding primitives named eqZ takes drops precedence
-cut-names Take G K L R = record { number = refl; takes = refl; meaning = refl; own = refl }
-cut-names Drop G K L R = record { number = refl; takes = refl; meaning = refl; own = refl }
+cut-names Take G K L R = record { number = refl; arity = refl; meaning = refl; own = refl }
+cut-names Drop G K L R = record { number = refl; arity = refl; meaning = refl; own = refl }
 
 -- RANK and LENGTH, in turn.
 in-turn : (kind : CutKind) (L R : Operand) → own (cutNumber kind) (cutMeaning kind (arrayOf L) (arrayOf R) .refusals)

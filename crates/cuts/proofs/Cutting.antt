@@ -56,13 +56,13 @@ pub record Fits (t : List ℕ) (at n m : ℕ) : Type 0 where
 abbrev pub Reaches : List ℕ → ℕ → ℕ → ℕ → ℕ → Type 0
 Reaches t at n m i = (lead t * block t + i * block t + block t ≤ m) × (at + from t * step t + i * step t ≤ n)
 
-pub fits : (t : List ℕ) (at n m : ℕ) → Fitting t at n m → Fits t at n m
-fits [] at n m h = absurd h
-fits (_ ∷ []) at n m h = absurd h
-fits (_ ∷ _ ∷ []) at n m h = absurd h
-fits (_ ∷ _ ∷ _ ∷ []) at n m h = absurd h
-fits (_ ∷ _ ∷ _ ∷ _ ∷ []) at n m h = absurd h
-fits (a ∷ b ∷ c ∷ d ∷ e ∷ ws) at n m h = record {
+pub window-fits : (t : List ℕ) (at n m : ℕ) → Fitting t at n m → Fits t at n m
+window-fits [] at n m h = absurd h
+window-fits (_ ∷ []) at n m h = absurd h
+window-fits (_ ∷ _ ∷ []) at n m h = absurd h
+window-fits (_ ∷ _ ∷ _ ∷ []) at n m h = absurd h
+window-fits (_ ∷ _ ∷ _ ∷ _ ∷ []) at n m h = absurd h
+window-fits (a ∷ b ∷ c ∷ d ∷ e ∷ ws) at n m h = record {
   five = omega arith;
   some = h .0;
   room = h .1 .0;

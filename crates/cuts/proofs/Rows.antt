@@ -12,7 +12,7 @@ use Rattle.copying.specs.Runs.{copied}
 use Rattle.copying.proofs.Runs.{put-copied}
 use Rattle.copying.specs.Steps.{filled}
 use Rattle.cuts.specs.Steps.{cutAt, Blank}
-use Rattle.cuts.proofs.Cutting.{Fits, fits, lead, from, len, step, block, start, stop, cut-before, cut-after, cut-inside, cut-run, cut-room, filled-on}
+use Rattle.cuts.proofs.Cutting.{Fits, window-fits, lead, from, len, step, block, start, stop, cut-before, cut-after, cut-inside, cut-run, cut-room, filled-on}
 
 module _ {t : List ℕ} (r : List ℤ) {at m : ℕ} (f : Fits t at (length r) m) (ten : length t ≡ 10) where
   -- The zeros before a run in its row, its length, and where the first of them stands in both buffers.
@@ -29,7 +29,7 @@ module _ {t : List ℕ} (r : List ℤ) {at m : ℕ} (f : Fits t at (length r) m)
   first = at + from t * step t + getD t 6 0 * getD t 9 0
 
   inner : (i : ℕ) → i < len t → Fits (drop 5 t) (at + (from t + i) * step t) (length r) (block t)
-  inner i h = fits _ _ _ _ (f .rest (omega (arith, ten)) i h)
+  inner i h = window-fits _ _ _ _ (f .rest (omega (arith, ten)) i h)
 
   five : length (drop 5 t) ≡ 5
   five = length-drop 5 t ∙ omega (arith, ten)

@@ -84,7 +84,7 @@ module _ {ls rs hs : Shape} (h : High ls rs hs) where
 
 pub catenate-names : (G K : ℤ) (L R : Operand) → Names 22 2 G K L R (catenate G K (arrayOf L) (arrayOf R))
 unfolding primitives named eqZ catenate precedence
-catenate-names G K L R = record { number = refl; takes = refl; meaning = refl; own = refl }
+catenate-names G K L R = record { number = refl; arity = refl; meaning = refl; own = refl }
 
 -- What it asks, in turn: ranks that fit, an axis, and lengths that agree.
 abbrev pub asked : Bool → Bool → Bool → ℕ

@@ -28,11 +28,11 @@ use Rattle.lookups.specs.Steps.{entry, entries}
 module _ (G K : ℤ) (L R : Operand) where
   pub index-names : Names 29 2 G K L R (indexOf G (arrayOf L) (arrayOf R))
   unfolding primitives named eqZ indexOf precedence
-  index-names = record { number = refl; takes = refl; meaning = refl; own = refl }
+  index-names = record { number = refl; arity = refl; meaning = refl; own = refl }
 
   pub member-names : Names 30 2 G K L R (member (arrayOf L) (arrayOf R))
   unfolding primitives named eqZ member precedence
-  member-names = record { number = refl; takes = refl; meaning = refl; own = refl }
+  member-names = record { number = refl; arity = refl; meaning = refl; own = refl }
 
 -- A result of an array's lengths, each element from the one at its place.
 each : (a : Array) (f : ℤ → ℤ) (out : List ℤ) → Whole a → filled (λ j. f (getD (a .elements) j (pos 0))) (length (a .elements)) out

@@ -42,8 +42,8 @@ module _ (G K : ℤ) (L R : Operand) where
 
   pub mask-names : (a : Action) → Names (actionNumber a) 2 G K L R (masking a G K (arrayOf L) (arrayOf R))
   unfolding primitives named eqZ masking compress expand precedence
-  mask-names Compress = record { number = refl; takes = refl; meaning = refl; own = refl }
-  mask-names Expand = record { number = refl; takes = refl; meaning = refl; own = refl }
+  mask-names Compress = record { number = refl; arity = refl; meaning = refl; own = refl }
+  mask-names Expand = record { number = refl; arity = refl; meaning = refl; own = refl }
 
   -- What it asks, in turn, and what the result is.
   masking-own : (a : Action) → own (actionNumber a) (masking a G K (arrayOf L) (arrayOf R) .refusals)

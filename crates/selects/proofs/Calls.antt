@@ -27,7 +27,7 @@ asked scalar list inside all =
 module _ (G K : ℤ) (L R : Operand) where
   pub select-names : Names 31 2 G K L R (select G K (arrayOf L) (arrayOf R))
   unfolding primitives named eqZ select precedence
-  select-names = record { number = refl; takes = refl; meaning = refl; own = refl }
+  select-names = record { number = refl; arity = refl; meaning = refl; own = refl }
 
   pub select-own : own 31 (select G K (arrayOf L) (arrayOf R) .refusals)
       ≡ asked (isScalar (arrayOf R)) (isList (arrayOf L)) (within (K -ℤ G) (rank (arrayOf R)))

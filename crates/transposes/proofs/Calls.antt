@@ -31,11 +31,11 @@ use Rattle.transposes.proofs.Choosing.{backwards-few, backwards-occur}
 module _ (G K : ℤ) (L R : Operand) where
   pub transpose-names : Names 15 1 G K L R (transpose (arrayOf R))
   unfolding primitives named eqZ transpose precedence
-  transpose-names = record { number = refl; takes = refl; meaning = refl; own = refl }
+  transpose-names = record { number = refl; arity = refl; meaning = refl; own = refl }
 
   pub by-names : Names 26 2 G K L R (transposeBy G (arrayOf L) (arrayOf R))
   unfolding primitives named eqZ transposeBy precedence
-  by-names = record { number = refl; takes = refl; meaning = refl; own = refl }
+  by-names = record { number = refl; arity = refl; meaning = refl; own = refl }
 
 -- What they ask, in turn.
 pub transpose-own : (a : Array) → own 15 (transpose a .refusals) ≡ 0

@@ -31,11 +31,11 @@ axes-are s b e q = vector-rank (arrayOf (lent s b)) ∙ ap (max 1) e ∙ sym q
 module _ (G K : ℤ) (L R : Operand) where
   pub reverse-names : Names 14 1 G K L R (reverse G K (arrayOf R))
   unfolding primitives named eqZ reverse precedence
-  reverse-names = record { number = refl; takes = refl; meaning = refl; own = refl }
+  reverse-names = record { number = refl; arity = refl; meaning = refl; own = refl }
 
   pub rotate-names : Names 25 2 G K L R (rotate G K (arrayOf L) (arrayOf R))
   unfolding primitives named eqZ rotate precedence
-  rotate-names = record { number = refl; takes = refl; meaning = refl; own = refl }
+  rotate-names = record { number = refl; arity = refl; meaning = refl; own = refl }
 
   -- What they ask, in turn; the axes as the code counts them.
   module _ (axes : ℕ) (e : rank (asVector (arrayOf R)) ≡ axes) where

@@ -34,19 +34,19 @@ use Rattle.vectors.proofs.Vector.{Vector}
 module _ (G K : ℤ) (L R : Operand) where
   pub shape-names : Names 11 1 G K L R (lengthsOf (arrayOf R))
   unfolding primitives named eqZ lengthsOf precedence
-  shape-names = record { number = refl; takes = refl; meaning = refl; own = refl }
+  shape-names = record { number = refl; arity = refl; meaning = refl; own = refl }
 
   pub ravel-names : Names 12 1 G K L R (ravel (arrayOf R))
   unfolding primitives named eqZ ravel precedence
-  ravel-names = record { number = refl; takes = refl; meaning = refl; own = refl }
+  ravel-names = record { number = refl; arity = refl; meaning = refl; own = refl }
 
   pub interval-names : Names 13 1 G K L R (interval G (arrayOf R))
   unfolding primitives named eqZ interval precedence
-  interval-names = record { number = refl; takes = refl; meaning = refl; own = refl }
+  interval-names = record { number = refl; arity = refl; meaning = refl; own = refl }
 
   pub reshape-names : Names 21 2 G K L R (reshape (arrayOf L) (arrayOf R))
   unfolding primitives named eqZ reshape precedence
-  reshape-names = record { number = refl; takes = refl; meaning = refl; own = refl }
+  reshape-names = record { number = refl; arity = refl; meaning = refl; own = refl }
 
 -- The number whose interval 13 gives.
 abbrev pub ends : Array → ℤ

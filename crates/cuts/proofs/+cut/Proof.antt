@@ -9,7 +9,7 @@ use borrow.Author.Needs.{needs}
 use Rattle.meaning.proofs.Tab.{length-tab}
 use Rattle.copying.specs.Steps.{filled}
 use Rattle.cuts.specs.Steps.{cutAt}
-use Rattle.cuts.proofs.Cutting.{Fits, Reaches, fits, cut-room, cut-rest, cut-long, after-first, cut-begin, cut-end, cut-last, cut-step}
+use Rattle.cuts.proofs.Cutting.{Fits, Reaches, window-fits, cut-room, cut-rest, cut-long, after-first, cut-begin, cut-end, cut-last, cut-step}
 use borrow.Fn.Kinds.{In}
 use borrow.Fn.PlainCycle.{Measures, is, falls, and}
 use Rattle.cuts.proofs.cut.Reads as cut
@@ -78,7 +78,7 @@ module _ (t : ℕ) where
   called c = c .before .before .before
 
   known : (c : Start) → Fits (c .args .table .now) (c .args .at) (length (c .args .r .now)) (length (c .args .out .now))
-  known c = fits _ _ _ _ (c .pre .1)
+  known c = window-fits _ _ _ _ (c .pre .1)
 
   -- The position of a turn lies in both buffers, and `out` keeps its length.
   turn : (c : In-loop)

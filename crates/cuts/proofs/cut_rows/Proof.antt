@@ -6,7 +6,7 @@ use borrow.Author.Needs.{needs}
 use borrow.Author.Tests.{eqb-true}
 use Rattle.copying.specs.Steps.{filled}
 use Rattle.cuts.specs.Steps.{cutAt}
-use Rattle.cuts.proofs.Cutting.{Fits, fits, cut-room, cut-long, cut-begin, cut-end}
+use Rattle.cuts.proofs.Cutting.{Fits, window-fits, cut-room, cut-long, cut-begin, cut-end}
 use Rattle.cuts.proofs.Rows.{row-room, row-reads, rows-step}
 use Rattle.cuts.proofs.cut_rows.Statement.{statement}
 use Rattle.cuts.proofs.cut_rows.Tie as tie
@@ -40,7 +40,7 @@ abbrev ran : tie.After-copy-run Inv-loop μ-loop → tie.In-loop Inv-loop μ-loo
 ran c = c .before .before .before
 
 known : (c : tie.Start Inv-loop μ-loop) → Fits (c .args .table .now) (c .args .at) (length (c .args .r .now)) (length (c .args .out .now))
-known c = fits _ _ _ _ (c .pre .1)
+known c = window-fits _ _ _ _ (c .pre .1)
 
 -- A row lies in both buffers: the first, and that of a turn.
 room : (c : tie.Start Inv-loop μ-loop)

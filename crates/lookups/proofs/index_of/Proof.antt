@@ -61,11 +61,11 @@ roomy : (c : tie.Else3) → let st = start (ranked (c .before)) in Roomy (st .ar
 roomy c = late-fine _ (c .before .late .ensures) (c .before .before .count .ensures) (c .if3 .left)
 
 -- L's count, and G as a number from 0 up.
-abbrev spaced : tie.After-magnitude → tie.Else3
-spaced c = c .before .before
+abbrev settled : tie.After-magnitude → tie.Else3
+settled c = c .before .before
 
-first-is : (c : tie.After-magnitude) → c .magnitude .result ≡ natAbs (start (ranked (spaced c .before)) .args .g)
-first-is c = c .magnitude .ensures ∙ ap natAbs (read32 _ (start (ranked (spaced c .before)) .fits .g))
+first-is : (c : tie.After-magnitude) → c .magnitude .result ≡ natAbs (start (ranked (settled c .before)) .args .g)
+first-is c = c .magnitude .ensures ∙ ap natAbs (read32 _ (start (ranked (settled c .before)) .fits .g))
 
 abbrev valued : tie.After-put-each-arg3 → tie.After-magnitude
 valued c = c .before .before .before
@@ -86,36 +86,36 @@ returns-3 c K =
 
 part-put-each-end : tie.Need-part-put-each-end
 part-put-each-end c =
-    let g = fine (asked (ranked (spaced c .before))) .left in
+    let g = fine (asked (ranked (settled c .before))) .left in
     omega (arith, g .room, g .count-is, c .before .count2 .ensures)
 
 part-put-each-end-2 : tie.Need-part-put-each-end-2
 part-put-each-end-2 c =
-    let l = spaced (c .before) .before in
+    let l = settled (c .before) .before in
     let g = fine (asked (ranked l)) .right in
     omega (arith, g .room, g .count-is, l .before .count .ensures)
 
 put-each-requires : tie.Need-put-each-requires
 put-each-requires c κs =
     let z = valued c in
-    let l = spaced z .before in
+    let l = settled z .before in
     let f = fine (asked (ranked l)) in
     let a = part-long (f .left) (z .before .count2 .ensures) in
     let b = part-long (f .right) (l .before .count .ensures) in
     record {
       origin = omega (arith, first-is z, origin-is _ (f .origin) .1);
       small = omega (arith, a, f .left .count-small);
-      space = omega (arith, b, f .right .count-is, roomy (spaced z) .space);
+      space = omega (arith, b, f .right .count-is, roomy (settled z) .space);
     }
 
 returns-4 : tie.Need-returns-4
 returns-4 c K =
     let p = c .before .before .before in
     let z = valued (p .before) in
-    let l = spaced z .before in
+    let l = settled z .before in
     let f = fine (asked (ranked l)) in
-    given-replied (ready (ranked l) K) _ (l .late .ensures) (l .before .count .ensures) (spaced z .if3 .left)
-    (as-result (ready (ranked l) K) (roomy (spaced z) .good) (c .before .as-result .ensures) (c .given .ensures))
+    given-replied (ready (ranked l) K) _ (l .late .ensures) (l .before .count .ensures) (settled z .if3 .left)
+    (as-result (ready (ranked l) K) (roomy (settled z) .good) (c .before .as-result .ensures) (c .given .ensures))
     (index-out _ _ _ _ (f .origin) (f .right .whole) (first-is z) (lent-part _ _ (f .left) _ (z .before .count2 .ensures))
     (lent-part _ _ (f .right) _ (l .before .count .ensures)) (p .put-each .ensures))
 

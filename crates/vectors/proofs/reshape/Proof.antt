@@ -91,27 +91,27 @@ returns-3 c K =
     late-replied (ready (shaped l) K) _ (l .late .ensures) (l .before .count2 .ensures) (c .before .if3 .taken) (c .refused3 .ensures)
 
 -- R's count, and what is written for it.
-abbrev spaced : tie.After-count3 → tie.After-late
-spaced c = c .before .before
+abbrev settled : tie.After-count3 → tie.After-late
+settled c = c .before .before
 
-total-fits : (c : tie.After-count3) → let l = spaced c in l .before .count2 .result ≤ length (start (shaped l) .args .out .now)
-total-fits c = omega (arith, roomy (c .before) .space, spaced c .before .count2 .ensures)
+total-fits : (c : tie.After-count3) → let l = settled c in l .before .count2 .result ≤ length (start (shaped l) .args .out .now)
+total-fits c = omega (arith, roomy (c .before) .space, settled c .before .count2 .ensures)
 
-operand : (c : tie.After-count3) → let st = start (shaped (spaced c)) in Lent (st .args .rs) (st .args .r .now)
-operand c = fine (asked (counted (shaped (spaced c)))) .right
+operand : (c : tie.After-count3) → let st = start (shaped (settled c)) in Lent (st .args .rs) (st .args .r .now)
+operand c = fine (asked (counted (shaped (settled c)))) .right
 
-elements : (c : tie.After-count3) → length (arrayOf (right (start (shaped (spaced c)))) .elements) ≡ c .count3 .result
+elements : (c : tie.After-count3) → length (arrayOf (right (start (shaped (settled c)))) .elements) ≡ c .count3 .result
 elements c = let g = operand c in g .whole ∙ sym (g .count-is) ∙ sym (c .count3 .ensures)
 
 written : (c : tie.At-match-came)
-    → let l = spaced (c .before) in
+    → let l = settled (c .before) in
     c .match .out ≡ filled (cycled (arrayOf (right (start (shaped l))) .elements)) (l .before .count2 .result) (start (shaped l) .args .out .now)
 written c =
     let n = c .before in
     let g = operand n in
-    let st = start (shaped (spaced n)) in
+    let st = start (shaped (settled n)) in
     let xs = arrayOf (right st) .elements in
-    let total = spaced n .before .count2 .result in
+    let total = settled n .before .count2 .result in
     ⊎-elim
     (λ w.
     let long : length xs ≤ 0 = omega (arith, elements n, w .0 .keys1) in
@@ -135,7 +135,7 @@ same-length c = ap length (written (c .before)) ∙ length-filled _ _ _ (total-f
 returns-4 : tie.Need-returns-4
 returns-4 c K =
     let n = c .before .before in
-    let l = spaced n in
+    let l = settled n in
     let v = shaped l in
     let good = roomy (n .before) .good in
     given-replied (ready v K) _ (l .late .ensures) (l .before .count2 .ensures) (n .before .if3 .left)
