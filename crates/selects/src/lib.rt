@@ -104,7 +104,12 @@ fn select_into(g: i32, l: &[i32], axis: usize, total: usize, rs: Shape, r: &[i32
         return;
     }
     let a = rs.around(axis);
-    select_blocks(g, l, a.length, a.inner, a.outer, r, out);
+    // Called in two places, the loops stay a function of their own, which the compiler gives registers of their own.
+    if a.outer == 1 {
+        select_blocks(g, l, a.length, a.inner, 1, r, out);
+    } else {
+        select_blocks(g, l, a.length, a.inner, a.outer, r, out);
+    }
 }
 
 // Every block of R gives its chosen rows. A block has n rows of `inner` elements.
