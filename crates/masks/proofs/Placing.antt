@@ -2,7 +2,7 @@
 use mathlib.Core.Path.{_≡_, sym}
 use mathlib.Core.List.{List}
 use Prim.Native.Nat.{ℕ, _+_, _*_, _-_, _≤_, _<_}
-use native.Mathlib.Nat.{zero-mul}
+use native.Mathlib.Nat.{zero-add, zero-mul, mul-le-mul-right}
 use native.Mathlib.Omega.{arith}
 use lib.ListN.{length, take, drop}
 use lib.IntN.{ℤ}
@@ -54,6 +54,27 @@ module _ {a : Action} {l r : List ℤ} {outer n m c : ℕ} {out₀ out : List �
           (put-block (takesAt a l) (taken a l n) n m c r o (λ i q. taken-lt a l n i (b .fitting) (omega (arith, b .wide))) out out₀ last from to
           (k .written .filling) (k .written .at) (k .source-at) w);
     }
+
+module _ {a : Action} {l : List ℤ} {outer n m c from to : ℕ} (b : InBlocks a l outer n m c from to) where
+  pub size-in : n * c ≤ from
+  size-in = omega (arith, b .source, mul-le-mul-right {m = 1} {n = outer} (n * c) (b .some))
+
+  pub part-in : m * c ≤ to
+  part-in = omega (arith, b .room, mul-le-mul-right {m = 1} {n = outer} (m * c) (b .some))
+
+-- A block alone.
+module _ {a : Action} {l : List ℤ} {outer n m c : ℕ} (r out : List ℤ) (b : InBlocks a l outer n m c (length r) (length out)) where
+  none : Passed a l r outer n m c out out 0 0 0
+  none = passed-none a l r outer n m c out
+
+  pub alone : Block a l n m c (length (take (n * c - 0) r)) (length (take (m * c - 0) out))
+  alone = rw (zero-add (n * c), zero-add (m * c)) at (passed-block none b (b .some))
+
+  pub alone-placed : outer ≡ 1 → (last : List ℤ) → last ≡ tab (m * c) (rowsOf a l n c (take (n * c - 0) r))
+      → putMid 0 (m * c - 0) out last ≡ placedIn a l outer n m c r out
+  alone-placed e last w =
+      let one = rw (zero-add (n * c), zero-add (m * c)) at (passed-more none b (b .some) last) in
+      passed-all (one w) (omega arith)
 
 -- Blocks that are called with what they are: the action x, and rows of d elements.
 module _ {a x : Action} {c d : ℕ} (u : a ≡ x) (s : c ≡ d) where

@@ -16,7 +16,7 @@ use Rattle.meaning.proofs.Tab.{length-tab, getD-part}
 use Rattle.copying.specs.Runs.{copied}
 use Rattle.copying.specs.Steps.{filled}
 use Rattle.masks.specs.Steps.Actions.{oneAt}
-use Rattle.masks.specs.Steps.Rows.{openedRows, Stretch}
+use Rattle.masks.specs.Steps.Rows.{openedRows, Opens, Stretch}
 use Rattle.masks.proofs.Ones.{before, before-none, before-all, before-one, ones-le, one-at, one-below}
 use Rattle.masks.proofs.Stretches.{others-pass}
 use Rattle.masks.proofs.Filling.{put-row, put-one}
@@ -45,6 +45,11 @@ others-from l (suc n) i h = by _ refl (others-from l n (i + 1) (omega arith))
 
 zeros-length : (n : ℕ) (zeros : List ℤ) → zeros ≡ replicate n (pos 0) → length zeros ≡ n
 zeros-length n zeros z = ap length z ∙ length-replicate n (pos 0)
+
+-- A buffer that was filled with zeros serves as it did before.
+pub over-zeros : {l : List ℤ} {at : List ℕ} {c d from n : ℕ} {zeros : List ℤ} → zeros ≡ replicate n (pos 0) → c ≡ d → Opens l at c from n
+    → Opens l at d from (length zeros) × (zeros ≡ replicate (length zeros) (pos 0))
+over-zeros {n = n} {zeros = zeros} z e o = rw (zeros-length n zeros z) (rw e at o, z)
 
 -- A part of zeros is zeros.
 zeros-part : (n a k : ℕ) (zeros : List ℤ) → zeros ≡ replicate n (pos 0) → take k (drop a zeros) ≡ replicate (length (take k (drop a zeros))) (pos 0)

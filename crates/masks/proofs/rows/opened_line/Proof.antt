@@ -17,29 +17,29 @@ abbrev μ-loop : tie.MeasureT-loop
 μ-loop l at r out₀ q₀ out q = length r - q
 
 abbrev start : tie.At-loop Inv-loop μ-loop → tie.Start Inv-loop μ-loop
-start c = c .before .before .before .before .before
+start c = c .before
 
 -- A one is left, and its position is noted.
 short : (c : tie.In-loop Inv-loop μ-loop) → c .before .loop .q < length (start (c .before) .args .at .now)
 short c =
-    let pre = start (c .before) .pre in
+    let pre = start (c .before) .pre .0 in
     omega (arith, count-few (c .before .loop .inv) (pre .source) (omega arith), pre .short)
 
 noted : (c : tie.In-loop Inv-loop μ-loop)
     → let a = start (c .before) .args in getD (a .at .now) (c .before .loop .q) 0 ≡ getD (ones (a .l .now)) (c .before .loop .q) 0
 noted c =
-    let pre = start (c .before) .pre in
+    let pre = start (c .before) .pre .0 in
     pre .notes (c .before .loop .q) (one-left (c .before .loop .inv) (pre .source) (omega arith))
 
 room : (c : tie.In-loop Inv-loop μ-loop) → getD (start (c .before) .args .at .now) (c .before .loop .q) 0 < length (c .before .loop .out)
-room c = omega (arith, row-room (c .before .loop .inv) (start (c .before) .pre .source) (omega arith) (noted c))
+room c = omega (arith, row-room (c .before .loop .inv) (start (c .before) .pre .0 .source) (omega arith) (noted c))
 
 loop-again : tie.Need-loop-again Inv-loop μ-loop
 loop-again c =
     let at = c .before .before in
     let st = start (at .before) in
-    scattered-one (at .before .loop .inv) (st .pre .source) (omega arith) (noted at) _
-    (read32 (getD (st .args .r .now) (at .before .loop .q) (pos 0)) (sfits-of (c .out2 .given)))
+    scattered-one (at .before .loop .inv) (st .pre .0 .source) (omega arith) (noted at) _
+    (read32 (getD (st .args .r .now) (at .before .loop .q) (pos 0)) (sfits-of (c .out .given)))
 
 pub opened-line-spec : {M : Type 1} → statement M
 opened-line-spec =
@@ -47,8 +47,7 @@ opened-line-spec =
     (tie.spec
     Inv-loop
     μ-loop
-    (λ c κs. search needs)
-    (λ c. let k = c .before .before in scattered-none _ _ 1 _ _ (c .before .fill-run .ensures) (k .before .before .pre .room))
+    (λ c. scattered-none _ _ 1 _ _ (c .pre .1) (c .pre .0 .room))
     (λ c. omega (arith, short c))
     (λ c. omega (arith, short (c .before)))
     (λ c. omega (arith, room (c .before)))
@@ -60,4 +59,4 @@ opened-line-spec =
     (λ c. search needs)
     loop-again
     (λ c. omega (arith, scattered-long (c .before .loop .inv)))
-    (λ c. scattered-all (c .before .loop .inv) (start (c .before) .pre .source) (omega arith) (omega arith)))
+    (λ c. scattered-all (c .before .loop .inv) (start (c .before) .pre .0 .source) (omega arith) (omega arith)))
