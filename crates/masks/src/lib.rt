@@ -302,6 +302,9 @@ fn noted_blocks(
     let at = rows::noted(l);
     if inner == 1 {
         if expands {
+            // The zeros of all lines at once: a run for each line took as long as the elements.
+            let total = outer * (m * inner);
+            copying::fill_run(0, &mut out[0..total]);
             blocks(true, true, l, &at, r, outer, n, m, 1, out);
         } else {
             blocks(false, true, l, &at, r, outer, n, m, 1, out);
@@ -327,7 +330,7 @@ fn blocks(
     out: &mut [i32],
 )
     requires { ⌜ InBlocks (actionOf expands) (now l) outer n m inner (length (now r)) (length (now out))
-        × (noted ≡ true → ByNotes (actionOf expands) (now l) (now at) n) ⌝ }
+        × (noted ≡ true → ByNotes (actionOf expands) (now l) (now at) n inner (outer * (m * inner)) (now out)) ⌝ }
     ensures { λ _. ⌜ now (out .exit) ≡ placedIn (actionOf expands) (now (l .entry)) outer n m inner (now (r .entry)) (now (out .entry)) ⌝ }
 {
     let size = n * inner;
@@ -368,7 +371,8 @@ fn block(
     out: &mut [i32],
 )
     requires { ⌜ (0 < inner)
-        × (Block (actionOf expands) (now l) n m inner (length (now r)) (length (now out)) × (noted ≡ true → ByNotes (actionOf expands) (now l) (now at) n)) ⌝ }
+        × (Block (actionOf expands) (now l) n m inner (length (now r)) (length (now out))
+        × (noted ≡ true → ByNotes (actionOf expands) (now l) (now at) n inner (length (now out)) (now out))) ⌝ }
     ensures { λ _. ⌜ now (out .exit) ≡ tab (m * inner) (rowsOf (actionOf expands) (now (l .entry)) n inner (now (r .entry))) ⌝ }
 {
     if noted {

@@ -2,7 +2,7 @@
 ghost use mathlib.Core.Path.{_≡_};
 ghost use mathlib.Core.Bool.{true, cond};
 ghost use Prim.Native.Nat.{_*_, _≤_, _<_};
-ghost use lib.ListN.{length, replicate};
+ghost use lib.ListN.{length};
 ghost use lib.IntN.{pos};
 ghost use Rattle.meaning.specs.Array.{tab};
 ghost use Rattle.meaning.specs.Terms.{ones};
@@ -77,7 +77,7 @@ pub fn kept_rows(at: &[u16], r: &[i32], m: usize, inner: usize, out: &mut [i32])
 
 // The elements in order at the noted positions of a buffer of zeros. Only the contract speaks of l.
 fn opened_line(l: &[i32], at: &[u16], r: &[i32], out: &mut [i32])
-    requires { ⌜ Opens (now l) (now at) 1 (length (now r)) (length (now out)) × (now out ≡ replicate (length (now out)) (pos 0)) ⌝ }
+    requires { ⌜ Opens (now l) (now at) 1 (length (now r)) (now out) ⌝ }
     ensures { λ _. ⌜ now (out .exit) ≡ tab (length (now (l .entry)) * 1) (openedRows (now (l .entry)) 1 (now (r .entry))) ⌝ }
 {
     let mut q = 0;
@@ -90,14 +90,14 @@ fn opened_line(l: &[i32], at: &[u16], r: &[i32], out: &mut [i32])
 
 // The rows in order at the noted positions, over zeros: one run of zeros for a block costs less than one for each gap.
 pub fn opened_rows(l: &[i32], at: &[u16], r: &[i32], inner: usize, out: &mut [i32])
-    requires { ⌜ (0 < inner) × Opens (now l) (now at) inner (length (now r)) (length (now out)) ⌝ }
+    requires { ⌜ (0 < inner) × Opens (now l) (now at) inner (length (now r)) (now out) ⌝ }
     ensures { λ _. ⌜ now (out .exit) ≡ tab (length (now (l .entry)) * inner) (openedRows (now (l .entry)) inner (now (r .entry))) ⌝ }
 {
-    copying::fill_run(0, out);
     if inner == 1 {
         opened_line(l, at, r, out);
         return;
     }
+    copying::fill_run(0, out);
     let mut from = 0;
     let mut q = 0;
     while from < r.len() {

@@ -3,7 +3,7 @@ use Prim.Native.Nat.{_+_, _-_, _*_, _≤_}
 use lib.ListN.{length}
 use borrow.Author.Needs.{needs}
 use Rattle.masks.specs.Steps.Actions.{actionOf}
-use Rattle.masks.proofs.Placing.{Passed, passed-none, passed-all, passed-inside, passed-room, passed-block, passed-more, size-in, part-in}
+use Rattle.masks.proofs.Placing.{Passed, passed-none, passed-all, passed-inside, passed-room, passed-block, passed-notes, passed-more, size-in, part-in}
 use Rattle.masks.proofs.blocks.Statement.{statement}
 use Rattle.masks.proofs.blocks.Tie as tie
 
@@ -33,8 +33,9 @@ mul-part c = omega (arith, part-in (c .before .pre .0))
 block-requires : tie.Need-block-requires Inv-loop μ-loop
 block-requires c κs =
     let at = c .before .before in
-    let st = start at in
-    (st .pre .0 .row, (passed-block (at .before .loop .inv) (st .pre .0) (omega arith), st .pre .1))
+    let pre = start at .pre in
+    let k = at .before .loop .inv in
+    (pre .0 .row, (passed-block k (pre .0) (omega arith), λ t. passed-notes k (pre .0) (omega arith) (pre .1 t)))
 
 abbrev entered : tie.After-out Inv-loop μ-loop → tie.In-loop Inv-loop μ-loop
 entered c = c .before .before .before .before

@@ -1,12 +1,12 @@
 use borrow.Author.Needs.{needs, sfits-of}
 use native.Mathlib.Omega.{arith}
 use Prim.Native.Nat.{_-_, _<_}
-use mathlib.Core.Path.{_≡_}
+use mathlib.Core.Path.{_≡_, refl}
 use lib.IntN.{pos}
 use lib.ListN.{length, getD}
 use Rattle.meaning.specs.Terms.{ones}
 use Rattle.signed.proofs.Reading.{read32}
-use Rattle.masks.proofs.Scattered.{Scattered, scattered-none, scattered-long, scattered-all, scattered-one, one-left, count-few, row-room}
+use Rattle.masks.proofs.Scattered.{zeros-are, Scattered, scattered-none, scattered-long, scattered-all, scattered-one, one-left, count-few, row-room}
 use Rattle.masks.proofs.rows.opened_line.Statement.{statement}
 use Rattle.masks.proofs.rows.opened_line.Tie as tie
 
@@ -22,23 +22,23 @@ start c = c .before
 -- A one is left, and its position is noted.
 short : (c : tie.In-loop Inv-loop μ-loop) → c .before .loop .q < length (start (c .before) .args .at .now)
 short c =
-    let pre = start (c .before) .pre .0 in
+    let pre = start (c .before) .pre in
     omega (arith, count-few (c .before .loop .inv) (pre .source) (omega arith), pre .short)
 
 noted : (c : tie.In-loop Inv-loop μ-loop)
     → let a = start (c .before) .args in getD (a .at .now) (c .before .loop .q) 0 ≡ getD (ones (a .l .now)) (c .before .loop .q) 0
 noted c =
-    let pre = start (c .before) .pre .0 in
+    let pre = start (c .before) .pre in
     pre .notes (c .before .loop .q) (one-left (c .before .loop .inv) (pre .source) (omega arith))
 
 room : (c : tie.In-loop Inv-loop μ-loop) → getD (start (c .before) .args .at .now) (c .before .loop .q) 0 < length (c .before .loop .out)
-room c = omega (arith, row-room (c .before .loop .inv) (start (c .before) .pre .0 .source) (omega arith) (noted c))
+room c = omega (arith, row-room (c .before .loop .inv) (start (c .before) .pre .source) (omega arith) (noted c))
 
 loop-again : tie.Need-loop-again Inv-loop μ-loop
 loop-again c =
     let at = c .before .before in
     let st = start (at .before) in
-    scattered-one (at .before .loop .inv) (st .pre .0 .source) (omega arith) (noted at) _
+    scattered-one (at .before .loop .inv) (st .pre .source) (omega arith) (noted at) _
     (read32 (getD (st .args .r .now) (at .before .loop .q) (pos 0)) (sfits-of (c .out .given)))
 
 pub opened-line-spec : {M : Type 1} → statement M
@@ -47,7 +47,7 @@ opened-line-spec =
     (tie.spec
     Inv-loop
     μ-loop
-    (λ c. scattered-none _ _ 1 _ _ (c .pre .1) (c .pre .0 .room))
+    (λ c. scattered-none _ _ 1 _ _ (zeros-are (c .args .out .now) (c .pre .blank refl)) (c .pre .room))
     (λ c. omega (arith, short c))
     (λ c. omega (arith, short (c .before)))
     (λ c. omega (arith, room (c .before)))
@@ -59,4 +59,4 @@ opened-line-spec =
     (λ c. search needs)
     loop-again
     (λ c. omega (arith, scattered-long (c .before .loop .inv)))
-    (λ c. scattered-all (c .before .loop .inv) (start (c .before) .pre .0 .source) (omega arith) (omega arith)))
+    (λ c. scattered-all (c .before .loop .inv) (start (c .before) .pre .source) (omega arith) (omega arith)))

@@ -5,7 +5,7 @@ use mathlib.Core.Path.{_≡_}
 use lib.ListN.{length, getD}
 use Rattle.meaning.specs.Terms.{ones}
 use Rattle.masks.proofs.Scattered.{Scattered, scattered-none, scattered-long, scattered-all, scattered-row}
-use Rattle.masks.proofs.Scattered.{over-zeros, one-left, count-few, row-inside, row-room}
+use Rattle.masks.proofs.Scattered.{one-left, count-few, row-inside, row-room}
 use Rattle.masks.proofs.rows.opened_rows.Statement.{statement}
 use Rattle.masks.proofs.rows.opened_rows.Tie as tie
 
@@ -15,11 +15,11 @@ Inv-loop l at r inner out₀ from₀ q₀ out from q = Scattered l r inner out�
 abbrev μ-loop : tie.MeasureT-loop
 μ-loop l at r inner out₀ from₀ q₀ out from q = length r - from
 
-abbrev zeros : tie.After-out Inv-loop μ-loop → tie.Start Inv-loop μ-loop
-zeros c = c .before .before .before .before
+abbrev zeros : tie.After-out2 Inv-loop μ-loop → tie.Start Inv-loop μ-loop
+zeros c = c .before .before .before .before .before
 
 abbrev start : tie.At-loop Inv-loop μ-loop → tie.Start Inv-loop μ-loop
-start c = zeros (c .before .before)
+start c = zeros (c .before)
 
 -- A one is left, and its position is noted.
 short : (c : tie.In-loop Inv-loop μ-loop) → c .before .loop .q < length (start (c .before) .args .at .now)
@@ -44,10 +44,7 @@ room c = row-room (c .before .loop .inv) (start (c .before) .pre .1 .source) (om
 
 -- Where a row is one element.
 opened-line-requires : tie.Need-opened-line-requires Inv-loop μ-loop
-opened-line-requires c κs =
-    let t = c .before in
-    let z = t .before in
-    over-zeros (z .before .fill-run .ensures) (t .if1 .taken) (zeros z .pre .1)
+opened-line-requires c κs = let t = c .before in rw (t .if1 .taken) at (t .before .before .pre .1)
 
 returns : tie.Need-returns Inv-loop μ-loop
 returns c = rw (c .before .before .before .if1 .taken) (c .before .opened-line .ensures)
@@ -66,11 +63,11 @@ opened-rows-spec =
     (tie.spec
     Inv-loop
     μ-loop
-    (λ c κs. search needs)
     opened-line-requires
     (λ c. search needs)
     returns
-    (λ c. let z = c .before in scattered-none _ _ _ _ _ (z .before .fill-run .ensures) (zeros z .pre .1 .room))
+    (λ c κs. search needs)
+    (λ c. scattered-none _ _ _ _ _ (c .before .fill-run .ensures) (zeros c .pre .1 .room))
     (λ c. omega (arith, short c))
     (λ c. short (c .before))
     (λ c. omega (arith, c .shared-slice-known2 .given (c .before .before .loop .q)))
