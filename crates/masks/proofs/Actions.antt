@@ -44,10 +44,10 @@ module _ {a : Action} {l : List ℤ} {n m c from to : ℕ} (b : Block a l n m c 
     unfolding width takesAt taken
     expand-block r q = use-block h r q
 
-    pub noted-opens : {at : List ℕ} → ByNotes a l at n → Opens l at c from to
-    noted-opens by =
+    pub noted-opens : {at : List ℕ} {out : List ℤ} → to ≡ length out → ByNotes a l at n c (length out) out → Opens l at c from out
+    noted-opens q by =
         let e = expand-ready refl in
-        record { short = by .short; notes = by .notes; source = e .0; room = e .1 }
+        record { short = by .short; notes = by .notes; source = e .0; room = sym q ∙ e .1; blank = by .blank h }
 
   -- Where it compresses an axis of length 1.
   module _ (h : a ≡ Compress) (o : n ≡ 1) where
@@ -76,7 +76,7 @@ module _ {a : Action} {l : List ℤ} {n m c from to : ℕ} (b : Block a l n m c 
         ap (λ b. tab (length (ones l) * d) (rowed (λ i. true) (λ i. cond b 0 (getD (ones l) i 0)) d r)) (sym (ne-eqb n 1 o)) ∙ use-block h r q
 
   -- Where it compresses by noted ones.
-  module _ (h : a ≡ Compress) {at : List ℕ} (by : ByNotes a l at n) where
+  module _ (h : a ≡ Compress) {at : List ℕ} {k : ℕ} {out : List ℤ} (by : ByNotes a l at n c k out) where
     wide-kept : m ≡ length (ones l)
     unfolding width
     wide-kept = b .wide ∙ ap (λ x. width x l) h

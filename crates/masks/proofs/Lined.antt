@@ -3,7 +3,7 @@ use mathlib.Core.Path.{_≡_, refl, sym, ap, ap₂, _∙_}
 use mathlib.Core.List.{List, _++_}
 use mathlib.Core.Bool.{Bool, true, false, cond}
 use Prim.Native.Nat.{ℕ, _*_, _-_, _/_, _%_, _≤_, _<_}
-use native.Mathlib.Nat.{sub-zero, mul-le-mul-right}
+use native.Mathlib.Nat.{sub-zero}
 use native.Mathlib.Omega.{arith}
 use borrow.Author.Tests.{eqb-true}
 use lib.ListN.{length, getD, take, drop, set, replicate}
@@ -12,7 +12,7 @@ use lib.Seq.{set-getD, length-take-le}
 use lib.IntN.{ℤ, pos}
 use Rattle.shape.specs.declared.Shape.{Shape}
 use Rattle.shape.specs.declared.Around.{Around}
-use Rattle.shape.specs.Shape.{maxRank, maxCount, counted, count, aroundOf}
+use Rattle.shape.specs.Shape.{maxRank, counted, count, aroundOf}
 use Rattle.shape.proofs.Axis.{in-at}
 use Rattle.shape.proofs.Surround.{Parts, parts}
 use Rattle.meaning.specs.Array.{Array, arrayOf, at, build}
@@ -116,12 +116,6 @@ module _ {a : Action} {l : List ℤ} {s : Shape} {axis m total : ℕ} {r : List 
         source = rw w (omega (arith, good .room, around .source));
         room = rw w (omega (arith, k .space, around .whole));
       }
-
-      -- A block of the result.
-      pub lined-part : m * v .inner ≤ maxCount
-      lined-part =
-          rw w
-          (omega (arith, around .whole, k .small, mul-le-mul-right {m = 1} {n = aroundOf s axis .outer} (m * aroundOf s axis .inner) (around .outer-some)))
 
       low : (i : ℕ) → i < m → takesAt a mask i ≡ true → taken a mask n i < aroundOf s axis .length
       low i h t = rw (around .length-is) (taken-lt a mask n i (k .fitting refl) (omega (arith, k .wide)) t)

@@ -1,20 +1,24 @@
 -- Blocks written one after another.
-use mathlib.Core.Path.{_≡_, sym}
-use mathlib.Core.List.{List}
+use mathlib.Core.Path.{_≡_, refl, sym, ap, _∙_}
+use mathlib.Core.List.{List, _++_}
 use Prim.Native.Nat.{ℕ, _+_, _*_, _-_, _≤_, _<_}
-use native.Mathlib.Nat.{zero-mul}
+use native.Mathlib.Nat.{zero-add, zero-mul, mul-le-mul-right}
 use native.Mathlib.Omega.{arith}
-use lib.ListN.{length, take, drop}
-use lib.IntN.{ℤ}
+use lib.ListN.{length, getD, take, drop, replicate, List·getD-append}
+use lib.Seq.{drop-at}
+use lib.IntN.{ℤ, pos}
 use borrow.Rule.Slice.PartMut.{putMid}
 use Rattle.meaning.specs.Array.{tab}
+use Rattle.meaning.proofs.Tab.{length-tab, getD-tab, getD-part}
+use Rattle.copying.specs.Steps.{filled}
+use Rattle.copying.proofs.Runs.{filled-none, length-filled, put-filled}
 use Rattle.copying.proofs.Parts.{part-long, part-room}
 use Rattle.copying.proofs.Blocks.{put-block}
 use Rattle.masks.specs.declared.Action.{Action}
 use Rattle.masks.specs.Steps.Actions.{takesAt, taken}
-use Rattle.masks.specs.Steps.Rows.{rowsOf, placed, placedIn, Block, InBlocks}
+use Rattle.masks.specs.Steps.Rows.{rowsOf, placed, placedIn, Block, InBlocks, Zeros, ByNotes}
 use Rattle.masks.proofs.Actions.{taken-lt}
-use Rattle.masks.proofs.Written.{run-inside, Written, written-none, written-front, written-room, written-more}
+use Rattle.masks.proofs.Written.{run-inside, Written, written-none, written-front, written-rest, written-room, written-more}
 
 -- The loop over the blocks: those that were passed stand in front.
 pub record Passed (a : Action) (l r : List ℤ) (outer n m c : ℕ) (out₀ out : List ℤ) (from to o : ℕ) : Type 0 where
@@ -44,6 +48,21 @@ module _ {a : Action} {l r : List ℤ} {outer n m c : ℕ} {out₀ out : List �
       room = part-room out to (m * c) (length out₀) (k .written .long) passed-room;
     }
 
+    pub passed-notes : {at : List ℕ} → ByNotes a l at n c (outer * (m * c)) out₀
+        → let part = take (to + m * c - to) (drop to out) in ByNotes a l at n c (length part) part
+    passed-notes by =
+        let long = part-room out to (m * c) (length out₀) (k .written .long) passed-room in
+        let below = run-inside (m * c) to o outer (outer * (m * c)) (k .written .at) h (omega arith) in
+        record {
+          short = by .short;
+          notes = by .notes;
+          other = by .other;
+          blank = λ e s j i.
+              ap (λ x. getD (take (to + m * c - to) x) j (pos 0)) (written-rest (k .written))
+              ∙ getD-part out₀ to (to + m * c - to) j (pos 0) (omega arith)
+              ∙ by .blank e s (to + j) (omega arith);
+        }
+
     pub passed-more : (last : List ℤ) → last ≡ tab (m * c) (rowsOf a l n c (take (from + n * c - from) (drop from r)))
         → Passed a l r outer n m c out₀ (putMid to (to + m * c - to) out last) (from + n * c) (to + m * c) (o + 1)
     passed-more last w = record {
@@ -55,6 +74,27 @@ module _ {a : Action} {l r : List ℤ} {outer n m c : ℕ} {out₀ out : List �
           (k .written .filling) (k .written .at) (k .source-at) w);
     }
 
+module _ {a : Action} {l : List ℤ} {outer n m c from to : ℕ} (b : InBlocks a l outer n m c from to) where
+  pub size-in : n * c ≤ from
+  size-in = omega (arith, b .source, mul-le-mul-right {m = 1} {n = outer} (n * c) (b .some))
+
+  pub part-in : m * c ≤ to
+  part-in = omega (arith, b .room, mul-le-mul-right {m = 1} {n = outer} (m * c) (b .some))
+
+-- A block alone.
+module _ {a : Action} {l : List ℤ} {outer n m c : ℕ} (r out : List ℤ) (b : InBlocks a l outer n m c (length r) (length out)) where
+  none : Passed a l r outer n m c out out 0 0 0
+  none = passed-none a l r outer n m c out
+
+  pub alone : Block a l n m c (length (take (n * c - 0) r)) (length (take (m * c - 0) out))
+  alone = rw (zero-add (n * c), zero-add (m * c)) at (passed-block none b (b .some))
+
+  pub alone-placed : outer ≡ 1 → (last : List ℤ) → last ≡ tab (m * c) (rowsOf a l n c (take (n * c - 0) r))
+      → putMid 0 (m * c - 0) out last ≡ placedIn a l outer n m c r out
+  alone-placed e last w =
+      let one = rw (zero-add (n * c), zero-add (m * c)) at (passed-more none b (b .some) last) in
+      passed-all (one w) (omega arith)
+
 -- Blocks that are called with what they are: the action x, and rows of d elements.
 module _ {a x : Action} {c d : ℕ} (u : a ≡ x) (s : c ≡ d) where
   pub blocks-by : {l : List ℤ} {outer n m from to : ℕ} → InBlocks a l outer n m c from to → InBlocks x l outer n m d from to
@@ -62,3 +102,25 @@ module _ {a x : Action} {c d : ℕ} (u : a ≡ x) (s : c ≡ d) where
 
   pub placed-by : (l r : List ℤ) (outer n m : ℕ) (out : List ℤ) → placedIn x l outer n m d r out ≡ placedIn a l outer n m c r out
   placed-by l r outer n m out = rw (u, s)
+
+-- Zeros written over the first k elements.
+module _ (k : ℕ) (out last : List ℤ) (room : k ≤ length out) (w : last ≡ replicate (length (take (k - 0) out)) (pos 0)) where
+  abbrev zero : ℕ → ℤ
+  zero j = pos 0
+
+  cleared : putMid 0 (k - 0) out last ≡ filled zero k out
+  cleared =
+      put-filled zero 0 k k out out last (filled-none zero out) (omega arith) room (pos 0) (λ i h. refl) w
+      ∙ ap (λ x. filled zero x out) (zero-add k)
+
+  pub cleared-long : length (putMid 0 (k - 0) out last) ≡ length out
+  cleared-long = ap length cleared ∙ length-filled zero k out room
+
+  pub cleared-blank : Zeros k (putMid 0 (k - 0) out last)
+  cleared-blank j h =
+      ap (λ x. getD x j (pos 0)) cleared
+      ∙ List·getD-append (tab k zero) (drop k out) (pos 0) j (omega (arith, length-tab k zero))
+      ∙ getD-tab k zero j (pos 0) h
+
+  pub cleared-under : (g : ℕ → ℤ) → filled g k (putMid 0 (k - 0) out last) ≡ filled g k out
+  cleared-under g = ap (λ x. tab k g ++ x) (ap (drop k) cleared ∙ drop-at (tab k zero) (drop k out) k (length-tab k zero))

@@ -7,18 +7,19 @@ use Prim.Native.Nat.{ℕ, zero, suc, _+_, _*_, _-_, _≤_, _<_}
 use native.Mathlib.Nat.{eq-or-lt-of-le, zero-mul}
 use native.Mathlib.Omega.{arith}
 use lib.ListN.{length, getD, take, drop, set, replicate, length-take, length-drop, length-replicate, getD-replicate}
-use lib.Seq.{drop-at, ext-getD}
+use lib.Seq.{ext-getD}
 use lib.IntN.{ℤ, pos}
 use borrow.Rule.Slice.PartMut.{putMid, put-same}
 use Rattle.meaning.specs.Array.{tab}
 use Rattle.meaning.specs.Terms.{ones}
-use Rattle.meaning.proofs.Tab.{length-tab, getD-part}
+use Rattle.meaning.proofs.Tab.{getD-part}
 use Rattle.copying.specs.Runs.{copied}
 use Rattle.copying.specs.Steps.{filled}
 use Rattle.masks.specs.Steps.Actions.{oneAt}
-use Rattle.masks.specs.Steps.Rows.{openedRows, Stretch}
+use Rattle.masks.specs.Steps.Rows.{openedRows, Zeros, Stretch}
 use Rattle.masks.proofs.Ones.{before, before-none, before-all, before-one, ones-le, one-at, one-below}
 use Rattle.masks.proofs.Stretches.{others-pass}
+use Rattle.masks.proofs.Written.{written-rest}
 use Rattle.masks.proofs.Filling.{put-row, put-one}
 use Rattle.masks.proofs.Opened.{Opened, opened-none, opened-all, opened-room, opened-next, opened-inside, opened-gap}
 
@@ -46,6 +47,11 @@ others-from l (suc n) i h = by _ refl (others-from l n (i + 1) (omega arith))
 zeros-length : (n : ℕ) (zeros : List ℤ) → zeros ≡ replicate n (pos 0) → length zeros ≡ n
 zeros-length n zeros z = ap length z ∙ length-replicate n (pos 0)
 
+pub zeros-are : (out : List ℤ) → Zeros (length out) out → out ≡ replicate (length out) (pos 0)
+zeros-are out b =
+    ext-getD (pos 0) out (replicate (length out) (pos 0)) (sym (length-replicate (length out) (pos 0)))
+    (λ j h. b j h ∙ sym (getD-replicate (length out) j (pos 0) (pos 0) h))
+
 -- A part of zeros is zeros.
 zeros-part : (n a k : ℕ) (zeros : List ℤ) → zeros ≡ replicate n (pos 0) → take k (drop a zeros) ≡ replicate (length (take k (drop a zeros))) (pos 0)
 zeros-part n a k zeros z =
@@ -72,9 +78,8 @@ scattered-on {l = l} {r = r} {c = c} {zeros = zeros} {out = out} {from = from} i
     let gap = others-from l (length l - i) i (omega (arith, k .within)) in
     let e = gap .0 in
     let n = e * c - i * c in
-    let rest : drop (i * c) out ≡ drop (i * c) zeros =
-    ap (drop (i * c)) (k .written .filling) ∙ drop-at (tab (i * c) (openedRows l c r)) (drop (i * c) zeros) (i * c) (length-tab (i * c) (openedRows l c r)) in
-    let same : take n (drop (i * c) out) ≡ replicate (length (take n (drop (i * c) out))) (pos 0) = rw rest (zeros-part (length l * c) (i * c) n zeros blank) in
+    let same : take n (drop (i * c) out) ≡ replicate (length (take n (drop (i * c) out))) (pos 0) =
+    rw (written-rest (k .written)) (zeros-part (length l * c) (i * c) n zeros blank) in
     record {
       next = e;
       one = gap .1 .ends;

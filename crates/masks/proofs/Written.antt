@@ -4,9 +4,11 @@ use mathlib.Core.List.{List}
 use Prim.Native.Nat.{ℕ, _+_, _*_, _≤_, _<_}
 use native.Mathlib.Nat.{mul-le-mul-right, zero-mul}
 use native.Mathlib.Omega.{arith}
-use lib.ListN.{length, set}
+use lib.ListN.{length, set, drop}
+use lib.Seq.{drop-at}
 use lib.IntN.{ℤ, pos}
 use Rattle.meaning.specs.Array.{tab}
+use Rattle.meaning.proofs.Tab.{length-tab}
 use Rattle.copying.proofs.Runs.{filled-none, filled-whole, filled-one, length-filled}
 use Rattle.copying.specs.Steps.{filled}
 
@@ -26,6 +28,9 @@ written-none g size out₀ = record { at = sym (zero-mul size); long = refl; fil
 module _ {g : ℕ → ℤ} {size : ℕ} {out₀ out : List ℤ} {to q : ℕ} (w : Written g size out₀ out to q) where
   pub written-front : (m : ℕ) → q ≡ m → out ≡ filled g (m * size) out₀
   written-front m e = w .filling ∙ ap (λ x. filled g x out₀) (w .at ∙ ap (λ x. x * size) e)
+
+  pub written-rest : drop to out ≡ drop to out₀
+  written-rest = ap (drop to) (w .filling) ∙ drop-at (tab to g) (drop to out₀) to (length-tab to g)
 
   pub written-whole : (m : ℕ) → q ≡ m → length out₀ ≡ m * size → out ≡ tab (m * size) g
   written-whole m e room = written-front m e ∙ filled-whole g (m * size) out₀ (omega arith)

@@ -233,24 +233,7 @@ fn mask_into(
         copying::copy_run(&r[0..total], out);
         return;
     }
-    let expands = expands(action);
-    if notes_pay(expands, l.len(), a.length, m * a.inner) {
-        noted_blocks(expands, l, r, a.outer, a.length, m, a.inner, out);
-    } else {
-        let none = [0; 1];
-        blocks(
-            expands,
-            false,
-            l,
-            &none,
-            r,
-            a.outer,
-            a.length,
-            m,
-            a.inner,
-            out,
-        );
-    }
+    in_blocks(expands(action), l, r, a.outer, a.length, m, a.inner, out);
 }
 
 // The blocks go by a flag: a constant one makes a loop of its own, but an enum is passed by its address, and each block would look at it.
@@ -276,6 +259,32 @@ fn notes_pay(expands: bool, c: usize, n: usize, part: usize) -> bool
     if expands { part <= NEAR } else { n != 1 }
 }
 
+// All blocks. One alone is not looped over: called from two places, `masked_block` stays a function of its own, with every register for its loops.
+fn in_blocks(
+    expands: bool,
+    l: &[i32],
+    r: &[i32],
+    outer: usize,
+    n: usize,
+    m: usize,
+    inner: usize,
+    out: &mut [i32],
+)
+    requires { ⌜ InBlocks (actionOf expands) (now l) outer n m inner (length (now r)) (length (now out)) ⌝ }
+    ensures { λ _. ⌜ now (out .exit) ≡ placedIn (actionOf expands) (now (l .entry)) outer n m inner (now (r .entry)) (now (out .entry)) ⌝ }
+{
+    let size = n * inner;
+    let part = m * inner;
+    if notes_pay(expands, l.len(), n, part) {
+        noted_blocks(expands, l, r, outer, n, m, inner, out);
+    } else if outer == 1 {
+        masked_block(expands, l, &r[0..size], n, m, inner, &mut out[0..part]);
+    } else {
+        let none = [0; 1];
+        blocks(expands, false, l, &none, r, outer, n, m, inner, out);
+    }
+}
+
 // The blocks by noted ones. They are called with what they are, so that each kind is compiled to a loop of its own.
 fn noted_blocks(
     expands: bool,
@@ -293,6 +302,9 @@ fn noted_blocks(
     let at = rows::noted(l);
     if inner == 1 {
         if expands {
+            // The zeros of all lines at once: a run for each line took as long as the elements.
+            let total = outer * (m * inner);
+            copying::fill_run(0, &mut out[0..total]);
             blocks(true, true, l, &at, r, outer, n, m, 1, out);
         } else {
             blocks(false, true, l, &at, r, outer, n, m, 1, out);
@@ -318,7 +330,7 @@ fn blocks(
     out: &mut [i32],
 )
     requires { ⌜ InBlocks (actionOf expands) (now l) outer n m inner (length (now r)) (length (now out))
-        × (noted ≡ true → ByNotes (actionOf expands) (now l) (now at) n) ⌝ }
+        × (noted ≡ true → ByNotes (actionOf expands) (now l) (now at) n inner (outer * (m * inner)) (now out)) ⌝ }
     ensures { λ _. ⌜ now (out .exit) ≡ placedIn (actionOf expands) (now (l .entry)) outer n m inner (now (r .entry)) (now (out .entry)) ⌝ }
 {
     let size = n * inner;
@@ -359,7 +371,8 @@ fn block(
     out: &mut [i32],
 )
     requires { ⌜ (0 < inner)
-        × (Block (actionOf expands) (now l) n m inner (length (now r)) (length (now out)) × (noted ≡ true → ByNotes (actionOf expands) (now l) (now at) n)) ⌝ }
+        × (Block (actionOf expands) (now l) n m inner (length (now r)) (length (now out))
+        × (noted ≡ true → ByNotes (actionOf expands) (now l) (now at) n inner (length (now out)) (now out))) ⌝ }
     ensures { λ _. ⌜ now (out .exit) ≡ tab (m * inner) (rowsOf (actionOf expands) (now (l .entry)) n inner (now (r .entry))) ⌝ }
 {
     if noted {

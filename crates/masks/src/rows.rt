@@ -75,12 +75,11 @@ pub fn kept_rows(at: &[u16], r: &[i32], m: usize, inner: usize, out: &mut [i32])
     }
 }
 
-// The elements in order at the noted positions, over zeros. Only the contract speaks of l.
+// The elements in order at the noted positions of a buffer of zeros. Only the contract speaks of l.
 fn opened_line(l: &[i32], at: &[u16], r: &[i32], out: &mut [i32])
-    requires { ⌜ Opens (now l) (now at) 1 (length (now r)) (length (now out)) ⌝ }
+    requires { ⌜ Opens (now l) (now at) 1 (length (now r)) (now out) ⌝ }
     ensures { λ _. ⌜ now (out .exit) ≡ tab (length (now (l .entry)) * 1) (openedRows (now (l .entry)) 1 (now (r .entry))) ⌝ }
 {
-    copying::fill_run(0, out);
     let mut q = 0;
     while q < r.len() {
         let x = at[q] as usize;
@@ -91,7 +90,7 @@ fn opened_line(l: &[i32], at: &[u16], r: &[i32], out: &mut [i32])
 
 // The rows in order at the noted positions, over zeros: one run of zeros for a block costs less than one for each gap.
 pub fn opened_rows(l: &[i32], at: &[u16], r: &[i32], inner: usize, out: &mut [i32])
-    requires { ⌜ (0 < inner) × Opens (now l) (now at) inner (length (now r)) (length (now out)) ⌝ }
+    requires { ⌜ (0 < inner) × Opens (now l) (now at) inner (length (now r)) (now out) ⌝ }
     ensures { λ _. ⌜ now (out .exit) ≡ tab (length (now (l .entry)) * inner) (openedRows (now (l .entry)) inner (now (r .entry))) ⌝ }
 {
     if inner == 1 {

@@ -12,7 +12,7 @@ opened-rows-requires : tie.Need-opened-rows-requires
 opened-rows-requires c κs =
     let e = c .before in
     let pre = start (e .before) .pre in
-    (pre .0, noted-opens (pre .1 .0) (ap actionOf (e .if2 .taken)) (pre .1 .1 (e .before .if1 .taken)))
+    (pre .0, noted-opens (pre .1 .0) (ap actionOf (e .if2 .taken)) refl (pre .1 .1 (e .before .if1 .taken)))
 
 kept-rows-requires : tie.Need-kept-rows-requires
 kept-rows-requires c κs =

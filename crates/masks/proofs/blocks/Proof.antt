@@ -2,9 +2,8 @@ use native.Mathlib.Omega.{arith}
 use Prim.Native.Nat.{_+_, _-_, _*_, _≤_}
 use lib.ListN.{length}
 use borrow.Author.Needs.{needs}
-use native.Mathlib.Nat.{mul-le-mul-right}
 use Rattle.masks.specs.Steps.Actions.{actionOf}
-use Rattle.masks.proofs.Placing.{Passed, passed-none, passed-all, passed-inside, passed-room, passed-block, passed-more}
+use Rattle.masks.proofs.Placing.{Passed, passed-none, passed-all, passed-inside, passed-room, passed-block, passed-notes, passed-more, size-in, part-in}
 use Rattle.masks.proofs.blocks.Statement.{statement}
 use Rattle.masks.proofs.blocks.Tie as tie
 
@@ -26,22 +25,17 @@ room : (c : tie.In-loop Inv-loop μ-loop) → let a = start c .args in c .before
 room c = passed-room (c .before .loop .inv) (start c .pre .0) (omega arith)
 
 mul-size : tie.Need-mul-size Inv-loop μ-loop
-mul-size c =
-    let a = c .before .args in
-    let b = c .before .pre .0 in
-    omega (arith, b .source, mul-le-mul-right {m = 1} {n = a .outer} (a .n * a .inner) (b .some))
+mul-size c = omega (arith, size-in (c .before .pre .0))
 
 mul-part : tie.Need-mul-part Inv-loop μ-loop
-mul-part c =
-    let a = c .before .args in
-    let b = c .before .pre .0 in
-    omega (arith, b .room, mul-le-mul-right {m = 1} {n = a .outer} (a .m * a .inner) (b .some))
+mul-part c = omega (arith, part-in (c .before .pre .0))
 
 block-requires : tie.Need-block-requires Inv-loop μ-loop
 block-requires c κs =
     let at = c .before .before in
-    let st = start at in
-    (st .pre .0 .row, (passed-block (at .before .loop .inv) (st .pre .0) (omega arith), st .pre .1))
+    let pre = start at .pre in
+    let k = at .before .loop .inv in
+    (pre .0 .row, (passed-block k (pre .0) (omega arith), λ t. passed-notes k (pre .0) (omega arith) (pre .1 t)))
 
 abbrev entered : tie.After-out Inv-loop μ-loop → tie.In-loop Inv-loop μ-loop
 entered c = c .before .before .before .before

@@ -1,21 +1,15 @@
 use mathlib.Core.Path.{_≡_, refl, _∙_}
-use mathlib.Core.List.{_++_}
 use mathlib.Core.Bool.{false}
-use Prim.Native.Nat.{_*_}
 use native.Mathlib.Omega.{arith}
-use mir.Syntax.{w64}
-use mir.Val.{Fits}
 use lib.IntN.{pos}
-use lib.ListN.{length, getD, drop}
+use lib.ListN.{length, getD}
 use borrow.Author.Needs.{needs, sfits-of}
 use Rattle.shape.specs.Shape.{maxRank}
-use Rattle.shape.proofs.Bools.{no-way}
 use Rattle.signed.proofs.Reading.{read32}
-use Rattle.masks.specs.Steps.Actions.{actionOf, Masked}
-use Rattle.masks.specs.Steps.Rows.{placedIn, InBlocks}
+use Rattle.masks.specs.Steps.Actions.{Masked}
 use Rattle.masks.proofs.Placing.{blocks-by, placed-by}
 use Rattle.masks.proofs.Expanding.{scalar-first, scalar-room, scalar-out}
-use Rattle.masks.proofs.Lined.{lined, lined-none, lined-inside, lined-same, lined-blocks, lined-part, lined-all}
+use Rattle.masks.proofs.Lined.{lined-none, lined-inside, lined-same, lined-blocks, lined-all}
 use Rattle.masks.proofs.mask_into.Statement.{statement}
 use Rattle.masks.proofs.mask_into.Tie as tie
 
@@ -68,56 +62,25 @@ returns-3 c =
     (lined-same (plain (lines v)) (long (start v)) (omega arith) _ (v .around .ensures) (t .if3 .taken) (start v .args .out .now) _ refl
     (c .before .copy-run .ensures))
 
--- By blocks, whatever they are called with.
+-- By blocks.
 abbrev found : tie.After-expands → tie.After-around
 found c = c .before .before .before
 
-ready : (c : tie.After-expands)
-    → let a = start (found c) .args in
-    let v = found c .around .result in
-    InBlocks (actionOf (c .expands .result)) (a .l .now) (v .outer) (v .length) (a .m) (v .inner) (length (a .r .now)) (length (a .out .now))
-ready c =
-    let v = found c in
-    blocks-by (c .expands .ensures) refl (lined-blocks (plain (lines v)) (long (start v)) (omega arith) _ (v .around .ensures) (c .before .if3 .left))
-
-made : (c : tie.After-expands)
-    → let a = start (found c) .args in
-    let v = found c .around .result in
-    placedIn (actionOf (c .expands .result)) (a .l .now) (v .outer) (v .length) (a .m) (v .inner) (a .r .now) (a .out .now)
-    ≡ lined (plain (lines (found c))) ++ drop (a .total) (a .out .now)
-made c =
-    let v = found c in
-    let a = start v .args in
-    placed-by (c .expands .ensures) refl (a .l .now) (a .r .now) _ _ _ (a .out .now)
-    ∙ lined-all (plain (lines v)) (long (start v)) (omega arith) _ (v .around .ensures) (c .before .if3 .left) (a .out .now)
-
-mul-notes-pay : tie.Need-mul-notes-pay
-mul-notes-pay c =
-    let v = found (c .before) in
-    let part : Fits w64 (start v .args .m * v .around .result .inner) =
-    omega (arith, lined-part (plain (lines v)) (long (start v)) (omega arith) _ (v .around .ensures) (c .before .before .if3 .left)) in
-    part
-
-abbrev asked : tie.After-notes-pay → tie.After-expands
-asked c = c .before .before
-
-noted-blocks-requires : tie.Need-noted-blocks-requires
-noted-blocks-requires c κs = let t = c .before in (ready (asked (t .before)), t .before .notes-pay .ensures (t .if4 .taken))
-
-blocks-requires : tie.Need-blocks-requires
-blocks-requires c κs = (ready (asked (c .before .before .before)), λ t. no-way t)
+in-blocks-requires : tie.Need-in-blocks-requires
+in-blocks-requires c κs =
+    let e = c .before in
+    let v = found e in
+    blocks-by (e .expands .ensures) refl (lined-blocks (plain (lines v)) (long (start v)) (omega arith) _ (v .around .ensures) (e .before .if3 .left))
 
 returns-4 : tie.Need-returns-4
 returns-4 c =
-    let t = c .before .before .before in
-    let e = asked (t .before) in
-    rw (lines (found e) .if1 .left) (c .before .noted-blocks .ensures ∙ made e)
-
-returns-5 : tie.Need-returns-5
-returns-5 c =
-    let t = c .before .before .before in
-    let e = asked (t .before .before) in
-    rw (lines (found e) .if1 .left) (c .before .blocks2 .ensures ∙ made e)
+    let e = c .before .before .before in
+    let v = found e in
+    let a = start v .args in
+    rw (lines v .if1 .left)
+    (c .before .in-blocks .ensures
+    ∙ placed-by (e .expands .ensures) refl (a .l .now) (a .r .now) _ _ _ (a .out .now)
+    ∙ lined-all (plain (lines v)) (long (start v)) (omega arith) _ (v .around .ensures) (e .before .if3 .left) (a .out .now))
 
 pub mask-into-spec : {M : Type 1} → statement M
 mask-into-spec =
@@ -136,12 +99,6 @@ mask-into-spec =
     (λ c. search needs)
     returns-3
     (λ c κs. search needs)
-    mul-notes-pay
-    (λ c κs. search needs)
-    noted-blocks-requires
+    in-blocks-requires
     (λ c. search needs)
-    blocks-requires
-    (λ c. search needs)
-    returns-4
-    (λ c. search needs)
-    returns-5)
+    returns-4)

@@ -8,7 +8,7 @@ use lib.IntN.{ℤ, pos}
 use Rattle.meaning.specs.Terms.{ones}
 use Rattle.copying.specs.Steps.{filled, source}
 use Rattle.masks.specs.declared.Action.{Action}
-use Rattle.masks.specs.declared.Action.the-variants.{Compress}
+use Rattle.masks.specs.declared.Action.the-variants.{Compress, Expand}
 use Rattle.masks.specs.Steps.Actions.{suits, width, oneAt, takesAt, taken}
 
 -- Element j of rows of c elements: row i is row φ i of r where t i, else zeros.
@@ -61,11 +61,16 @@ pub record NotesPay (action : Action) (c n : ℕ) : Type 0 where
   pub short : c ≤ few
   pub other : action ≡ Compress → n ≡ 1 → ⊥
 
--- What is known where a mask goes by its noted ones.
-pub record ByNotes (action : Action) (l : List ℤ) (at : List ℕ) (n : ℕ) : Type 0 where
+-- The first k elements are zeros.
+abbrev pub Zeros : ℕ → List ℤ → Type 0
+Zeros k out = (j : ℕ) → j < k → getD out j (pos 0) ≡ pos 0
+
+-- What is known where a mask goes by its noted ones, to the first k elements of a buffer: single elements go into zeros.
+pub record ByNotes (action : Action) (l : List ℤ) (at : List ℕ) (n c k : ℕ) (out : List ℤ) : Type 0 where
   pub short : length l ≤ length at
   pub notes : Noted l at
   pub other : action ≡ Compress → n ≡ 1 → ⊥
+  pub blank : action ≡ Expand → c ≡ 1 → Zeros k out
 
 -- The m rows at noted positions.
 pub record Keeps (at : List ℕ) (m c from to : ℕ) : Type 0 where
@@ -74,11 +79,12 @@ pub record Keeps (at : List ℕ) (m c from to : ℕ) : Type 0 where
   pub room : to ≡ m * c
 
 -- The rows in order at the noted ones of a mask.
-pub record Opens (l : List ℤ) (at : List ℕ) (c from to : ℕ) : Type 0 where
+pub record Opens (l : List ℤ) (at : List ℕ) (c from : ℕ) (out : List ℤ) : Type 0 where
   pub short : length l ≤ length at
   pub notes : Noted l at
   pub source : from ≡ length (ones l) * c
-  pub room : to ≡ length l * c
+  pub room : length out ≡ length l * c
+  pub blank : c ≡ 1 → Zeros (length out) out
 
 -- The positions of a mask from i up to e are ones, or none is one, as b says; e is not such a position.
 pub record Stretch (b : Bool) (l : List ℤ) (i e : ℕ) : Type 0 where

@@ -1,12 +1,12 @@
 use borrow.Author.Needs.{needs, sfits-of}
 use native.Mathlib.Omega.{arith}
 use Prim.Native.Nat.{_-_, _<_}
-use mathlib.Core.Path.{_≡_}
+use mathlib.Core.Path.{_≡_, refl}
 use lib.IntN.{pos}
 use lib.ListN.{length, getD}
 use Rattle.meaning.specs.Terms.{ones}
 use Rattle.signed.proofs.Reading.{read32}
-use Rattle.masks.proofs.Scattered.{Scattered, scattered-none, scattered-long, scattered-all, scattered-one, one-left, count-few, row-room}
+use Rattle.masks.proofs.Scattered.{zeros-are, Scattered, scattered-none, scattered-long, scattered-all, scattered-one, one-left, count-few, row-room}
 use Rattle.masks.proofs.rows.opened_line.Statement.{statement}
 use Rattle.masks.proofs.rows.opened_line.Tie as tie
 
@@ -17,7 +17,7 @@ abbrev μ-loop : tie.MeasureT-loop
 μ-loop l at r out₀ q₀ out q = length r - q
 
 abbrev start : tie.At-loop Inv-loop μ-loop → tie.Start Inv-loop μ-loop
-start c = c .before .before .before .before .before
+start c = c .before
 
 -- A one is left, and its position is noted.
 short : (c : tie.In-loop Inv-loop μ-loop) → c .before .loop .q < length (start (c .before) .args .at .now)
@@ -39,7 +39,7 @@ loop-again c =
     let at = c .before .before in
     let st = start (at .before) in
     scattered-one (at .before .loop .inv) (st .pre .source) (omega arith) (noted at) _
-    (read32 (getD (st .args .r .now) (at .before .loop .q) (pos 0)) (sfits-of (c .out2 .given)))
+    (read32 (getD (st .args .r .now) (at .before .loop .q) (pos 0)) (sfits-of (c .out .given)))
 
 pub opened-line-spec : {M : Type 1} → statement M
 opened-line-spec =
@@ -47,8 +47,7 @@ opened-line-spec =
     (tie.spec
     Inv-loop
     μ-loop
-    (λ c κs. search needs)
-    (λ c. let k = c .before .before in scattered-none _ _ 1 _ _ (c .before .fill-run .ensures) (k .before .before .pre .room))
+    (λ c. scattered-none _ _ 1 _ _ (zeros-are (c .args .out .now) (c .pre .blank refl)) (c .pre .room))
     (λ c. omega (arith, short c))
     (λ c. omega (arith, short (c .before)))
     (λ c. omega (arith, room (c .before)))
