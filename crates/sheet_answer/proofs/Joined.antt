@@ -21,7 +21,7 @@ use Rattle.meaning.specs.Reply.{Reply, primitives, named, isOrigin, refusals, s
 use Rattle.meaning.proofs.Arrays.{Whole, build-lengths, build-whole}
 use Rattle.sheet_line.specs.Numbers.{andThen, numbers}
 use Rattle.sheet_line.specs.declared.Read.{Read}
-use Rattle.sheet_line.specs.Call.{maxHeld, maxLine, Reader, give, fail, _then_, number, natural, many, operand, head, Call, call, allRead, callOf, lineCall, readOf, leftOf, rightOf, front, room}
+use Rattle.sheet_line.specs.Call.{maxHeld, maxLine, Reader, give, fail, _then_, nextNumber, natural, many, operand, head, Call, call, allRead, callOf, lineCall, readOf, leftOf, rightOf, front, room}
 use Rattle.sheet_line.proofs.Calls.{too-long}
 use Rattle.sheet_line.proofs.Options.{none-some, some-inj, passed, if-some}
 use Rattle.sheet_answer.specs.Answer.{okLine, badLine, replyLine, fitted}
@@ -44,11 +44,11 @@ operand-whole limit zs a rest e =
     let two = passed (many (natural maxHeld) (one .found .0) (one .found .1)) _ (a, rest) (one .on) in
     by-test (two .found .0) (two .found .1) (leb (count (two .found .0)) limit) (two .on)
   where
-    by-test : (ns : List ℕ) (ys : List ℤ) (t : Bool) → cond t (many number (count ns) then λ xs. give (record { lengths = ns; elements = xs })) fail ys ≡ some (a, rest) → Whole a
+    by-test : (ns : List ℕ) (ys : List ℤ) (t : Bool) → cond t (many nextNumber (count ns) then λ xs. give (record { lengths = ns; elements = xs })) fail ys ≡ some (a, rest) → Whole a
     by-test ns ys false q = none-some q
     by-test ns ys true q =
-        let three = passed (many number (count ns) ys) (λ t. give (record { lengths = ns; elements = t .0 }) (t .1)) (a, rest) q in
-        let filled = many-length number (count ns) ys (three .found .0) (three .found .1) (three .is) in
+        let three = passed (many nextNumber (count ns) ys) (λ t. give (record { lengths = ns; elements = t .0 }) (t .1)) (a, rest) q in
+        let filled = many-length nextNumber (count ns) ys (three .found .0) (three .found .1) (three .is) in
         subst Whole (ap (λ t. t .0) (some-inj (three .on))) filled
 
 abbrev WholeCall : Call → Type 0

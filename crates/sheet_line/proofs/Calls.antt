@@ -13,34 +13,34 @@ use Rattle.shape.proofs.Bools.{no-way}
 use Rattle.meaning.specs.Array.{Array}
 use Rattle.sheet_line.specs.declared.Read.{Read}
 use Rattle.sheet_line.specs.Numbers.{andThen, numbers}
-use Rattle.sheet_line.specs.Call.{maxLine, give, _then_, number, operand, Head, head, Call, call, allRead, callOf, lineCall, readOf, leftOf, rightOf, front, room}
+use Rattle.sheet_line.specs.Call.{maxLine, give, _then_, nextNumber, operand, Head, head, Call, call, allRead, callOf, lineCall, readOf, leftOf, rightOf, front, room}
 use Rattle.sheet_line.specs.Steps.{left, got}
 use Rattle.sheet_line.proofs.Readers.{then-bad, then-good}
 use Rattle.sheet_line.proofs.Round.{read-is-printing}
 
--- Number, origin and axis, taken one after the other.
-module _ (o : Option (List ℤ)) (has-number : Bool) (n : ℤ) (o₁ : Option (List ℤ)) (e₁ : andThen o number ≡ got has-number n o₁) where
-  pub no-primitive : has-number ≡ false → andThen o head ≡ none
+-- Primitive, origin and axis, taken one after the other.
+module _ (o : Option (List ℤ)) (has-primitive : Bool) (n : ℤ) (o₁ : Option (List ℤ)) (e₁ : andThen o nextNumber ≡ got has-primitive n o₁) where
+  pub no-primitive : has-primitive ≡ false → andThen o head ≡ none
   unfolding head
-  no-primitive g = then-bad number _ o (rw g at e₁)
+  no-primitive g = then-bad nextNumber _ o (rw g at e₁)
 
-  module _ (t₁ : has-number ≡ true) (has-origin : Bool) (G : ℤ) (o₂ : Option (List ℤ)) (e₂ : andThen o₁ number ≡ got has-origin G o₂) where
-    number-taken : andThen o head ≡ andThen o₁ (number then λ x. number then λ y. give (record { primitive = n; origin = x; axis = y }))
+  module _ (t₁ : has-primitive ≡ true) (has-origin : Bool) (G : ℤ) (o₂ : Option (List ℤ)) (e₂ : andThen o₁ nextNumber ≡ got has-origin G o₂) where
+    primitive-taken : andThen o head ≡ andThen o₁ (nextNumber then λ x. nextNumber then λ y. give (record { primitive = n; origin = x; axis = y }))
     unfolding head
-    number-taken = then-good number (λ w. number then λ x. number then λ y. give (record { primitive = w; origin = x; axis = y })) o n o₁ (rw t₁ at e₁)
+    primitive-taken = then-good nextNumber (λ w. nextNumber then λ x. nextNumber then λ y. give (record { primitive = w; origin = x; axis = y })) o n o₁ (rw t₁ at e₁)
 
     pub no-origin : has-origin ≡ false → andThen o head ≡ none
-    no-origin g = number-taken ∙ then-bad number _ o₁ (rw g at e₂)
+    no-origin g = primitive-taken ∙ then-bad nextNumber _ o₁ (rw g at e₂)
 
-    module _ (t₂ : has-origin ≡ true) (has-axis : Bool) (K : ℤ) (o₃ : Option (List ℤ)) (e₃ : andThen o₂ number ≡ got has-axis K o₃) where
-      origin-taken : andThen o head ≡ andThen o₂ (number then λ y. give (record { primitive = n; origin = G; axis = y }))
-      origin-taken = number-taken ∙ then-good number (λ x. number then λ y. give (record { primitive = n; origin = x; axis = y })) o₁ G o₂ (rw t₂ at e₂)
+    module _ (t₂ : has-origin ≡ true) (has-axis : Bool) (K : ℤ) (o₃ : Option (List ℤ)) (e₃ : andThen o₂ nextNumber ≡ got has-axis K o₃) where
+      origin-taken : andThen o head ≡ andThen o₂ (nextNumber then λ y. give (record { primitive = n; origin = G; axis = y }))
+      origin-taken = primitive-taken ∙ then-good nextNumber (λ x. nextNumber then λ y. give (record { primitive = n; origin = x; axis = y })) o₁ G o₂ (rw t₂ at e₂)
 
       pub no-axis : has-axis ≡ false → andThen o head ≡ none
-      no-axis g = origin-taken ∙ then-bad number _ o₂ (rw g at e₃)
+      no-axis g = origin-taken ∙ then-bad nextNumber _ o₂ (rw g at e₃)
 
       pub whole-head : has-axis ≡ true → andThen o head ≡ andThen o₃ (give (record { primitive = n; origin = G; axis = K }))
-      whole-head g = origin-taken ∙ then-good number (λ y. give (record { primitive = n; origin = G; axis = y })) o₂ K o₃ (rw g at e₃)
+      whole-head g = origin-taken ∙ then-good nextNumber (λ y. give (record { primitive = n; origin = G; axis = y })) o₂ K o₃ (rw g at e₃)
 
 -- Head, L and R, taken one after the other.
 module _ (a b : ℕ) (o : Option (List ℤ)) (has-head : Bool) (h : Head) (o₁ : Option (List ℤ)) (e₁ : andThen o head ≡ got has-head h o₁) where

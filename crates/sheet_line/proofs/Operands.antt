@@ -18,7 +18,7 @@ use Rattle.shape.proofs.Made.{made-is, made-counted}
 use Rattle.meaning.specs.Array.{Array}
 use Rattle.sheet_line.specs.declared.operand.Operand.{Operand}
 use Rattle.sheet_line.specs.Numbers.{andThen}
-use Rattle.sheet_line.specs.Call.{maxHeld, Reader, give, fail, _then_, number, natural, many, operand, front, room}
+use Rattle.sheet_line.specs.Call.{maxHeld, Reader, give, fail, _then_, nextNumber, natural, many, operand, front, room}
 use Rattle.sheet_line.specs.Steps.{left, got, Taken}
 use Rattle.sheet_line.proofs.Readers.{then-bad, then-good, fails}
 
@@ -50,7 +50,7 @@ made rank lens s n h l f e k =
 -- The operand that the rank, the lengths and the elements taken make.
 module _ (limit : ℕ) (o : Option (List ℤ)) (has-rank : Bool) (rank : ℕ) (o₁ : Option (List ℤ)) (e₁ : andThen o (natural maxRank) ≡ got has-rank rank o₁) where
   elementsOf : List ℕ → Reader Array
-  elementsOf ns = many number (count ns) then λ zs. give (record { lengths = ns; elements = zs })
+  elementsOf ns = many nextNumber (count ns) then λ zs. give (record { lengths = ns; elements = zs })
 
   lengthsOf : ℕ → Reader Array
   lengthsOf r = many (natural maxHeld) r then λ ns. cond (leb (count ns) limit) (elementsOf ns) fail
@@ -76,17 +76,17 @@ module _ (limit : ℕ) (o : Option (List ℤ)) (has-rank : Bool) (rank : ℕ) (o
       pub too-many : limit < count ns → andThen o (operand limit) ≡ none
       too-many h = lengths-taken ∙ rw (lt-leb (count ns) limit h) (fails o₂)
 
-      module _ (h : count ns ≤ limit) (has-elements : Bool) (zs : List ℤ) (o₃ : Option (List ℤ)) (e₃ : andThen o₂ (many number (count ns)) ≡ got has-elements zs o₃) where
+      module _ (h : count ns ≤ limit) (has-elements : Bool) (zs : List ℤ) (o₃ : Option (List ℤ)) (e₃ : andThen o₂ (many nextNumber (count ns)) ≡ got has-elements zs o₃) where
         count-within : andThen o (operand limit) ≡ andThen o₂ (elementsOf ns)
         count-within = lengths-taken ∙ rw (le-leb (count ns) limit h)
 
         pub no-elements : has-elements ≡ false → andThen o (operand limit) ≡ none
         unfolding elementsOf
-        no-elements g = count-within ∙ then-bad (many number (count ns)) _ o₂ (rw g at e₃)
+        no-elements g = count-within ∙ then-bad (many nextNumber (count ns)) _ o₂ (rw g at e₃)
 
         pub all-taken : has-elements ≡ true → andThen o (operand limit) ≡ andThen o₃ (give (record { lengths = ns; elements = zs }))
         unfolding elementsOf
-        all-taken g = count-within ∙ then-good (many number (count ns)) (λ xs. give (record { lengths = ns; elements = xs })) o₂ zs o₃ (rw g at e₃)
+        all-taken g = count-within ∙ then-good (many nextNumber (count ns)) (λ xs. give (record { lengths = ns; elements = xs })) o₂ zs o₃ (rw g at e₃)
 
 -- No operand.
 module _ (line : List ℕ) (at : ℕ) (before after : List ℤ) (r : Operand) where

@@ -9,7 +9,7 @@ use borrow.Author.Tests.{le-leb, lt-leb}
 use Rattle.shape.proofs.Bools.{no-way}
 use Rattle.meaning.specs.Terms.{negative}
 use Rattle.sheet_line.specs.Numbers.{andThen}
-use Rattle.sheet_line.specs.Call.{Reader, give, fail, _then_, number, upTo, natural, many}
+use Rattle.sheet_line.specs.Call.{Reader, give, fail, _then_, nextNumber, upTo, natural, many}
 use Rattle.sheet_line.specs.Steps.{got}
 
 module _ {A B : Type 0} (p : Reader A) (q : A → Reader B) (o : Option (List ℤ)) where
@@ -52,14 +52,14 @@ module _ (m : ℕ) (o : Option (List ℤ)) where
   up-good (negsuc n) h k = no-way (sym h)
 
 -- A number from 0 to m, by the number that was taken.
-module _ (m : ℕ) (o rest : Option (List ℤ)) (good : Bool) (z : ℤ) (e : andThen o number ≡ got good z rest) where
+module _ (m : ℕ) (o rest : Option (List ℤ)) (good : Bool) (z : ℤ) (e : andThen o nextNumber ≡ got good z rest) where
   pub no-natural : good ≡ false → andThen o (natural m) ≡ none
   unfolding natural
-  no-natural g = then-bad number (upTo m) o (rw g at e)
+  no-natural g = then-bad nextNumber (upTo m) o (rw g at e)
 
   taken : good ≡ true → andThen o (natural m) ≡ andThen rest (upTo m z)
   unfolding natural
-  taken g = then-good number (upTo m) o z rest (rw g at e)
+  taken g = then-good nextNumber (upTo m) o z rest (rw g at e)
 
   pub natural-negative : good ≡ true → negative z ≡ true → andThen o (natural m) ≡ none
   natural-negative g h = taken g ∙ up-negative m rest z h

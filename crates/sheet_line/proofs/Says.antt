@@ -14,7 +14,7 @@ use Rattle.meaning.specs.Array.{Array}
 use Rattle.meaning.specs.Terms.{every}
 use Rattle.sheet_line.specs.Text.{printed}
 use Rattle.sheet_line.specs.Numbers.{andThen, fits, numbers}
-use Rattle.sheet_line.specs.Call.{maxLine, maxHeld, Reader, give, fail, _then_, number, upTo, natural, many, operand, Head, head, Call, call, operandNumbers, callNumbers, allRead, callOf, lineCall}
+use Rattle.sheet_line.specs.Call.{maxLine, maxHeld, Reader, give, fail, _then_, nextNumber, upTo, natural, many, operand, Head, head, Call, call, operandNumbers, callNumbers, allRead, callOf, lineCall}
 use Rattle.sheet_line.proofs.Options.{none-some, some-inj, passed, if-some}
 use Rattle.sheet_line.proofs.Round.{printed-is-read, read-is-printing}
 
@@ -29,7 +29,7 @@ same f e = let t = taken e in rw (t .0, t .1)
 joined : {A : Type 0} (f : A → List ℤ) {a b : A} {x y zs : List ℤ} → _≡_ {A = Option (A × List ℤ)} (some (a, x)) (some (b, y)) → f a ++ x ≡ zs → f b ++ y ≡ zs
 joined f e q = same f e ∙ q
 
-number-undone : (zs : List ℤ) (z : ℤ) (rest : List ℤ) → number zs ≡ some (z, rest) → z ∷ rest ≡ zs
+number-undone : (zs : List ℤ) (z : ℤ) (rest : List ℤ) → nextNumber zs ≡ some (z, rest) → z ∷ rest ≡ zs
 number-undone [] a rest e = none-some e
 number-undone (z ∷ zs) a rest e = let t = taken e in rw (← t .0, ← t .1)
 
@@ -44,7 +44,7 @@ up-undone m (negsuc k) zs n rest e = none-some e
 natural-undone : (m : ℕ) (zs : List ℤ) (n : ℕ) (rest : List ℤ) → natural m zs ≡ some (n, rest) → pos n ∷ rest ≡ zs
 unfolding natural
 natural-undone m zs n rest e =
-    let p = passed (number zs) (λ t. upTo m (t .0) (t .1)) (n, rest) e in
+    let p = passed (nextNumber zs) (λ t. upTo m (t .0) (t .1)) (n, rest) e in
     let u = up-undone m (p .found .0) (p .found .1) n rest (p .on) in
     let q = number-undone zs (p .found .0) (p .found .1) (p .is) in
     cc
@@ -60,8 +60,8 @@ module _ {A : Type 0} (p : Reader A) (w : A → ℤ) (undone : (zs : List ℤ) (
       let ih = many-undone n (one .found .1) (others .found .0) (others .found .1) (others .is) in
       (same (map w) (others .on) ∙ ap (λ l. w a ∷ l) (ih .0) ∙ undone zs a (one .found .1) (one .is), sym (ap length (taken (others .on) .0)) ∙ ap suc (ih .1))
 
-elements-undone : (n : ℕ) (zs xs rest : List ℤ) → many number n zs ≡ some (xs, rest) → xs ++ rest ≡ zs
-elements-undone n zs xs rest e = rw (map-id xs) at (many-undone number (λ z. z) number-undone n zs xs rest e .0)
+elements-undone : (n : ℕ) (zs xs rest : List ℤ) → many nextNumber n zs ≡ some (xs, rest) → xs ++ rest ≡ zs
+elements-undone n zs xs rest e = rw (map-id xs) at (many-undone nextNumber (λ z. z) number-undone n zs xs rest e .0)
 
 operand-undone : (limit : ℕ) (zs : List ℤ) (a : Array) (rest : List ℤ) → operand limit zs ≡ some (a, rest) → operandNumbers a ++ rest ≡ zs
 unfolding operand operandNumbers
@@ -74,11 +74,11 @@ operand-undone limit zs a rest e =
     let whole = by-test ns (two .found .1) (leb (count ns) limit) (two .on) in
     whole ∙ ap (λ l. pos (length ns) ∷ l) (measured .0) ∙ rw (measured .1) ranked
   where
-    by-test : (ns : List ℕ) (ys : List ℤ) (t : Bool) → cond t (many number (count ns) then λ xs. give (record { lengths = ns; elements = xs })) fail ys ≡ some (a, rest)
+    by-test : (ns : List ℕ) (ys : List ℤ) (t : Bool) → cond t (many nextNumber (count ns) then λ xs. give (record { lengths = ns; elements = xs })) fail ys ≡ some (a, rest)
         → (pos (length (a .lengths)) ∷ map pos (a .lengths) ++ a .elements) ++ rest ≡ pos (length ns) ∷ map pos ns ++ ys
     by-test ns ys false q = none-some q
     by-test ns ys true q =
-        let three = passed (many number (count ns) ys) (λ t. give (record { lengths = ns; elements = t .0 }) (t .1)) (a, rest) q in
+        let three = passed (many nextNumber (count ns) ys) (λ t. give (record { lengths = ns; elements = t .0 }) (t .1)) (a, rest) q in
         let filled = elements-undone (count ns) ys (three .found .0) (three .found .1) (three .is) in
         same operandNumbers (three .on) ∙ ap (λ l. pos (length ns) ∷ l) (append-assoc (map pos ns) (three .found .0) (three .found .1) ∙ ap (λ l. map pos ns ++ l) filled)
 
@@ -88,9 +88,9 @@ three {x} {y} p q r = ap (λ l. x ∷ y ∷ l) r ∙ ap (λ l. x ∷ l) q ∙ p
 head-undone : (zs : List ℤ) (h : Head) (rest : List ℤ) → head zs ≡ some (h, rest) → h .primitive ∷ h .origin ∷ h .axis ∷ rest ≡ zs
 unfolding head
 head-undone zs h rest e =
-    let one = passed (number zs) _ (h, rest) e in
-    let two = passed (number (one .found .1)) _ (h, rest) (one .on) in
-    let third = passed (number (two .found .1)) _ (h, rest) (two .on) in
+    let one = passed (nextNumber zs) _ (h, rest) e in
+    let two = passed (nextNumber (one .found .1)) _ (h, rest) (one .on) in
+    let third = passed (nextNumber (two .found .1)) _ (h, rest) (two .on) in
     joined (λ x. x .primitive ∷ x .origin ∷ x .axis ∷ []) (third .on)
     (three
     (number-undone zs (one .found .0) (one .found .1) (one .is))
@@ -155,8 +155,8 @@ unfolding every
 all-true [] = refl
 all-true (z ∷ zs) = all-true zs
 
-elements-again : (zs rest : List ℤ) → many number (length zs) (zs ++ rest) ≡ some (zs, rest)
-elements-again zs rest = rw (map-id zs) at (many-again number (λ z. z) (λ z. true) (λ z r h. refl) zs rest (all-true zs))
+elements-again : (zs rest : List ℤ) → many nextNumber (length zs) (zs ++ rest) ≡ some (zs, rest)
+elements-again zs rest = rw (map-id zs) at (many-again nextNumber (λ z. z) (λ z. true) (λ z r h. refl) zs rest (all-true zs))
 
 operand-again : (limit : ℕ) (a : Array) (rest : List ℤ) → Held limit a → operand limit (operandNumbers a ++ rest) ≡ some (a, rest)
 unfolding operand operandNumbers

@@ -19,10 +19,10 @@ pub const MAX_LINE: usize = 16384;
 // The largest length and count on a line.
 pub const MAX_HELD: usize = 1024;
 
-// Number, origin and axis, and the place of the next number.
+// Primitive, origin and axis, and the place of the next number.
 struct Head {
     good: bool,
-    number: i32,
+    primitive: i32,
     origin: i32,
     axis: i32,
     next: usize,
@@ -33,7 +33,7 @@ fn no_head() -> Head
 {
     Head {
         good: false,
-        number: 0,
+        primitive: 0,
         origin: 0,
         axis: 0,
         next: 0,
@@ -41,12 +41,12 @@ fn no_head() -> Head
 }
 
 fn head_at(line: &[u8], at: usize) -> Head
-    ensures { λ r. ⌜ andThen (left (now (line .entry)) at) head ≡ got (r .good) (record { primitive = r .number; origin = r .origin; axis = r .axis }) (left (now (line .entry)) (r .next)) ⌝ }
+    ensures { λ r. ⌜ andThen (left (now (line .entry)) at) head ≡ got (r .good) (record { primitive = r .primitive; origin = r .origin; axis = r .axis }) (left (now (line .entry)) (r .next)) ⌝ }
 {
     let n = number_at(line, at);
-    let has_number = n.good;
-    let number = n.value;
-    if !has_number {
+    let has_primitive = n.good;
+    let primitive = n.value;
+    if !has_primitive {
         return no_head();
     }
     let g = number_at(line, n.next);
@@ -63,14 +63,14 @@ fn head_at(line: &[u8], at: usize) -> Head
     }
     Head {
         good: true,
-        number,
+        primitive,
         origin,
         axis,
         next: k.next,
     }
 }
 
-// What a line says: a call's number, origin, axis and the shapes of its operands, or that it is bad.
+// What a line says: a call's primitive as its `number`, its origin and axis and the shapes of its operands, or that it is bad.
 pub struct Read {
     pub good: bool,
     pub number: i32,
@@ -98,9 +98,9 @@ impl Read {
 }
 
 fn answered(head: Head, left: Shape, right: Shape) -> Read
-    ensures { λ r. ⌜ r ≡ record { good = true; number = head .number; origin = head .origin; axis = head .axis; left = left; right = right } ⌝ }
+    ensures { λ r. ⌜ r ≡ record { good = true; number = head .primitive; origin = head .origin; axis = head .axis; left = left; right = right } ⌝ }
 {
-    let number = head.number;
+    let number = head.primitive;
     let origin = head.origin;
     let axis = head.axis;
     Read {

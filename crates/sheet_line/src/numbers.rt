@@ -6,7 +6,7 @@ ghost use mathlib.Core.Option.{none, some};
 ghost use lib.Dec.{leb};
 ghost use lib.ListN.{length, drop};
 ghost use Rattle.sheet_line.specs.Numbers.{andThen, Begun, digitOf, first, ended, scan};
-ghost use Rattle.sheet_line.specs.Call.{number};
+ghost use Rattle.sheet_line.specs.Call.{nextNumber};
 ghost use Rattle.sheet_line.specs.Steps.{left, got, numberOf};
 
 // A number, and the place of the next one.
@@ -16,8 +16,8 @@ pub struct Number {
     pub next: usize,
 }
 
-// The largest size of a number, of the least number.
-const MAX_SIZE: usize = 2147483648;
+// The largest magnitude of a number, of the least number.
+const MAX_MAGNITUDE: usize = 2147483648;
 
 fn no_number() -> Number
     ensures { λ r. ⌜ r ≡ numberOf none 0 ⌝ }
@@ -29,14 +29,14 @@ fn no_number() -> Number
     }
 }
 
-// The number of a sign and a size. The least number has no opposite in 32 bits.
-fn whole(negative: bool, size: usize, next: usize) -> Number
-    ensures { λ r. ⌜ r ≡ numberOf (ended (Begun.size negative size)) next ⌝ }
+// The number of a sign and a magnitude. The least number has no opposite in 32 bits.
+fn whole(negative: bool, magnitude: usize, next: usize) -> Number
+    ensures { λ r. ⌜ r ≡ numberOf (ended (Begun.size negative magnitude)) next ⌝ }
 {
-    if MAX_SIZE < size {
+    if MAX_MAGNITUDE < magnitude {
         return no_number();
     }
-    if size == MAX_SIZE {
+    if magnitude == MAX_MAGNITUDE {
         if !negative {
             return no_number();
         }
@@ -46,7 +46,7 @@ fn whole(negative: bool, size: usize, next: usize) -> Number
             next,
         };
     }
-    let n = size as i32;
+    let n = magnitude as i32;
     let value = if negative { 0 - n } else { n };
     Number {
         good: true,
@@ -65,7 +65,7 @@ fn digit_value(b: u8) -> usize
 // What follows a 0: the number ends here.
 fn after_zero(line: &[u8], at: usize) -> Number
     requires { ⌜ at ≤ length (now line) ⌝ }
-    ensures { λ r. ⌜ andThen (scan (Begun.size false 0) (drop at (now (line .entry)))) number ≡ got (r .good) (r .value) (left (now (line .entry)) (r .next)) ⌝ }
+    ensures { λ r. ⌜ andThen (scan (Begun.size false 0) (drop at (now (line .entry)))) nextNumber ≡ got (r .good) (r .value) (left (now (line .entry)) (r .next)) ⌝ }
 {
     if line.len() <= at {
         return whole(false, 0, at + 1);
@@ -76,10 +76,10 @@ fn after_zero(line: &[u8], at: usize) -> Number
     no_number()
 }
 
-// The digits after the first one, which is not 0. A size that is too large stays so.
+// The digits after the first one, which is not 0. A magnitude that is too large stays so.
 fn after_digit(line: &[u8], at: usize, negative: bool, first: usize) -> Number
     requires { ⌜ (at ≤ length (now line)) × (0 < first) ⌝ }
-    ensures { λ r. ⌜ andThen (scan (Begun.size negative first) (drop at (now (line .entry)))) number ≡ got (r .good) (r .value) (left (now (line .entry)) (r .next)) ⌝ }
+    ensures { λ r. ⌜ andThen (scan (Begun.size negative first) (drop at (now (line .entry)))) nextNumber ≡ got (r .good) (r .value) (left (now (line .entry)) (r .next)) ⌝ }
 {
     let mut n = first;
     let mut i = at;
@@ -92,7 +92,7 @@ fn after_digit(line: &[u8], at: usize, negative: bool, first: usize) -> Number
             }
             break;
         }
-        if MAX_SIZE < n {
+        if MAX_MAGNITUDE < n {
             return no_number();
         }
         n = n * 10 + d;
@@ -104,7 +104,7 @@ fn after_digit(line: &[u8], at: usize, negative: bool, first: usize) -> Number
 // A number from its first digit on, whose byte is b.
 fn from_digit(line: &[u8], at: usize, negative: bool, b: u8) -> Number
     requires { ⌜ at ≤ length (now line) ⌝ }
-    ensures { λ r. ⌜ andThen (andThen (first negative b) (λ t. scan t (drop at (now (line .entry))))) number ≡ got (r .good) (r .value) (left (now (line .entry)) (r .next)) ⌝ }
+    ensures { λ r. ⌜ andThen (andThen (first negative b) (λ t. scan t (drop at (now (line .entry))))) nextNumber ≡ got (r .good) (r .value) (left (now (line .entry)) (r .next)) ⌝ }
 {
     let d = digit_value(b);
     if 9 < d {
@@ -121,7 +121,7 @@ fn from_digit(line: &[u8], at: usize, negative: bool, b: u8) -> Number
 
 // The number at a place.
 pub fn number_at(line: &[u8], at: usize) -> Number
-    ensures { λ r. ⌜ andThen (left (now (line .entry)) at) number ≡ got (r .good) (r .value) (left (now (line .entry)) (r .next)) ⌝ }
+    ensures { λ r. ⌜ andThen (left (now (line .entry)) at) nextNumber ≡ got (r .good) (r .value) (left (now (line .entry)) (r .next)) ⌝ }
 {
     if line.len() <= at {
         return no_number();

@@ -5,7 +5,7 @@ ghost use mathlib.Core.Bool.{true, false};
 ghost use lib.ListN.{length, take, drop};
 ghost use Rattle.shape.specs.Shape.{maxRank, small, scalar};
 ghost use Rattle.sheet_line.specs.Numbers.{andThen};
-ghost use Rattle.sheet_line.specs.Call.{maxHeld, number, natural, many};
+ghost use Rattle.sheet_line.specs.Call.{maxHeld, nextNumber, natural, many};
 ghost use Rattle.sheet_line.specs.Steps.{left, got, Taken};
 use crate::MAX_HELD;
 use crate::numbers::number_at;
@@ -102,7 +102,7 @@ fn lengths_at(line: &[u8], at: usize, rank: usize) -> Lengths
 // The elements go to the front of `out`.
 fn elements_at(line: &[u8], at: usize, count: usize, out: &mut [i32]) -> Elements
     requires { ⌜ count ≤ length (now out) ⌝ }
-    ensures taken { λ r. ⌜ andThen (left (now (line .entry)) at) (many number count) ≡ got (r .good) (take count (now (out .exit))) (left (now (line .entry)) (r .next)) ⌝ }
+    ensures taken { λ r. ⌜ andThen (left (now (line .entry)) at) (many nextNumber count) ≡ got (r .good) (take count (now (out .exit))) (left (now (line .entry)) (r .next)) ⌝ }
     ensures rest { λ r. ⌜ drop count (now (out .exit)) ≡ drop count (now (out .entry)) ⌝ }
 {
     let mut place = at;

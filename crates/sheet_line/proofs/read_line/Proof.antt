@@ -27,7 +27,7 @@ returns-2 c =
     let r = st .args .r .now in
     let h = c .before .before .head-at in
     bad-line line l l r r (c .bad2 .result) (refl, refl) (c .bad2 .ensures)
-    (no-call (room l) (room r) line (c .before .before .before .if1 .left) (no-head (room l) (room r) (left line 0) (h .result .good) (record { primitive = h .result .number; origin = h .result .origin; axis = h .result .axis }) (left line (h .result .next)) (h .ensures) (not-true (h .result .good) (c .before .if2 .taken))))
+    (no-call (room l) (room r) line (c .before .before .before .if1 .left) (no-head (room l) (room r) (left line 0) (h .result .good) (record { primitive = h .result .primitive; origin = h .result .origin; axis = h .result .axis }) (left line (h .result .next)) (h .ensures) (not-true (h .result .good) (c .before .if2 .taken))))
 
 returns-3 : tie.Need-returns-3
 returns-3 c =
@@ -39,7 +39,7 @@ returns-3 c =
     let L = c .before .before .before .operand-at in
     let l′ = L .last .1 .1 .0 in
     bad-line line l l′ r r (c .bad3 .result) (L .kept .1 .1 .0, refl) (c .bad3 .ensures)
-    (no-call (room l) (room r) line (c .before .before .before .before .before .before .before .if1 .left) (no-left (room l) (room r) (left line 0) (h .result .good) (record { primitive = h .result .number; origin = h .result .origin; axis = h .result .axis }) (left line (h .result .next)) (h .ensures) (not-false (h .result .good) (c .before .before .before .before .before .if2 .left)) (L .result .good) (record { lengths = counted (L .result .shape); elements = take (count (counted (L .result .shape))) l′ }) (left line (L .result .next)) (L .ensures .read) (not-true (L .result .good) (c .before .if3 .taken))))
+    (no-call (room l) (room r) line (c .before .before .before .before .before .before .before .if1 .left) (no-left (room l) (room r) (left line 0) (h .result .good) (record { primitive = h .result .primitive; origin = h .result .origin; axis = h .result .axis }) (left line (h .result .next)) (h .ensures) (not-false (h .result .good) (c .before .before .before .before .before .if2 .left)) (L .result .good) (record { lengths = counted (L .result .shape); elements = take (count (counted (L .result .shape))) l′ }) (left line (L .result .next)) (L .ensures .read) (not-true (L .result .good) (c .before .if3 .taken))))
 
 returns-4 : tie.Need-returns-4
 returns-4 c =
@@ -53,7 +53,7 @@ returns-4 c =
     let R = c .before .before .before .operand-at2 in
     let r′ = R .last .1 .1 .0 in
     bad-line line l l′ r r′ (c .bad4 .result) (L .kept .1 .1 .0, R .kept .1 .1 .0) (c .bad4 .ensures)
-    (no-call (room l) (room r) line (c .before .before .before .before .before .before .before .before .before .before .before .if1 .left) (no-right (room l) (room r) (left line 0) (h .result .good) (record { primitive = h .result .number; origin = h .result .origin; axis = h .result .axis }) (left line (h .result .next)) (h .ensures) (not-false (h .result .good) (c .before .before .before .before .before .before .before .before .before .if2 .left)) (L .result .good) (record { lengths = counted (L .result .shape); elements = take (count (counted (L .result .shape))) l′ }) (left line (L .result .next)) (L .ensures .read) (not-false (L .result .good) (c .before .before .before .before .before .if3 .left)) (R .result .good) (record { lengths = counted (R .result .shape); elements = take (count (counted (R .result .shape))) r′ }) (left line (R .result .next)) (R .ensures .read) (not-true (R .result .good) (c .before .if4 .taken))))
+    (no-call (room l) (room r) line (c .before .before .before .before .before .before .before .before .before .before .before .if1 .left) (no-right (room l) (room r) (left line 0) (h .result .good) (record { primitive = h .result .primitive; origin = h .result .origin; axis = h .result .axis }) (left line (h .result .next)) (h .ensures) (not-false (h .result .good) (c .before .before .before .before .before .before .before .before .before .if2 .left)) (L .result .good) (record { lengths = counted (L .result .shape); elements = take (count (counted (L .result .shape))) l′ }) (left line (L .result .next)) (L .ensures .read) (not-false (L .result .good) (c .before .before .before .before .before .if3 .left)) (R .result .good) (record { lengths = counted (R .result .shape); elements = take (count (counted (R .result .shape))) r′ }) (left line (R .result .next)) (R .ensures .read) (not-true (R .result .good) (c .before .if4 .taken))))
 
 returns-5 : tie.Need-returns-5
 returns-5 c =
@@ -67,7 +67,7 @@ returns-5 c =
     let R = c .before .before .before .before .operand-at2 in
     let r′ = R .last .1 .1 .0 in
     bad-line line l l′ r r′ (c .bad5 .result) (L .kept .1 .1 .0, R .kept .1 .1 .0) (c .bad5 .ensures)
-    (left-over (room l) (room r) line (c .before .before .before .before .before .before .before .before .before .before .before .before .if1 .left) _ (R .result .next) (whole-call (room l) (room r) (left line 0) (h .result .good) (record { primitive = h .result .number; origin = h .result .origin; axis = h .result .axis }) (left line (h .result .next)) (h .ensures) (not-false (h .result .good) (c .before .before .before .before .before .before .before .before .before .before .if2 .left)) (L .result .good) (record { lengths = counted (L .result .shape); elements = take (count (counted (L .result .shape))) l′ }) (left line (L .result .next)) (L .ensures .read) (not-false (L .result .good) (c .before .before .before .before .before .before .if3 .left)) (R .result .good) (record { lengths = counted (R .result .shape); elements = take (count (counted (R .result .shape))) r′ }) (left line (R .result .next)) (R .ensures .read) (not-false (R .result .good) (c .before .before .if4 .left))) (omega (arith, c .before .if5 .taken)))
+    (left-over (room l) (room r) line (c .before .before .before .before .before .before .before .before .before .before .before .before .if1 .left) _ (R .result .next) (whole-call (room l) (room r) (left line 0) (h .result .good) (record { primitive = h .result .primitive; origin = h .result .origin; axis = h .result .axis }) (left line (h .result .next)) (h .ensures) (not-false (h .result .good) (c .before .before .before .before .before .before .before .before .before .before .if2 .left)) (L .result .good) (record { lengths = counted (L .result .shape); elements = take (count (counted (L .result .shape))) l′ }) (left line (L .result .next)) (L .ensures .read) (not-false (L .result .good) (c .before .before .before .before .before .before .if3 .left)) (R .result .good) (record { lengths = counted (R .result .shape); elements = take (count (counted (R .result .shape))) r′ }) (left line (R .result .next)) (R .ensures .read) (not-false (R .result .good) (c .before .before .if4 .left))) (omega (arith, c .before .if5 .taken)))
 
 returns-6 : tie.Need-returns-6
 returns-6 c =
@@ -80,12 +80,12 @@ returns-6 c =
     let l′ = L .last .1 .1 .0 in
     let R = c .before .before .before .before .before .before .operand-at2 in
     let r′ = R .last .1 .1 .0 in
-    let called : Call = record { head = record { primitive = h .result .number; origin = h .result .origin; axis = h .result .axis }; left = record { lengths = counted (L .result .shape); elements = take (count (counted (L .result .shape))) l′ }; right = record { lengths = counted (R .result .shape); elements = take (count (counted (R .result .shape))) r′ } } in
+    let called : Call = record { head = record { primitive = h .result .primitive; origin = h .result .origin; axis = h .result .axis }; left = record { lengths = counted (L .result .shape); elements = take (count (counted (L .result .shape))) l′ }; right = record { lengths = counted (R .result .shape); elements = take (count (counted (R .result .shape))) r′ } } in
     let is-left : L .result .good ≡ true = not-false (L .result .good) (c .before .before .before .before .before .before .before .before .if3 .left) in
     let is-right : R .result .good ≡ true = not-false (R .result .good) (c .before .before .before .before .if4 .left) in
     good-line line l l′ r r′ (c .answered .result) (L .kept .1 .1 .0, R .kept .1 .1 .0) called
-    (c .answered .ensures ∙ same-answer (h .result .number) (h .result .origin) (h .result .axis) (L .result .shape) (shapeOf (counted (L .result .shape))) (R .result .shape) (shapeOf (counted (R .result .shape))) (L .ensures .shape) (R .ensures .shape))
-    (line-call (room l) (room r) line (c .before .before .before .before .before .before .before .before .before .before .before .before .before .before .if1 .left) called (R .result .next) (whole-call (room l) (room r) (left line 0) (h .result .good) (record { primitive = h .result .number; origin = h .result .origin; axis = h .result .axis }) (left line (h .result .next)) (h .ensures) (not-false (h .result .good) (c .before .before .before .before .before .before .before .before .before .before .before .before .if2 .left)) (L .result .good) (record { lengths = counted (L .result .shape); elements = take (count (counted (L .result .shape))) l′ }) (left line (L .result .next)) (L .ensures .read) (not-false (L .result .good) (c .before .before .before .before .before .before .before .before .if3 .left)) (R .result .good) (record { lengths = counted (R .result .shape); elements = take (count (counted (R .result .shape))) r′ }) (left line (R .result .next)) (R .ensures .read) is-right) (omega (arith, c .before .before .before .if5 .left)))
+    (c .answered .ensures ∙ same-answer (h .result .primitive) (h .result .origin) (h .result .axis) (L .result .shape) (shapeOf (counted (L .result .shape))) (R .result .shape) (shapeOf (counted (R .result .shape))) (L .ensures .shape) (R .ensures .shape))
+    (line-call (room l) (room r) line (c .before .before .before .before .before .before .before .before .before .before .before .before .before .before .if1 .left) called (R .result .next) (whole-call (room l) (room r) (left line 0) (h .result .good) (record { primitive = h .result .primitive; origin = h .result .origin; axis = h .result .axis }) (left line (h .result .next)) (h .ensures) (not-false (h .result .good) (c .before .before .before .before .before .before .before .before .before .before .before .before .if2 .left)) (L .result .good) (record { lengths = counted (L .result .shape); elements = take (count (counted (L .result .shape))) l′ }) (left line (L .result .next)) (L .ensures .read) (not-false (L .result .good) (c .before .before .before .before .before .before .before .before .if3 .left)) (R .result .good) (record { lengths = counted (R .result .shape); elements = take (count (counted (R .result .shape))) r′ }) (left line (R .result .next)) (R .ensures .read) is-right) (omega (arith, c .before .before .before .if5 .left)))
     (L .ensures .stored is-left)
     (R .ensures .stored is-right)
 

@@ -12,7 +12,7 @@ use mir.Facts.{toZ-ofZ}
 use borrow.Author.Needs.{needs}
 use borrow.Author.Tests.{not-true, not-false}
 use Rattle.sheet_line.specs.Numbers.{andThen}
-use Rattle.sheet_line.specs.Call.{number, many}
+use Rattle.sheet_line.specs.Call.{nextNumber, many}
 use Rattle.sheet_line.specs.Steps.{left}
 use Rattle.sheet_line.proofs.Readers.{after, many-start, many-stop, many-more, many-end}
 use Rattle.sheet_line.proofs.operand.elements_at.Statement.{statement}
@@ -23,7 +23,7 @@ Inv-loop line at count out₀ place₀ i₀ out place i =
     (i ≤ count)
     × ((length out ≡ length out₀)
     × ((drop count out ≡ drop count out₀)
-    × (andThen (left line at) (many number count) ≡ andThen (left line place) (after number (take i out) (count - i)))))
+    × (andThen (left line at) (many nextNumber count) ≡ andThen (left line place) (after nextNumber (take i out) (count - i)))))
 
 abbrev μ-loop : tie.MeasureT-loop
 μ-loop line at count out₀ place₀ i₀ out place i = count - i
@@ -34,7 +34,7 @@ value-is c = toZ-ofZ (search needs)
 loop-holds : tie.Need-loop-holds Inv-loop μ-loop
 loop-holds c =
     let st = c .before in
-    (omega arith, (refl, (refl, rw sub-zero (many-start number (st .args .count) (left (st .args .line .now) (st .args .at))))))
+    (omega arith, (refl, (refl, rw sub-zero (many-start nextNumber (st .args .count) (left (st .args .line .now) (st .args .at))))))
 
 returns : tie.Need-returns Inv-loop μ-loop
 returns c =
@@ -43,7 +43,7 @@ returns c =
     let z = c .before .before .number-at in
     let j : st .args .count - lp .i ≡ suc (st .args .count - (lp .i + 1)) = omega arith in (
       lp .inv .1 .1 .1
-          ∙ many-stop number (take (lp .i) (lp .out)) (st .args .count - lp .i) (st .args .count - (lp .i + 1)) j (left (st .args .line .now) (lp .place)) (z .result .good) (z .result .value) (left (st .args .line .now) (z .result .next)) (z .ensures) (not-true (z .result .good) (c .if1 .taken)),
+          ∙ many-stop nextNumber (take (lp .i) (lp .out)) (st .args .count - lp .i) (st .args .count - (lp .i + 1)) j (left (st .args .line .now) (lp .place)) (z .result .good) (z .result .value) (left (st .args .line .now) (z .result .next)) (z .ensures) (not-true (z .result .good) (c .if1 .taken)),
       lp .inv .1 .1 .0,
     )
 
@@ -63,7 +63,7 @@ loop-again c =
           drop-set-lt (st .args .count) (lp .out) (lp .i) v (omega arith) ∙ lp .inv .1 .1 .0,
           rw one
               (lp .inv .1 .1 .1
-              ∙ many-more number (take (lp .i) (lp .out)) (st .args .count - lp .i) (st .args .count - (lp .i + 1)) j (left (st .args .line .now) (lp .place)) (z .result .good) v (left (st .args .line .now) (z .result .next)) (z .ensures) (not-false (z .result .good) (c .if1 .left))),
+              ∙ many-more nextNumber (take (lp .i) (lp .out)) (st .args .count - lp .i) (st .args .count - (lp .i + 1)) j (left (st .args .line .now) (lp .place)) (z .result .good) v (left (st .args .line .now) (z .result .next)) (z .ensures) (not-false (z .result .good) (c .if1 .left))),
         ),
       ),
     )
@@ -73,7 +73,7 @@ returns-2 c =
     let st = c .before .before .before in
     let lp = c .before .loop in
     let e : lp .i ≡ st .args .count = omega arith in (
-      rw (← e) (rw (← e) at (lp .inv .1 .1 .1) ∙ many-end number (take (lp .i) (lp .out)) (lp .i - lp .i) (left (st .args .line .now) (lp .place)) (omega arith)),
+      rw (← e) (rw (← e) at (lp .inv .1 .1 .1) ∙ many-end nextNumber (take (lp .i) (lp .out)) (lp .i - lp .i) (left (st .args .line .now) (lp .place)) (omega arith)),
       lp .inv .1 .1 .0,
     )
 

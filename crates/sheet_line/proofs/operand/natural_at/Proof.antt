@@ -23,8 +23,8 @@ sign-is c = rw (value-is (c .before .before)) at (c .negative .ensures)
 natural-is : (c : tie.Else2) → negative (c .before .before .before .before .number-at .result .value) ≡ false
 natural-is c = sym (sign-is (c .before)) ∙ c .if2 .left
 
-size-is : (c : tie.After-magnitude) → c .magnitude .result ≡ natAbs (c .before .before .before .before .before .number-at .result .value)
-size-is c = rw (value-is (c .before .before .before .before)) at (c .magnitude .ensures)
+magnitude-is : (c : tie.After-magnitude) → c .magnitude .result ≡ natAbs (c .before .before .before .before .before .number-at .result .value)
+magnitude-is c = rw (value-is (c .before .before .before .before)) at (c .magnitude .ensures)
 
 returns : tie.Need-returns
 returns c =
@@ -46,15 +46,15 @@ returns-3 c =
     let st = c .before .before .before .before .before .before .before .before .before in
     let e = c .before .before .before .before .before .before .before .number-at in
     let m = c .no-natural3 .ensures in
-    let over : st .args .most < natAbs (e .result .value) = rw (size-is (c .before .before)) at (c .before .if3 .taken) in
+    let over : st .args .most < natAbs (e .result .value) = rw (magnitude-is (c .before .before)) at (c .before .if3 .taken) in
     (rw (m .0) (natural-over (st .args .most) (left (st .args .line .now) (st .args .at)) (left (st .args .line .now) (e .result .next)) (e .result .good) (e .result .value) (e .ensures) (not-false _ (c .before .before .before .before .before .if1 .left)) (natural-is (c .before .before .before)) over), rw (m .1) (omega arith))
 
 returns-4 : tie.Need-returns-4
 returns-4 c =
     let st = c .before .before .before .before .before .before .before .before in
     let e = c .before .before .before .before .before .before .number-at in
-    let under : natAbs (e .result .value) ≤ st .args .most = rw (size-is (c .before)) at (c .if3 .left) in
-    (rw (size-is (c .before)) (natural-good (st .args .most) (left (st .args .line .now) (st .args .at)) (left (st .args .line .now) (e .result .next)) (e .result .good) (e .result .value) (e .ensures) (not-false _ (c .before .before .before .before .if1 .left)) (natural-is (c .before .before)) under), c .if3 .left)
+    let under : natAbs (e .result .value) ≤ st .args .most = rw (magnitude-is (c .before)) at (c .if3 .left) in
+    (rw (magnitude-is (c .before)) (natural-good (st .args .most) (left (st .args .line .now) (st .args .at)) (left (st .args .line .now) (e .result .next)) (e .result .good) (e .result .value) (e .ensures) (not-false _ (c .before .before .before .before .if1 .left)) (natural-is (c .before .before)) under), c .if3 .left)
 
 pub natural-at-spec : {M : Type 1} → statement M
 natural-at-spec =
