@@ -14,8 +14,8 @@ use lib.IntN.{ℤ}
 use borrow.Author.Tests.{le-leb, lt-leb, ne-eqb, eqb-true, eqb-false}
 use Rattle.sheet_line.specs.Text as Text
 use Rattle.sheet_line.specs.Numbers.{andThen, Begun, nothing, minus, size, digitOf, first, more, ended, scan, numbers}
-use Rattle.sheet_line.specs.Call.{nextNumber}
-use Rattle.sheet_line.specs.Steps.{left, got, numberOf}
+use Rattle.sheet_line.specs.Call.{give, nextNumber}
+use Rattle.sheet_line.specs.Steps.{left, readAt, numberOf, numberTaken}
 use Rattle.sheet_line.proofs.Sizes.{size-over}
 use Rattle.sheet_line.proofs.Options.{none-some}
 use Rattle.sheet_line.proofs.Scan.{digit-of, scan-on, scan-blank, sign}
@@ -58,19 +58,20 @@ pub blank-ends : (line : List ℕ) (e : ℕ) → e < length line → getD line e
 unfolding left numbers
 blank-ends line e h b s = rw (drop-cons line e 0 h, b, le-leb (e + 1) (length line) (omega arith), add-one) (scan-blank s (drop (suc e) line))
 
-found : (o : Option ℤ) (rest : ℕ → Option (List ℤ)) (next : ℕ)
-    → andThen (andThen o (λ z. andThen (rest next) (λ zs. some (z ∷ zs)))) nextNumber ≡ got (numberOf o next .good) (numberOf o next .value) (rest (numberOf o next .next))
-found none rest next = refl
-found (some z) rest next = by-rest (rest next)
-  where
-    by-rest : (r : Option (List ℤ)) → andThen (andThen r (λ zs. some (z ∷ zs))) nextNumber ≡ got true z r
-    by-rest none = refl
-    by-rest (some zs) = refl
-
 -- The number that ends at e.
 pub number-ends : (line : List ℕ) (e : ℕ) (s : Begun) → Ends line e
-    → andThen (scan s (drop e line)) nextNumber ≡ got (numberOf (ended s) (e + 1) .good) (numberOf (ended s) (e + 1) .value) (left line (numberOf (ended s) (e + 1) .next))
-number-ends line e s h = rw (h s) (found (ended s) (left line) (e + 1))
+    → andThen (scan s (drop e line)) nextNumber ≡ numberTaken line (numberOf (ended s) (e + 1))
+unfolding readAt
+number-ends line e s h = rw (h s) (by-number (ended s))
+  where
+    by-rest : (z : ℤ) (r : Option (List ℤ)) → andThen (andThen r (λ zs. some (z ∷ zs))) nextNumber ≡ andThen r (give z)
+    by-rest z none = refl
+    by-rest z (some zs) = refl
+
+    by-number : (o : Option ℤ)
+        → andThen (andThen o (λ z. andThen (left line (e + 1)) (λ zs. some (z ∷ zs)))) nextNumber ≡ numberTaken line (numberOf o (e + 1))
+    by-number none = refl
+    by-number (some z) = by-rest z (left line (e + 1))
 
 module _ (line : List ℕ) (i : ℕ) (h : i < length line) (b : getD line i 0 ≡ Text.blank → ⊥) where
   pub scan-at : (s : Begun) → scan s (drop i line) ≡ andThen (more s (getD line i 0)) (λ t. scan t (drop (suc i) line))
@@ -152,16 +153,16 @@ module _ (negative : Bool) (line : List ℕ) (i : ℕ) (h : i < length line) (m 
   first-byte = byte-case (eqb (getD line i 0) Text.blank) refl
 
 -- No number starts at the end of a line, or past it.
-pub none-left : (line : List ℕ) (at : ℕ) → length line ≤ at → andThen (left line at) nextNumber ≡ none
-unfolding left numbers scan ended
+pub none-left : (line : List ℕ) (at : ℕ) → length line ≤ at → readAt line at nextNumber ≡ none
+unfolding readAt left numbers scan ended
 none-left line at h = rw (drop-of-length-le line {i = at} h) (by-test (leb at (length line)))
   where
     by-test : (t : Bool) → andThen (cond t none (some [])) nextNumber ≡ none
     by-test true = refl
     by-test false = refl
 
-pub left-here : (line : List ℕ) (at : ℕ) → at ≤ length line → left line at ≡ scan nothing (drop at line)
-unfolding left numbers
+pub left-here : (line : List ℕ) (at : ℕ) → at ≤ length line → readAt line at nextNumber ≡ andThen (scan nothing (drop at line)) nextNumber
+unfolding readAt left numbers
 left-here line at h = rw (le-leb at (length line) h)
 
 -- After `-`.

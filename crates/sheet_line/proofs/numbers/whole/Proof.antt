@@ -1,11 +1,11 @@
 use borrow.Author.Tests.{not-true, not-false}
-use mathlib.Core.Bool.{true, false}
-use mathlib.Core.Path.{_≡_, _∙_}
+use mathlib.Core.Path.{_≡_}
 use native.Mathlib.Omega.{arith}
 use mir.Syntax.{w32}
 use mir.Val.{toZ}
 use lib.IntN.{pos}
 use mir.Facts.{toZ-pos, toZ-ofZ}
+use mathlib.Core.Bool.{true, false}
 use Rattle.sheet_line.proofs.Sizes.{size-fits, size-over, least, no-largest, opposite-fits, opposite, itself}
 use borrow.Author.Needs.{needs}
 use Rattle.sheet_line.proofs.numbers.whole.Statement.{statement}
@@ -15,12 +15,12 @@ read-magnitude : (c : tie.Else2) → toZ w32 (c .before .before .args .magnitude
 read-magnitude c = toZ-pos w32 {n = c .before .before .args .magnitude} (omega arith)
 
 returns : tie.Need-returns
-returns c = c .no-number .ensures ∙ rw (size-over (c .before .before .args .negative) (c .before .before .args .magnitude) (c .before .if1 .taken))
+returns c = rw (size-over (c .before .args .negative) (c .before .args .magnitude) (c .if1 .taken))
 
 returns-2 : tie.Need-returns-2
 returns-2 c =
-    let st = c .before .before .before .before in
-    c .no-number2 .ensures ∙ rw (no-largest (st .args .negative) (st .args .magnitude) (not-true (st .args .negative) (c .before .if3 .taken)) (c .before .before .if2 .taken))
+    let st = c .before .before .before in
+    rw (no-largest (st .args .negative) (st .args .magnitude) (not-true (st .args .negative) (c .if3 .taken)) (c .before .if2 .taken))
 
 returns-3 : tie.Need-returns-3
 returns-3 c =
@@ -41,15 +41,4 @@ returns-5 c =
     rw (read-magnitude (c .before), itself n, c .if4 .left, size-fits false n (omega arith))
 
 pub whole-spec : {M : Type 1} → statement M
-whole-spec =
-    tie.close
-    (tie.spec
-    (λ c κs. search needs)
-    returns
-    (λ c κs. search needs)
-    returns-2
-    returns-3
-    (λ c. search needs)
-    sub-value
-    returns-4
-    returns-5)
+whole-spec = tie.close (tie.spec returns returns-2 returns-3 (λ c. search needs) sub-value returns-4 returns-5)

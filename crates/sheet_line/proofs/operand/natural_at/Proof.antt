@@ -1,72 +1,66 @@
 use Prim.Native.Nat.{_≤_, _<_}
-use native.Mathlib.Omega.{arith}
-use mathlib.Core.Path.{_≡_, sym, _∙_}
+use mathlib.Core.Path.{_≡_, sym, ap, _∙_}
 use mathlib.Core.Bool.{true, false}
-use lib.IntN.{natAbs}
+use lib.IntN.{ℤ, natAbs}
 use mir.Syntax.{w32}
 use mir.Val.{toZ, ofZ}
 use mir.Facts.{toZ-ofZ}
-use borrow.Author.Tests.{not-true, not-false}
 use Rattle.meaning.specs.Terms.{negative}
-use Rattle.sheet_line.specs.Steps.{left}
-use Rattle.sheet_line.proofs.Readers.{no-natural, natural-negative, natural-over, natural-good}
+use Rattle.sheet_line.specs.Call.{give, nextNumber}
+use Rattle.sheet_line.proofs.Readers.{Reads, number-read, number-lacks, no-natural, natural-negative, natural-over, natural-good}
 use borrow.Author.Needs.{needs}
 use Rattle.sheet_line.proofs.operand.natural_at.Statement.{statement}
 use Rattle.sheet_line.proofs.operand.natural_at.Tie as tie
 
-value-is : (c : tie.After-struct-told) → toZ w32 (ofZ w32 (c .before .number-at .result .value)) ≡ c .before .number-at .result .value
-value-is c = toZ-ofZ (search needs)
+-- The number, and that the local that holds it is read as it.
+abbrev value : tie.After-known-told → ℤ
+value c = c .before .value .given .0 .0
 
-sign-is : (c : tie.After-negative) → c .negative .result ≡ negative (c .before .before .before .number-at .result .value)
-sign-is c = rw (value-is (c .before .before)) at (c .negative .ensures)
+held : (c : tie.After-known-told) → toZ w32 (ofZ w32 (value c)) ≡ value c
+held c = toZ-ofZ (search needs)
 
-natural-is : (c : tie.Else2) → negative (c .before .before .before .before .number-at .result .value) ≡ false
-natural-is c = sym (sign-is (c .before)) ∙ c .if2 .left
+read : (c : tie.After-known-told)
+    → let n = c .before .before .before in
+    let a = n .before .before .args in
+    Reads (a .line .now) nextNumber (a .at) (give (value c)) (c .before .value .given .0 .1 .0)
+read c = number-read (c .before .before .before .number-at .ensures) (c .before .value .given .1)
 
-magnitude-is : (c : tie.After-magnitude) → c .magnitude .result ≡ natAbs (c .before .before .before .before .before .number-at .result .value)
-magnitude-is c = rw (value-is (c .before .before .before .before)) at (c .magnitude .ensures)
+sign-is : (c : tie.After-negative) → c .negative .result ≡ negative (value (c .before))
+sign-is c = c .negative .ensures ∙ ap negative (held (c .before))
+
+natural-is : (c : tie.Else1) → negative (value (c .before .before)) ≡ false
+natural-is c = sym (sign-is (c .before)) ∙ c .if1 .left
+
+magnitude-is : (c : tie.After-magnitude) → c .magnitude .result ≡ natAbs (value (c .before .before .before))
+magnitude-is c = c .magnitude .ensures ∙ ap natAbs (held (c .before .before .before))
 
 returns : tie.Need-returns
-returns c =
-    let st = c .before .before .before .before .before in
-    let e = c .before .before .before .number-at in
-    let m = c .no-natural .ensures in
-    (rw (m .0) (no-natural (st .args .most) (left (st .args .line .now) (st .args .at)) (left (st .args .line .now) (e .result .next)) (e .result .good) (e .result .value) (e .ensures) (not-true _ (c .before .if1 .taken))), rw (m .1) (omega arith))
+returns c = (no-natural _ (number-lacks (c .before .before .number-at .ensures) (c .enum-told .given .1)) .is, tt)
 
 returns-2 : tie.Need-returns-2
-returns-2 c =
-    let st = c .before .before .before .before .before .before .before in
-    let e = c .before .before .before .before .before .number-at in
-    let m = c .no-natural2 .ensures in
-    let n : negative (e .result .value) ≡ true = sym (sign-is (c .before .before)) ∙ c .before .if2 .taken in
-    (rw (m .0) (natural-negative (st .args .most) (left (st .args .line .now) (st .args .at)) (left (st .args .line .now) (e .result .next)) (e .result .good) (e .result .value) (e .ensures) (not-false _ (c .before .before .before .if1 .left)) n), rw (m .1) (omega arith))
+returns-2 c = (natural-negative _ (read (c .before .before)) (sym (sign-is (c .before)) ∙ c .if1 .taken) .is, tt)
 
 returns-3 : tie.Need-returns-3
 returns-3 c =
-    let st = c .before .before .before .before .before .before .before .before .before in
-    let e = c .before .before .before .before .before .before .before .number-at in
-    let m = c .no-natural3 .ensures in
-    let over : st .args .most < natAbs (e .result .value) = rw (magnitude-is (c .before .before)) at (c .before .if3 .taken) in
-    (rw (m .0) (natural-over (st .args .most) (left (st .args .line .now) (st .args .at)) (left (st .args .line .now) (e .result .next)) (e .result .good) (e .result .value) (e .ensures) (not-false _ (c .before .before .before .before .before .if1 .left)) (natural-is (c .before .before .before)) over), rw (m .1) (omega arith))
+    let m = c .before in
+    (natural-over _ (read (m .before .before .before)) (natural-is (m .before)) (rw (magnitude-is m) at (c .if2 .taken)) .is, tt)
 
 returns-4 : tie.Need-returns-4
 returns-4 c =
-    let st = c .before .before .before .before .before .before .before .before in
-    let e = c .before .before .before .before .before .before .number-at in
-    let under : natAbs (e .result .value) ≤ st .args .most = rw (magnitude-is (c .before)) at (c .if3 .left) in
-    (rw (magnitude-is (c .before)) (natural-good (st .args .most) (left (st .args .line .now) (st .args .at)) (left (st .args .line .now) (e .result .next)) (e .result .good) (e .result .value) (e .ensures) (not-false _ (c .before .before .before .before .if1 .left)) (natural-is (c .before .before)) under), c .if3 .left)
+    let m = c .before in
+    let good = natural-good _ (read (m .before .before .before)) (natural-is (m .before)) (rw (magnitude-is m) at (c .if2 .left)) in
+    (rw (magnitude-is m) (good .is), c .if2 .left)
 
 pub natural-at-spec : {M : Type 1} → statement M
 natural-at-spec =
     tie.close
     (tie.spec
     (λ c κs. search needs)
-    (λ c κs. search needs)
+    (λ c. search needs)
+    (λ c. search needs)
     returns
     (λ c κs. search needs)
-    (λ c κs. search needs)
     returns-2
-    (λ c κs. search needs)
     (λ c κs. search needs)
     returns-3
     returns-4)
