@@ -62,12 +62,7 @@ module _ {A B : Type 0} {p : Reader A} (q : A → Reader B) {line : List ℕ} {a
   then-lacks e = record { is = both p q line at ∙ rw (e .is) }
 
   pub then-reads : {a : A} {next : ℕ} → Reads line p at (give a) next → Reads line (p then q) at (q a) next
-  unfolding readAt
-  then-reads {a} {next} e = record { is = both p q line at ∙ rw (e .is) (by-case (left line next)) }
-    where
-      by-case : (x : Option (List ℤ)) → andThen (andThen x (give a)) (λ t. q (t .0) (t .1)) ≡ andThen x (q a)
-      by-case none = refl
-      by-case (some zs) = refl
+  then-reads {a} {next} e = record { is = both p q line at ∙ rw (e .is) (sym (both (give a) q line next)) }
 
 pub fails : {A : Type 0} {line : List ℕ} {at : ℕ} → Lacks {A = A} line fail at
 unfolding readAt
@@ -77,114 +72,77 @@ fails {A} {line} {at} = record { is = by-case (left line at) }
     by-case none = refl
     by-case (some zs) = refl
 
--- The tests of a number from 0 to m.
-module _ (m : ℕ) {line : List ℕ} {at : ℕ} where
-  up-negative : (z : ℤ) → negative z ≡ true → Lacks line (upTo m z) at
-  unfolding negative
-  up-negative (pos n) h = no-way h
-  up-negative (negsuc k) h = fails
-
-  up-over : (z : ℤ) → negative z ≡ false → m < natAbs z → Lacks line (upTo m z) at
-  unfolding negative
-  up-over (pos n) h k = rw (lt-leb n m k) fails
-  up-over (negsuc n) h k = no-way (sym h)
-
-  up-good : (z : ℤ) → negative z ≡ false → natAbs z ≤ m → Reads line (upTo m z) at (give (natAbs z)) at
-  unfolding negative
-  up-good (pos n) h k = record { is = rw (le-leb n m k) }
-  up-good (negsuc n) h k = no-way (sym h)
-
 -- A number from 0 to m, by the number that was taken.
 module _ (m : ℕ) {line : List ℕ} {at : ℕ} where
   pub no-natural : Lacks line nextNumber at → Lacks line (natural m) at
   unfolding natural
   no-natural e = then-lacks (upTo m) e
 
-  module _ {z : ℤ} {next : ℕ} (e : Reads line nextNumber at (give z) next) where
-    pub natural-negative : negative z ≡ true → Lacks line (natural m) at
-    unfolding natural
-    natural-negative h = lacks-on (then-reads (upTo m) e) (up-negative m z h)
+  module _ {next : ℕ} where
+    pub natural-negative : (z : ℤ) → Reads line nextNumber at (give z) next → negative z ≡ true → Lacks line (natural m) at
+    unfolding natural negative
+    natural-negative (pos n) e h = no-way h
+    natural-negative (negsuc n) e h = lacks-on (then-reads (upTo m) e) fails
 
-    pub natural-over : negative z ≡ false → m < natAbs z → Lacks line (natural m) at
-    unfolding natural
-    natural-over h k = lacks-on (then-reads (upTo m) e) (up-over m z h k)
+    pub natural-over : (z : ℤ) → Reads line nextNumber at (give z) next → negative z ≡ false → m < natAbs z → Lacks line (natural m) at
+    unfolding natural negative
+    natural-over (pos n) e h k = lacks-on (then-reads (upTo m) e) (rw (lt-leb n m k) fails)
+    natural-over (negsuc n) e h k = no-way (sym h)
 
-    pub natural-good : negative z ≡ false → natAbs z ≤ m → Reads line (natural m) at (give (natAbs z)) next
-    unfolding natural
-    natural-good h k = reads-on (then-reads (upTo m) e) (up-good m z h k)
+    pub natural-good : (z : ℤ) → Reads line nextNumber at (give z) next → negative z ≡ false → natAbs z ≤ m
+        → Reads line (natural m) at (give (natAbs z)) next
+    unfolding natural negative
+    natural-good (pos n) e h k = reads-on (then-reads (upTo m) e) (record { is = rw (le-leb n m k) })
+    natural-good (negsuc n) e h k = no-way (sym h)
 
--- Many values, of which the first are xs.
-module _ {A : Type 0} (p : Reader A) (line : List ℕ) (xs : List A) where
-  abbrev after : ℕ → Reader (List A)
-  after n = many p n then λ rest. give (xs ++ rest)
+-- Values before those that a reader finds.
+module _ {A : Type 0} where
+  abbrev pub prefixed : List A → Option (List A × List ℤ) → Option (List A × List ℤ)
+  prefixed xs o = andThen o (λ t. give (xs ++ t .0) (t .1))
 
-  many-none : (at n : ℕ) → xs ≡ [] → readAt line at (many p n) ≡ readAt line at (after n)
-  unfolding readAt
-  many-none at n e = rw e (by-left (left line at))
-    where
-      by-case : (x : Option (List A × List ℤ)) → x ≡ andThen x (λ t. give (t .0) (t .1))
-      by-case none = refl
-      by-case (some t) = refl
+  prefixed-none : (o : Option (List A × List ℤ)) → o ≡ prefixed [] o
+  prefixed-none none = refl
+  prefixed-none (some t) = refl
 
-      by-left : (x : Option (List ℤ)) → andThen x (many p n) ≡ andThen x (many p n then λ rest. give rest)
-      by-left none = refl
-      by-left (some zs) = by-case (many p n zs)
+  prefixed-more : (xs : List A) (a : A) (o : Option (List A × List ℤ)) → prefixed xs (prefixed (a ∷ []) o) ≡ prefixed (xs ++ a ∷ []) o
+  prefixed-more xs a none = refl
+  prefixed-more xs a (some t) = rw (append-assoc xs (a ∷ []) (t .0))
 
-  -- One value more, or nothing.
-  many-stop : (at n : ℕ) → Lacks line p at → Lacks line (after (suc n)) at
+-- One value more of many, or nothing.
+module _ {A : Type 0} {p : Reader A} (n : ℕ) {line : List ℕ} {at : ℕ} where
+  many-stop : Lacks line p at → Lacks line (many p (suc n)) at
   unfolding many
-  many-stop at n e = then-lacks (λ rest. give (xs ++ rest)) (then-lacks (λ x. many p n then λ rest. give (x ∷ rest)) e)
+  many-stop e = then-lacks (λ a. many p n then λ rest. give (a ∷ rest)) e
 
-  module _ (a : A) (n : ℕ) where
-    abbrev one-on : Reader (List A)
-    one-on = many p n then λ rest. give (a ∷ rest)
+  many-more : {a : A} {next : ℕ} → Reads line p at (give a) next → readAt line at (many p (suc n)) ≡ prefixed (a ∷ []) (readAt line next (many p n))
+  unfolding many
+  many-more {a} {next} e = then-reads (λ x. many p n then λ rest. give (x ∷ rest)) e .is ∙ both (many p n) (λ rest. give (a ∷ rest)) line next
 
-    regroup : (at : ℕ) → readAt line at (one-on then λ rest. give (xs ++ rest)) ≡ readAt line at (many p n then λ rest. give ((xs ++ a ∷ []) ++ rest))
-    unfolding readAt
-    regroup at = by-left (left line at)
-      where
-        by-case : (x : Option (List A × List ℤ))
-            → andThen (andThen x (λ t. give (a ∷ t .0) (t .1))) (λ t. give (xs ++ t .0) (t .1)) ≡ andThen x (λ t. give ((xs ++ a ∷ []) ++ t .0) (t .1))
-        by-case none = refl
-        by-case (some t) = rw (append-assoc xs (a ∷ []) (t .0))
-
-        by-left : (x : Option (List ℤ)) → andThen x (one-on then λ rest. give (xs ++ rest)) ≡ andThen x (many p n then λ rest. give ((xs ++ a ∷ []) ++ rest))
-        by-left none = refl
-        by-left (some zs) = by-case (many p n zs)
-
-    many-more : (at next : ℕ) → Reads line p at (give a) next → readAt line at (after (suc n)) ≡ readAt line next (many p n then λ rest. give ((xs ++ a ∷ []) ++ rest))
-    unfolding many
-    many-more at next e =
-        let one = then-reads (λ x. many p n then λ rest. give (x ∷ rest)) e in
-        both (many p (suc n)) (λ rest. give (xs ++ rest)) line at
-        ∙ rw (one .is) (sym (both one-on (λ rest. give (xs ++ rest)) line next) ∙ regroup next)
-
-  many-end : (at n : ℕ) → n ≡ 0 → readAt line at (after n) ≡ readAt line at (give xs)
-  unfolding many readAt
-  many-end at n e = rw e (by-left (left line at))
-    where
-      by-left : (x : Option (List ℤ)) → andThen x (give (xs ++ [])) ≡ andThen x (give xs)
-      by-left x = rw (append-nil xs)
+many-end : {A : Type 0} (p : Reader A) (xs : List A) (n : ℕ) (line : List ℕ) (at : ℕ) → n ≡ 0
+    → prefixed xs (readAt line at (many p n)) ≡ readAt line at (give xs)
+unfolding many
+many-end p xs n line at e = rw e (sym (both (give []) (λ rest. give (xs ++ rest)) line at) ∙ ap (λ ys. readAt line at (give ys)) (append-nil xs))
 
 -- The first i of n values are the first of xs, and the others are read from a place on.
 pub record SoFar {A : Type 0} (p : Reader A) (line : List ℕ) (at n : ℕ) (xs : List A) (place i : ℕ) : Type 0 where
-  pub rest : readAt line at (many p n) ≡ readAt line place (many p (n - i) then λ others. give (take i xs ++ others))
+  pub rest : readAt line at (many p n) ≡ prefixed (take i xs) (readAt line place (many p (n - i)))
 
 module _ {A : Type 0} {p : Reader A} {line : List ℕ} {at n : ℕ} {xs : List A} where
   pub so-far-none : SoFar p line at n xs at 0
-  so-far-none = record { rest = rw sub-zero (many-none p line [] at n refl) }
+  so-far-none = record { rest = rw sub-zero (prefixed-none (readAt line at (many p n))) }
 
   module _ {place i : ℕ} (s : SoFar p line at n xs place i) where
+    abbrev others : ℕ
+    others = n - (i + 1)
+
     pub so-far-stop : i < n → Lacks line p place → Lacks line (many p n) at
-    so-far-stop h e =
-        let j : n - i ≡ suc (n - (i + 1)) = omega arith in
-        record { is = s .rest ∙ rw j (many-stop p line (take i xs) place (n - (i + 1)) e .is) }
+    so-far-stop h e = let j : n - i ≡ suc others = omega arith in record { is = s .rest ∙ rw (j, many-stop others e .is) }
 
     pub so-far-more : {a : A} {next : ℕ} → i < n → i < length xs → Reads line p place (give a) next → SoFar p line at n (set xs i a) next (i + 1)
     so-far-more {a} {next} h l e =
-        let j : n - i ≡ suc (n - (i + 1)) = omega arith in
+        let j : n - i ≡ suc others = omega arith in
         let one : take (i + 1) (set xs i a) ≡ take i xs ++ a ∷ [] = rw add-one (take-suc-set xs i a l) in
-        record { rest = s .rest ∙ rw (j, one) (many-more p line (take i xs) a (n - (i + 1)) place next e) }
+        record { rest = s .rest ∙ rw (j, one, many-more others e) (prefixed-more (take i xs) a (readAt line next (many p others))) }
 
     pub so-far-all : i ≡ n → Reads line (many p n) at (give (take n xs)) place
-    so-far-all h = record { is = s .rest ∙ rw h (many-end p line (take n xs) place (n - n) (omega arith)) }
+    so-far-all h = record { is = s .rest ∙ rw h (many-end p (take n xs) (n - n) line place (omega arith)) }

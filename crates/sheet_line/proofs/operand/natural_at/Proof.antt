@@ -38,17 +38,17 @@ returns : tie.Need-returns
 returns c = (no-natural _ (number-lacks (c .before .before .number-at .ensures) (c .enum-told .given .1)) .is, tt)
 
 returns-2 : tie.Need-returns-2
-returns-2 c = (natural-negative _ (read (c .before .before)) (sym (sign-is (c .before)) ∙ c .if1 .taken) .is, tt)
+returns-2 c = (natural-negative _ _ (read (c .before .before)) (sym (sign-is (c .before)) ∙ c .if1 .taken) .is, tt)
 
 returns-3 : tie.Need-returns-3
 returns-3 c =
     let m = c .before in
-    (natural-over _ (read (m .before .before .before)) (natural-is (m .before)) (rw (magnitude-is m) at (c .if2 .taken)) .is, tt)
+    (natural-over _ _ (read (m .before .before .before)) (natural-is (m .before)) (rw (magnitude-is m) at (c .if2 .taken)) .is, tt)
 
 returns-4 : tie.Need-returns-4
 returns-4 c =
     let m = c .before in
-    let good = natural-good _ (read (m .before .before .before)) (natural-is (m .before)) (rw (magnitude-is m) at (c .if2 .left)) in
+    let good = natural-good _ _ (read (m .before .before .before)) (natural-is (m .before)) (rw (magnitude-is m) at (c .if2 .left)) in
     (rw (magnitude-is m) (good .is), c .if2 .left)
 
 pub natural-at-spec : {M : Type 1} → statement M
