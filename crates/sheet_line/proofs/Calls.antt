@@ -15,7 +15,8 @@ use Rattle.sheet_line.specs.declared.Head as Found
 use Rattle.sheet_line.specs.declared.Read.{Read}
 use Rattle.sheet_line.specs.declared.operand.Operand.{Operand}
 use Rattle.sheet_line.specs.Numbers.{andThen, numbers}
-use Rattle.sheet_line.specs.Call.{maxLine, Reader, give, _then_, operand, Head, head, Call, call, allRead, callOf, lineCall, readOf, leftOf, rightOf, front, room}
+use Rattle.sheet_line.specs.Call.{maxLine, Reader, give, _then_, operand, Head, head, Call, call, allRead, callOf}
+use Rattle.sheet_line.specs.Call.{lineCall, readOf, leftOf, rightOf, front, room}
 use Rattle.sheet_line.specs.Steps.{left, readAt, headTaken, heldIn, Taken}
 use Rattle.sheet_line.proofs.Readers.{Reads, Lacks, then-lacks, then-reads}
 use Rattle.sheet_line.proofs.Round.{read-is-printing}
@@ -62,7 +63,8 @@ leftOn a b h = operand a then rightOn b h
 
 -- By what the code has found.
 module _ (a b : ℕ) {line : List ℕ} {at : ℕ} {r : Found.Head} (e : readAt line at head ≡ headTaken line r) where
-  pub head-read : {n g k : ℤ} {next : ℕ} → r ≡ Found.Head.Is n g k next → Reads line (call a b) at (leftOn a b (record { primitive = n; origin = g; axis = k })) next
+  pub head-read : {n g k : ℤ} {next : ℕ} → r ≡ Found.Head.Is n g k next
+      → Reads line (call a b) at (leftOn a b (record { primitive = n; origin = g; axis = k })) next
   unfolding call
   head-read f = then-reads (leftOn a b) (record { is = e ∙ ap (headTaken line) f })
 
@@ -91,10 +93,10 @@ module _ (line : List ℕ) (l l′ r r′ : List ℤ) {answer : Read} (kept : (l
       let not-good : answer .good ≡ false = ap (λ x. x .good) b in
       (b ∙ rw e, (λ g. no-way (sym not-good ∙ g), (λ g. no-way (sym not-good ∙ g), kept)))
 
-  pub good-line : (c : Call) → answer ≡ readOf (some c) → lineCall (room l) (room r) line ≡ some c → l′ ≡ front (c .left .elements) l → r′ ≡ front (c .right .elements) r → Promise line l l′ r r′ answer
+  pub good-line : (c : Call) → answer ≡ readOf (some c) → lineCall (room l) (room r) line ≡ some c
+      → l′ ≡ front (c .left .elements) l → r′ ≡ front (c .right .elements) r → Promise line l l′ r r′ answer
   good-line c b e p q = (b ∙ rw e, (λ g. rw e p, (λ g. rw e q, kept)))
 
--- An answer with the same shapes.
-pub same-answer : (n g k : ℤ) (s s′ t t′ : Shape) → s ≡ s′ → t ≡ t′
-    → _≡_ {A = Read} (record { good = true; number = n; origin = g; axis = k; left = s; right = t }) (record { good = true; number = n; origin = g; axis = k; left = s′; right = t′ })
-same-answer n g k s s′ t t′ p q = λ i. record { good = true; number = n; origin = g; axis = k; left = p i; right = q i }
+-- The answer to a good line.
+abbrev pub answered : ℤ → ℤ → ℤ → Shape → Shape → Read
+answered n g k s t = record { good = true; number = n; origin = g; axis = k; left = s; right = t }

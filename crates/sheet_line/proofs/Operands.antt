@@ -1,19 +1,20 @@
 -- An operand, by what was taken of it.
-use Prim.Native.Nat.{ℕ, zero, suc, _≤_, _<_, min}
+use Prim.Native.Nat.{ℕ, zero, suc, _+_, _≤_, _<_, min}
+use native.Mathlib.Numerals.{add-one}
 use native.Mathlib.Omega.{arith}
 use mathlib.Core.Path.{_≡_, refl, sym, ap, _∙_}
 use mathlib.Core.List.{List, []}
 use mathlib.Core.Option.{Option, none}
 use mathlib.Core.Bool.{Bool, true, false, cond}
 use lib.Dec.{leb}
-use lib.ListN.{length, take, drop, replicate, take-append-drop}
-use lib.Seq.{length-take-le}
+use lib.ListN.{length, take, drop, set, replicate, take-append-drop}
+use lib.Seq.{length-take-le, take-suc-set}
 use lib.IntN.{ℤ}
 use borrow.Author.Tests.{le-leb, lt-leb}
 use Rattle.shape.specs.declared.Shape.{Shape}
 use Rattle.shape.specs.Shape.{maxRank, maxCount, small, count, counted, countOf, shapeOf, scalar, madeOf}
 use Rattle.shape.proofs.Bools.{no-way}
-use Rattle.shape.proofs.Counts.{count-held}
+use Rattle.shape.proofs.Counts.{count-held, small-snoc}
 use Rattle.shape.proofs.Made.{made-is, made-counted}
 use Rattle.meaning.specs.Array.{Array}
 use Rattle.sheet_line.specs.declared.operand.Lengths.{Lengths}
@@ -33,6 +34,9 @@ unfolding small
 small-zeros zero m = refl
 small-zeros (suc n) zero = refl
 small-zeros (suc n) (suc m) = small-zeros n m
+
+pub small-set : (i n : ℕ) (lens : List ℕ) → small (take i lens) ≡ true → n ≤ maxCount → i < length lens → small (take (i + 1) (set lens i n)) ≡ true
+small-set i n lens f h l = rw (add-one, take-suc-set lens i n l) (small-snoc (take i lens) n f h)
 
 -- The shape that is made of lengths, and its count.
 pub record Made (ns : List ℕ) (s : Shape) (n : ℕ) : Type 0 where
@@ -74,7 +78,8 @@ module _ (limit rank : ℕ) (r : Lengths) {line : List ℕ} {at : ℕ} (e : read
   pub lengths-lack : r .good ≡ false → Lacks line (lengthsOn limit rank) at
   lengths-lack g = then-lacks (countOn limit) (record { is = rw g at e })
 
-module _ (ns : List ℕ) (zs : List ℤ) {line : List ℕ} {at n : ℕ} {r : Elements} (k : n ≡ count ns) (e : readAt line at (many nextNumber n) ≡ elementsTaken line zs r) where
+module _ (ns : List ℕ) (zs : List ℤ) {line : List ℕ} {at n : ℕ} {r : Elements} (k : n ≡ count ns)
+    (e : readAt line at (many nextNumber n) ≡ elementsTaken line zs r) where
   pub elements-read : {next : ℕ} → r ≡ Elements.Before next → Reads line (elementsOn ns) at (give (record { lengths = ns; elements = zs })) next
   elements-read f = then-reads (λ xs. give (record { lengths = ns; elements = xs })) (record { is = rw k at e ∙ ap (elementsTaken line zs) f })
 

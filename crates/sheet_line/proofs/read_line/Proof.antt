@@ -1,9 +1,8 @@
 use Prim.Native.Nat.{ℕ}
 use native.Mathlib.Omega.{arith}
-use mathlib.Core.Path.{_≡_, refl}
+use mathlib.Core.Path.{_≡_, refl, ap₂}
 use mathlib.Core.Logic.{⊎-elim}
 use mathlib.Core.List.{List}
-use mathlib.Core.Option.{none}
 use mathlib.Core.Bool.{true}
 use lib.ListN.{length}
 use mir.Syntax.{w32}
@@ -13,21 +12,8 @@ use borrow.Author.Tests.{not-true, not-false, leb-true, leb-false}
 use Rattle.sheet_line.specs.Call.{Head, Call, give, call, lineCall, room}
 use Rattle.sheet_line.specs.Steps.{heldIn}
 use Rattle.sheet_line.proofs.Readers.{Reads, reads-on, lacks-on, then-lacks, then-reads}
-use Rattle.sheet_line.proofs.Calls.{
-  leftOn,
-  rightOn,
-  head-read,
-  head-lacks,
-  operand-read,
-  operand-lacks,
-  too-long,
-  no-call,
-  left-over,
-  line-call,
-  bad-line,
-  good-line,
-  same-answer,
-}
+use Rattle.sheet_line.proofs.Calls.{leftOn, rightOn, head-read, head-lacks, operand-read, operand-lacks}
+use Rattle.sheet_line.proofs.Calls.{too-long, no-call, left-over, line-call, bad-line, good-line, answered}
 use borrow.Author.Needs.{needs}
 use Rattle.sheet_line.proofs.read_line.Statement.{statement}
 use Rattle.sheet_line.proofs.read_line.Tie as tie
@@ -140,7 +126,7 @@ returns-5 c =
     let all = line-call _ _ (line st) (short h .if1 .left) (after-right p is-right) (leb-false (R .result .next) (length (line st)) (e .if4 .left)) in
     let read = numbers h in
     good-line (line st) (st .args .l .now) _ (st .args .r .now) _ (L .kept .1 .1 .0, R .kept .1 .1 .0) (called p)
-    (rw (read .0, read .1 .0, read .1 .1) (same-answer _ _ _ _ _ _ _ (L .ensures .shape) (R .ensures .shape)))
+    (rw (read .0, read .1 .0, read .1 .1) (ap₂ (answered _ _ _) (L .ensures .shape) (R .ensures .shape)))
     all (L .ensures .stored is-left) (R .ensures .stored is-right)
 
 pub read-line-spec : {M : Type 1} → statement M

@@ -1,17 +1,13 @@
-use Prim.Native.Nat.{_+_, _-_, _≤_}
+use Prim.Native.Nat.{_-_, _≤_}
 use native.Mathlib.Omega.{arith}
-use native.Mathlib.Numerals.{add-one}
 use mathlib.Core.Path.{_≡_, _∙_}
-use mathlib.Core.List.{[], _∷_, _++_}
 use mathlib.Core.Bool.{true}
-use lib.ListN.{length, take, set, length-set}
-use lib.Seq.{take-suc-set}
+use lib.ListN.{length, take, length-set}
 use borrow.Author.Needs.{needs}
 use Rattle.shape.specs.Shape.{maxRank, small}
-use Rattle.shape.proofs.Counts.{small-snoc}
 use Rattle.sheet_line.specs.Call.{maxHeld, natural}
 use Rattle.sheet_line.proofs.Readers.{natural-read, natural-lacks, SoFar, so-far-none, so-far-stop, so-far-more, so-far-all}
-use Rattle.sheet_line.proofs.Operands.{small-none, small-zeros}
+use Rattle.sheet_line.proofs.Operands.{small-none, small-zeros, small-set}
 use Rattle.sheet_line.proofs.operand.lengths_at.Statement.{statement}
 use Rattle.sheet_line.proofs.operand.lengths_at.Tie as tie
 
@@ -34,13 +30,10 @@ loop-again c =
     let n = c .before .before .before in
     let lp = n .before .before .loop in
     let x = c .before .n .given in
-    let value = x .0 .0 in
     let more = so-far-more (lp .inv .1 .1 .1) (omega arith) (omega arith) (natural-read _ (n .natural-at .ensures .0) (x .1)) in
-    let bound : value ≤ maxHeld = rw (x .1) at (n .natural-at .ensures .1) in
-    let one : take (lp .i + 1) (set (lp .lens) (lp .i) value) ≡ take (lp .i) (lp .lens) ++ value ∷ [] =
-    rw add-one (take-suc-set (lp .lens) (lp .i) value (omega arith)) in
-    let fit : small (take (lp .i + 1) (set (lp .lens) (lp .i) value)) ≡ true = rw one (small-snoc (take (lp .i) (lp .lens)) value (lp .inv .1 .1 .0) (omega arith)) in
-    (omega arith, (length-set (lp .lens) (lp .i) value ∙ lp .inv .1 .0, (fit, more)))
+    let bound : x .0 .0 ≤ maxHeld = rw (x .1) at (n .natural-at .ensures .1) in
+    let fit = small-set (lp .i) (x .0 .0) (lp .lens) (lp .inv .1 .1 .0) (omega arith) (omega arith) in
+    (omega arith, (length-set (lp .lens) (lp .i) (x .0 .0) ∙ lp .inv .1 .0, (fit, more)))
 
 returns-2 : tie.Need-returns-2 Inv-loop μ-loop
 returns-2 c =

@@ -8,21 +8,8 @@ use borrow.Author.Tests.{not-true, not-false, ltb-true, ltb-false}
 use Rattle.shape.specs.Shape.{maxRank, count}
 use Rattle.sheet_line.specs.Call.{operand, room}
 use Rattle.sheet_line.proofs.Readers.{Reads, reads-on, lacks-on, natural-read, natural-lacks, then-lacks, then-reads}
-use Rattle.sheet_line.proofs.Operands.{
-  Made,
-  made,
-  lengthsOn,
-  countOn,
-  elementsOn,
-  too-many,
-  few-enough,
-  lengths-read,
-  lengths-lack,
-  elements-read,
-  elements-lack,
-  untaken,
-  whole-taken,
-}
+use Rattle.sheet_line.proofs.Operands.{Made, made, lengthsOn, countOn, elementsOn, too-many, few-enough}
+use Rattle.sheet_line.proofs.Operands.{lengths-read, lengths-lack, elements-read, elements-lack, untaken, whole-taken}
 use borrow.Author.Needs.{needs}
 use Rattle.sheet_line.proofs.operand.operand_at.Statement.{statement}
 use Rattle.sheet_line.proofs.operand.operand_at.Tie as tie
