@@ -60,7 +60,8 @@ module _ (negative : Bool) (n : ℕ) (k : negative ≡ true → 0 < n) where
       rw (digits-more n (omega arith), append-snoc (digits (n / 10)) (digit (n % 10)) bs)
       (shorter (omega arith) (digit (n % 10) ∷ bs) ∙ scan-next negative (n / 10) (n % 10) bs (omega arith) (omega arith) ∙ rw e)
 
-digits-deep : (f : ℕ) (negative : Bool) (n : ℕ) (bs : List ℕ) → n ≤ f → (negative ≡ true → 0 < n) → scan (sign negative) (digits n ++ bs) ≡ scan (size negative n) bs
+digits-deep : (f : ℕ) (negative : Bool) (n : ℕ) (bs : List ℕ) → n ≤ f → (negative ≡ true → 0 < n)
+    → scan (sign negative) (digits n ++ bs) ≡ scan (size negative n) bs
 digits-deep zero negative n bs h k = digits-case negative n k bs (λ q cs. absurd (omega arith)) (decLt n 10)
 digits-deep (suc f) negative n bs h k = digits-case negative n k bs (λ q cs. digits-deep f negative (n / 10) cs (omega arith) (λ t. omega arith)) (decLt n 10)
 
