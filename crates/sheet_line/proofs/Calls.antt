@@ -7,6 +7,9 @@ use mathlib.Core.Option.{Option, none, some}
 use mathlib.Core.Bool.{Bool, true, false}
 use lib.ListN.{length, drop}
 use lib.IntN.{ℤ}
+use mir.Syntax.{w32}
+use mir.Val.{SFits}
+use mir.Facts.{toZ-ofZ}
 use borrow.Author.Tests.{le-leb, lt-leb}
 use Rattle.shape.specs.declared.Shape.{Shape}
 use Rattle.shape.proofs.Bools.{no-way}
@@ -18,7 +21,7 @@ use Rattle.sheet_line.specs.Numbers.{andThen, numbers}
 use Rattle.sheet_line.specs.Call.{maxLine, Reader, give, _then_, operand, Head, head, Call, call, allRead, callOf}
 use Rattle.sheet_line.specs.Call.{lineCall, readOf, leftOf, rightOf, front, room}
 use Rattle.sheet_line.specs.Steps.{left, readAt, headTaken, heldIn, Taken}
-use Rattle.sheet_line.proofs.Readers.{Reads, Lacks, then-lacks, then-reads}
+use Rattle.sheet_line.proofs.Readers.{Reads, Lacks, held, then-lacks, then-reads}
 use Rattle.sheet_line.proofs.Round.{read-is-printing}
 
 -- A line and the call at its start.
@@ -63,10 +66,10 @@ leftOn a b h = operand a then rightOn b h
 
 -- By what the code has found.
 module _ (a b : ℕ) {line : List ℕ} {at : ℕ} {r : Found.Head} (e : readAt line at head ≡ headTaken line r) where
-  pub head-read : {n g k : ℤ} {next : ℕ} → r ≡ Found.Head.Is n g k next
-      → Reads line (call a b) at (leftOn a b (record { primitive = n; origin = g; axis = k })) next
+  pub head-read : {n g k : ℤ} {next : ℕ} → r ≡ Found.Head.Is n g k next → SFits w32 n → SFits w32 g → SFits w32 k
+      → Reads line (call a b) at (leftOn a b (record { primitive = held n; origin = held g; axis = held k })) next
   unfolding call
-  head-read f = then-reads (leftOn a b) (record { is = e ∙ ap (headTaken line) f })
+  head-read f p q s = then-reads {p = head} (leftOn a b) (record { is = rw (toZ-ofZ p, toZ-ofZ q, toZ-ofZ s) (e ∙ ap (headTaken line) f) })
 
   pub head-lacks : r ≡ Found.Head.Nothing → Lacks line (call a b) at
   unfolding call

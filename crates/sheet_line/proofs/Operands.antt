@@ -25,10 +25,6 @@ use Rattle.sheet_line.specs.Call.{maxHeld, Reader, give, fail, _then_, n
 use Rattle.sheet_line.specs.Steps.{readAt, lengthsTaken, elementsTaken, Taken}
 use Rattle.sheet_line.proofs.Readers.{Reads, Lacks, then-lacks, then-reads, fails}
 
-pub small-none : small [] ≡ true
-unfolding small
-small-none = refl
-
 pub small-zeros : (n m : ℕ) → small (take n (replicate {A = ℕ} m 0)) ≡ true
 unfolding small
 small-zeros zero m = refl

@@ -10,6 +10,9 @@ use mathlib.Core.Bool.{true, false}
 use lib.ListN.{length, take, set}
 use lib.Seq.{take-suc-set}
 use lib.IntN.{ℤ, pos, negsuc, natAbs}
+use mir.Syntax.{w32}
+use mir.Val.{SFits, toZ, ofZ}
+use mir.Facts.{toZ-ofZ}
 use borrow.Author.Tests.{le-leb, lt-leb}
 use Rattle.shape.proofs.Bools.{no-way}
 use Rattle.meaning.specs.Terms.{negative}
@@ -33,10 +36,14 @@ module _ {A : Type 0} {line : List ℕ} {p q : Reader A} {at next : ℕ} (e : Re
   pub lacks-on : Lacks line q next → Lacks line p at
   lacks-on f = record { is = e .is ∙ f .is }
 
+-- What a local that holds a number is read as.
+abbrev pub held : ℤ → ℤ
+held z = toZ w32 (ofZ w32 z)
+
 -- By what the code has found.
 module _ {line : List ℕ} {at : ℕ} {n : Number} (e : readAt line at nextNumber ≡ numberTaken line n) where
-  pub number-read : {z : ℤ} {next : ℕ} → n ≡ Number.Is z next → Reads line nextNumber at (give z) next
-  number-read f = record { is = e ∙ ap (numberTaken line) f }
+  pub number-read : {z : ℤ} {next : ℕ} → n ≡ Number.Is z next → SFits w32 z → Reads line nextNumber at (give (held z)) next
+  number-read f h = record { is = rw (toZ-ofZ h) (e ∙ ap (numberTaken line) f) }
 
   pub number-lacks : n ≡ Number.Nothing → Lacks line nextNumber at
   number-lacks f = record { is = e ∙ ap (numberTaken line) f }

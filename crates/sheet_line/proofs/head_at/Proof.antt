@@ -1,10 +1,6 @@
-use mathlib.Core.Path.{_≡_}
 use lib.IntN.{ℤ}
-use mir.Syntax.{w32}
-use mir.Val.{toZ, ofZ}
-use mir.Facts.{toZ-ofZ}
 use Rattle.sheet_line.specs.Call.{Reader, give, _then_, nextNumber, Head, head}
-use Rattle.sheet_line.proofs.Readers.{Reads, reads-on, lacks-on, number-read, number-lacks, then-lacks, then-reads}
+use Rattle.sheet_line.proofs.Readers.{Reads, held, reads-on, lacks-on, number-read, number-lacks, then-lacks, then-reads}
 use borrow.Author.Needs.{needs}
 use Rattle.sheet_line.proofs.head_at.Statement.{statement}
 use Rattle.sheet_line.proofs.head_at.Tie as tie
@@ -29,16 +25,16 @@ two c = c .before .before .before .before
 after-one : (c : tie.After-known-told)
     → let a = start c .args in
     let x = c .before .primitive .given .0 in
-    Reads (a .line .now) head (a .at) (originOn (x .0)) (x .1 .0)
+    Reads (a .line .now) head (a .at) (originOn (held (x .0))) (x .1 .0)
 unfolding head
-after-one c = then-reads originOn (number-read (c .before .before .before .number-at .ensures) (c .before .primitive .given .1))
+after-one c = then-reads originOn (number-read (c .before .before .before .number-at .ensures) (c .before .primitive .given .1) (search needs))
 
 after-two : (c : tie.After-known-told2)
     → let a = start (one c) .args in
     let x = c .before .origin .given .0 in
-    Reads (a .line .now) head (a .at) (axisOn (one c .before .primitive .given .0 .0) (x .0)) (x .1 .0)
+    Reads (a .line .now) head (a .at) (axisOn (held (one c .before .primitive .given .0 .0)) (held (x .0))) (x .1 .0)
 after-two c =
-    let origin = number-read (c .before .before .before .number-at2 .ensures) (c .before .origin .given .1) in
+    let origin = number-read (c .before .before .before .number-at2 .ensures) (c .before .origin .given .1) (search needs) in
     reads-on (after-one (one c)) (then-reads (axisOn _) origin)
 
 returns : tie.Need-returns
@@ -55,21 +51,10 @@ returns-3 c =
     let n = c .before .before in
     lacks-on (after-two (n .before)) (then-lacks _ (number-lacks (n .number-at3 .ensures) (c .enum-told3 .given .1))) .is
 
--- The locals that hold the numbers are read as these.
-held-one : (c : tie.After-known-told) → let z = c .before .primitive .given .0 .0 in toZ w32 (ofZ w32 z) ≡ z
-held-one c = toZ-ofZ (search needs)
-
-held-two : (c : tie.After-known-told2) → let z = c .before .origin .given .0 .0 in toZ w32 (ofZ w32 z) ≡ z
-held-two c = toZ-ofZ (search needs)
-
-held-three : (c : tie.After-known-told3) → let z = c .before .axis .given .0 .0 in toZ w32 (ofZ w32 z) ≡ z
-held-three c = toZ-ofZ (search needs)
-
 returns-4 : tie.Need-returns-4
 returns-4 c =
-    let axis = number-read (c .before .before .before .number-at3 .ensures) (c .before .axis .given .1) in
-    let all = reads-on (after-two (two c)) (then-reads (λ K. give (record { primitive = _; origin = _; axis = K })) axis) in
-    rw (held-one (one (two c)), held-two (two c), held-three c) (all .is)
+    let axis = number-read (c .before .before .before .number-at3 .ensures) (c .before .axis .given .1) (search needs) in
+    reads-on (after-two (two c)) (then-reads (λ K. give (record { primitive = _; origin = _; axis = K })) axis) .is
 
 pub head-at-spec : {M : Type 1} → statement M
 head-at-spec =

@@ -5,13 +5,10 @@ use mathlib.Core.Logic.{⊎-elim}
 use mathlib.Core.List.{List}
 use mathlib.Core.Bool.{true}
 use lib.ListN.{length}
-use mir.Syntax.{w32}
-use mir.Val.{toZ, ofZ}
-use mir.Facts.{toZ-ofZ}
 use borrow.Author.Tests.{not-true, not-false, leb-true, leb-false}
 use Rattle.sheet_line.specs.Call.{Head, Call, give, call, lineCall, room}
 use Rattle.sheet_line.specs.Steps.{heldIn}
-use Rattle.sheet_line.proofs.Readers.{Reads, reads-on, lacks-on, then-lacks, then-reads}
+use Rattle.sheet_line.proofs.Readers.{Reads, held, reads-on, lacks-on, then-lacks, then-reads}
 use Rattle.sheet_line.proofs.Calls.{leftOn, rightOn, head-read, head-lacks, operand-read, operand-lacks}
 use Rattle.sheet_line.proofs.Calls.{too-long, no-call, left-over, line-call, bad-line, good-line, answered}
 use borrow.Author.Needs.{needs}
@@ -42,27 +39,27 @@ roomR st = room (st .args .r .now)
 
 -- What was found there.
 abbrev headOf : tie.After-known-told → Head
-headOf c = let x = c .before .primitive .given .0 in record { primitive = x .0; origin = x .1 .0; axis = x .1 .1 .0 }
+headOf c = let x = c .before .primitive .given .0 in record { primitive = held (x .0); origin = held (x .1 .0); axis = held (x .1 .1 .0) }
 
-abbrev held : tie.Else2 → tie.After-operand-at
-held c = c .before .before .before
+abbrev lefted : tie.Else2 → tie.After-operand-at
+lefted c = c .before .before .before
 
 after-head : (c : tie.After-known-told)
     → let st = start (short c) in
     Reads (line st) (call (roomL st) (roomR st)) 0 (leftOn (roomL st) (roomR st) (headOf c)) (c .before .primitive .given .0 .1 .1 .1 .0)
-after-head c = head-read _ _ (c .before .before .before .head-at .ensures) (c .before .primitive .given .1)
+after-head c = head-read _ _ (c .before .before .before .head-at .ensures) (c .before .primitive .given .1) (search needs) (search needs) (search needs)
 
 after-left : (c : tie.Else2)
     → let st = start (short (headed c)) in
-    let o = held c .operand-at in
+    let o = lefted c .operand-at in
     Reads (line st) (call (roomL st) (roomR st)) 0 (rightOn (roomR st) (headOf (headed c)) (heldIn (o .last .1 .1 .0) (o .result))) (o .result .next)
 after-left c =
-    let o = held c .operand-at in
+    let o = lefted c .operand-at in
     reads-on (after-head (headed c)) (then-reads (rightOn _ _) (operand-read (o .ensures) (not-false (o .result .good) (c .if2 .left))))
 
 abbrev called : tie.After-operand-at2 → Call
 called c =
-    let L = held (halved c) .operand-at in
+    let L = lefted (halved c) .operand-at in
     let R = c .operand-at2 in
     record { head = headOf (headed (halved c)); left = heldIn (L .last .1 .1 .0) (L .result); right = heldIn (R .last .1 .1 .0) (R .result) }
 
@@ -71,12 +68,6 @@ after-right : (c : tie.After-operand-at2) → c .operand-at2 .result .good ≡ t
 after-right c good =
     reads-on (after-left (halved c))
     (then-reads (λ R. give (record { head = called c .head; left = called c .left; right = R })) (operand-read (c .operand-at2 .ensures) good))
-
--- The locals that hold the head's numbers are read as these.
-numbers : (c : tie.After-known-told)
-    → let h = headOf c in
-    (toZ w32 (ofZ w32 (h .primitive)) ≡ h .primitive) × ((toZ w32 (ofZ w32 (h .origin)) ≡ h .origin) × (toZ w32 (ofZ w32 (h .axis)) ≡ h .axis))
-numbers c = (toZ-ofZ (search needs), (toZ-ofZ (search needs), toZ-ofZ (search needs)))
 
 returns : tie.Need-returns
 returns c =
@@ -107,7 +98,7 @@ returns-4 c =
     let st = start (short (headed e)) in
     let few = short (headed e) .if1 .left in
     let R = p .operand-at2 in
-    bad-line (line st) (st .args .l .now) _ (st .args .r .now) _ (held e .operand-at .kept .1 .1 .0, R .kept .1 .1 .0) (c .bad4 .ensures)
+    bad-line (line st) (st .args .l .now) _ (st .args .r .now) _ (lefted e .operand-at .kept .1 .1 .0, R .kept .1 .1 .0) (c .bad4 .ensures)
     (⊎-elim
     (λ w. no-call _ _ (line st) few (lacks-on (after-left e) (then-lacks _ (operand-lacks (R .ensures) (not-true (R .result .good) (w .taken))))))
     (λ w. left-over _ _ (line st) few (after-right p (not-false (R .result .good) (w .0 .left))) (leb-true (R .result .next) (length (line st)) (w .2 .taken)))
@@ -119,14 +110,13 @@ returns-5 c =
     let p = e .before .before .before .before .before in
     let h = headed (halved p) in
     let st = start (short h) in
-    let L = held (halved p) .operand-at in
+    let L = lefted (halved p) .operand-at in
     let R = p .operand-at2 in
     let is-left : L .result .good ≡ true = not-false (L .result .good) (halved p .if2 .left) in
     let is-right : R .result .good ≡ true = not-false (R .result .good) (e .before .before .if3 .left) in
     let all = line-call _ _ (line st) (short h .if1 .left) (after-right p is-right) (leb-false (R .result .next) (length (line st)) (e .if4 .left)) in
-    let read = numbers h in
     good-line (line st) (st .args .l .now) _ (st .args .r .now) _ (L .kept .1 .1 .0, R .kept .1 .1 .0) (called p)
-    (rw (read .0, read .1 .0, read .1 .1) (ap₂ (answered _ _ _) (L .ensures .shape) (R .ensures .shape)))
+    (ap₂ (answered _ _ _) (L .ensures .shape) (R .ensures .shape))
     all (L .ensures .stored is-left) (R .ensures .stored is-right)
 
 pub read-line-spec : {M : Type 1} → statement M

@@ -1,15 +1,11 @@
-use Prim.Native.Nat.{ℕ, _-_, _≤_}
+use Prim.Native.Nat.{_-_, _≤_}
 use native.Mathlib.Omega.{arith}
 use mathlib.Core.Path.{_≡_, refl, _∙_}
-use lib.ListN.{length, drop, set, length-set}
+use lib.ListN.{length, drop, length-set}
 use lib.Seq.{drop-set-lt}
-use lib.IntN.{ℤ}
-use mir.Syntax.{w32}
-use mir.Val.{toZ, ofZ}
-use mir.Facts.{toZ-ofZ}
 use borrow.Author.Needs.{needs}
 use Rattle.sheet_line.specs.Call.{nextNumber}
-use Rattle.sheet_line.proofs.Readers.{number-read, number-lacks, SoFar, so-far-none, so-far-stop, so-far-more, so-far-all}
+use Rattle.sheet_line.proofs.Readers.{held, number-read, number-lacks, SoFar, so-far-none, so-far-stop, so-far-more, so-far-all}
 use Rattle.sheet_line.proofs.operand.elements_at.Statement.{statement}
 use Rattle.sheet_line.proofs.operand.elements_at.Tie as tie
 
@@ -19,12 +15,6 @@ Inv-loop line at count out₀ place₀ i₀ out place i =
 
 abbrev μ-loop : tie.MeasureT-loop
 μ-loop line at count out₀ place₀ i₀ out place i = count - i
-
-abbrev value : tie.After-known-told Inv-loop μ-loop → ℤ
-value c = c .before .z .given .0 .0
-
-held : (c : tie.After-known-told Inv-loop μ-loop) → toZ w32 (ofZ w32 (value c)) ≡ value c
-held c = toZ-ofZ (search needs)
 
 returns : tie.Need-returns Inv-loop μ-loop
 returns c =
@@ -36,15 +26,10 @@ loop-again : tie.Need-loop-again Inv-loop μ-loop
 loop-again c =
     let n = c .before .before .before in
     let lp = n .before .before .loop in
-    let z = value c in
-    let more = so-far-more (lp .inv .1 .1 .1) (omega arith) (omega arith) (number-read (n .number-at .ensures) (c .before .z .given .1)) in
-    rw (held c) (
-      omega arith,
-      (
-        length-set (lp .out) (lp .i) z ∙ lp .inv .1 .0,
-        (drop-set-lt (n .before .before .before .before .args .count) (lp .out) (lp .i) z (omega arith) ∙ lp .inv .1 .1 .0, more),
-      ),
-    )
+    let z = c .before .z .given in
+    let read = number-read (n .number-at .ensures) (z .1) (search needs) in
+    let rest = drop-set-lt (n .before .before .before .before .args .count) (lp .out) (lp .i) (held (z .0 .0)) (omega arith) ∙ lp .inv .1 .1 .0 in
+    (omega arith, (length-set (lp .out) (lp .i) _ ∙ lp .inv .1 .0, (rest, so-far-more (lp .inv .1 .1 .1) (omega arith) (omega arith) read)))
 
 returns-2 : tie.Need-returns-2 Inv-loop μ-loop
 returns-2 c =

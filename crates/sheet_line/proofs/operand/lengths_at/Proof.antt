@@ -7,7 +7,7 @@ use borrow.Author.Needs.{needs}
 use Rattle.shape.specs.Shape.{maxRank, small}
 use Rattle.sheet_line.specs.Call.{maxHeld, natural}
 use Rattle.sheet_line.proofs.Readers.{natural-read, natural-lacks, SoFar, so-far-none, so-far-stop, so-far-more, so-far-all}
-use Rattle.sheet_line.proofs.Operands.{small-none, small-zeros, small-set}
+use Rattle.sheet_line.proofs.Operands.{small-zeros, small-set}
 use Rattle.sheet_line.proofs.operand.lengths_at.Statement.{statement}
 use Rattle.sheet_line.proofs.operand.lengths_at.Tie as tie
 
@@ -47,7 +47,7 @@ lengths-at-spec =
     (tie.spec
     Inv-loop
     μ-loop
-    (λ c. (omega arith, (search needs, (small-none, so-far-none))))
+    (λ c. (omega arith, (search needs, (small-zeros 0 0, so-far-none))))
     (λ c κs. search needs)
     (λ c. search needs)
     (λ c. search needs)
