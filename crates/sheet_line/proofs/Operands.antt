@@ -3,9 +3,8 @@ use Prim.Native.Nat.{ℕ, zero, suc, _+_, _≤_, _<_, min}
 use native.Mathlib.Numerals.{add-one}
 use native.Mathlib.Omega.{arith}
 use mathlib.Core.Path.{_≡_, refl, sym, ap, _∙_}
-use mathlib.Core.List.{List, []}
-use mathlib.Core.Option.{Option, none}
-use mathlib.Core.Bool.{Bool, true, false, cond}
+use mathlib.Core.List.{List}
+use mathlib.Core.Bool.{true, false, cond}
 use lib.Dec.{leb}
 use lib.ListN.{length, take, drop, set, replicate, take-append-drop}
 use lib.Seq.{length-take-le, take-suc-set}
@@ -20,8 +19,7 @@ use Rattle.meaning.specs.Array.{Array}
 use Rattle.sheet_line.specs.declared.operand.Lengths.{Lengths}
 use Rattle.sheet_line.specs.declared.operand.Elements.{Elements}
 use Rattle.sheet_line.specs.declared.operand.Operand.{Operand}
-use Rattle.sheet_line.specs.Numbers.{andThen}
-use Rattle.sheet_line.specs.Call.{maxHeld, Reader, give, fail, _then_, nextNumber, natural, many, operand, front, room}
+use Rattle.sheet_line.specs.Call.{maxHeld, Reader, give, fail, _then_, nextNumber, natural, many, operand, room}
 use Rattle.sheet_line.specs.Steps.{readAt, lengthsTaken, elementsTaken, Taken}
 use Rattle.sheet_line.proofs.Readers.{Reads, Lacks, then-lacks, then-reads, fails}
 
@@ -83,13 +81,9 @@ module _ (ns : List ℕ) (zs : List ℤ) {line : List ℕ} {at n : ℕ} {r : Ele
   elements-lack f = then-lacks (λ xs. give (record { lengths = ns; elements = xs })) (record { is = rw k at e ∙ ap (elementsTaken line zs) f })
 
 -- No operand.
-module _ (line : List ℕ) (at : ℕ) (before after : List ℤ) (r : Operand) where
-  pub untaken : (r .good ≡ false) × (r .shape ≡ scalar) → Lacks line (operand (room before)) at → Taken line at before after r
-  untaken b e = record {
-    read = rw (b .0) (e .is);
-    shape = rw (b .1);
-    stored = λ g. no-way (sym (b .0) ∙ g);
-  }
+pub untaken : {line : List ℕ} {at : ℕ} {before after : List ℤ} {r : Operand} → (r .good ≡ false) × (r .shape ≡ scalar)
+    → Lacks line (operand (room before)) at → Taken line at before after r
+untaken b e = record { read = rw (b .0) (e .is); shape = rw (b .1); stored = λ g. no-way (sym (b .0) ∙ g) }
 
 -- An operand whose elements were stored at the front of the buffer.
 module _ {line : List ℕ} {at : ℕ} {before after : List ℤ} {s : Shape} {n next : ℕ} (ns : List ℕ) (k : n ≡ count ns) where

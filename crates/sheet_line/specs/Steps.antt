@@ -3,10 +3,10 @@ use Prim.Native.Nat.{ℕ, _≤_}
 use mathlib.Core.List.{List, []}
 use mathlib.Core.Path.{_≡_}
 use mathlib.Core.Option.{Option, none, some}
-use mathlib.Core.Bool.{Bool, true, false, cond}
+use mathlib.Core.Bool.{true, cond}
 use lib.Dec.{leb}
 use lib.ListN.{length, take, drop}
-use lib.IntN.{ℤ, pos}
+use lib.IntN.{ℤ}
 use Rattle.shape.specs.Shape.{count, counted, shapeOf}
 use Rattle.meaning.specs.Array.{Array}
 use Rattle.sheet_line.specs.declared.numbers.Number.{Number}
@@ -41,10 +41,6 @@ abbrev pub naturalTaken : List ℕ → Natural → Option (ℕ × List ℤ)
 naturalTaken line (Natural.Is n next) = readAt line next (give n)
 naturalTaken line Natural.Nothing = none
 
-abbrev pub AtMost : ℕ → Natural → Type 0
-AtMost most (Natural.Is n next) = n ≤ most
-AtMost most Natural.Nothing = Unit {0}
-
 abbrev pub headTaken : List ℕ → Head → Option (Call.Head × List ℤ)
 headTaken line (Head.Is n g k next) = readAt line next (give (record { primitive = n; origin = g; axis = k }))
 headTaken line Head.Nothing = none
@@ -55,6 +51,11 @@ lengthsTaken line rank r = cond (r .good) (readAt line (r .next) (give (take ran
 abbrev pub elementsTaken : List ℕ → List ℤ → Elements → Option (List ℤ × List ℤ)
 elementsTaken line zs (Elements.Before next) = readAt line next (give zs)
 elementsTaken line zs Elements.Nothing = none
+
+-- The number that was found, if any, is no more than so much.
+abbrev pub AtMost : ℕ → Natural → Type 0
+AtMost most (Natural.Is n next) = n ≤ most
+AtMost most Natural.Nothing = Unit {0}
 
 -- The array that an operand's shape and a buffer hold.
 abbrev pub heldIn : List ℤ → Operand → Array

@@ -3,7 +3,7 @@ mod numbers;
 mod operand;
 
 ghost use mathlib.Core.Path.{_≡_};
-ghost use mathlib.Core.Bool.{true, false};
+ghost use mathlib.Core.Bool.{true};
 ghost use mathlib.Core.Option.{none};
 ghost use lib.ListN.{length};
 ghost use Rattle.sheet_line.specs.Call.{head, lineCall, readOf, leftOf, rightOf, front, room};
@@ -50,7 +50,7 @@ fn head_at(line: &[u8], at: usize) -> Head
     }
 }
 
-// What a line says: a call's primitive as its `number`, its origin and axis and the shapes of its operands, or that it is bad.
+// What a line says: a call's primitive as its `number`, its origin and axis and the shapes of its operands. It holds arrays, so a flag says that it is bad.
 pub struct Read {
     pub good: bool,
     pub number: i32,

@@ -1,7 +1,7 @@
 // The numbers of a line, from left to right. A place is where a number begins; the one past the end of the line is where none is left.
 ghost use mathlib.Core.Path.{_≡_};
 ghost use Prim.Native.Nat.{_≤_, _<_};
-ghost use mathlib.Core.Bool.{true, false, cond};
+ghost use mathlib.Core.Bool.{false, cond};
 ghost use mathlib.Core.Option.{none, some};
 ghost use lib.Dec.{leb};
 ghost use lib.ListN.{length, drop};

@@ -23,7 +23,7 @@ pub enum Elements {
     Nothing,
 }
 
-// Lengths and an operand hold an array, so they have a flag: Rattle covers no enum that holds one.
+// Lengths and an operand hold an array, so a flag says that there are none: the prover's own walk covers no enum that holds one.
 pub struct Lengths {
     pub good: bool,
     pub lens: [usize; Shape::MAX_RANK],

@@ -1,12 +1,11 @@
 use Prim.Native.Nat.{ℕ}
-use native.Mathlib.Omega.{arith}
 use mathlib.Core.Path.{_≡_, refl, ap₂}
 use mathlib.Core.Logic.{⊎-elim}
 use mathlib.Core.List.{List}
 use mathlib.Core.Bool.{true}
 use lib.ListN.{length}
 use borrow.Author.Tests.{not-true, not-false, leb-true, leb-false}
-use Rattle.sheet_line.specs.Call.{Head, Call, give, call, lineCall, room}
+use Rattle.sheet_line.specs.Call.{Head, Call, give, call, room}
 use Rattle.sheet_line.specs.Steps.{heldIn}
 use Rattle.sheet_line.proofs.Readers.{Reads, held, reads-on, lacks-on, then-lacks, then-reads}
 use Rattle.sheet_line.proofs.Calls.{leftOn, rightOn, head-read, head-lacks, operand-read, operand-lacks}
@@ -41,8 +40,8 @@ roomR st = room (st .args .r .now)
 abbrev headOf : tie.After-known-told → Head
 headOf c = let x = c .before .primitive .given .0 in record { primitive = held (x .0); origin = held (x .1 .0); axis = held (x .1 .1 .0) }
 
-abbrev lefted : tie.Else2 → tie.After-operand-at
-lefted c = c .before .before .before
+abbrev left : tie.Else2 → tie.After-operand-at
+left c = c .before .before .before
 
 after-head : (c : tie.After-known-told)
     → let st = start (short c) in
@@ -51,15 +50,15 @@ after-head c = head-read _ _ (c .before .before .before .head-at .ensures) (c .b
 
 after-left : (c : tie.Else2)
     → let st = start (short (headed c)) in
-    let o = lefted c .operand-at in
+    let o = left c .operand-at in
     Reads (line st) (call (roomL st) (roomR st)) 0 (rightOn (roomR st) (headOf (headed c)) (heldIn (o .last .1 .1 .0) (o .result))) (o .result .next)
 after-left c =
-    let o = lefted c .operand-at in
+    let o = left c .operand-at in
     reads-on (after-head (headed c)) (then-reads (rightOn _ _) (operand-read (o .ensures) (not-false (o .result .good) (c .if2 .left))))
 
 abbrev called : tie.After-operand-at2 → Call
 called c =
-    let L = lefted (halved c) .operand-at in
+    let L = left (halved c) .operand-at in
     let R = c .operand-at2 in
     record { head = headOf (headed (halved c)); left = heldIn (L .last .1 .1 .0) (L .result); right = heldIn (R .last .1 .1 .0) (R .result) }
 
@@ -98,7 +97,7 @@ returns-4 c =
     let st = start (short (headed e)) in
     let few = short (headed e) .if1 .left in
     let R = p .operand-at2 in
-    bad-line (line st) (st .args .l .now) _ (st .args .r .now) _ (lefted e .operand-at .kept .1 .1 .0, R .kept .1 .1 .0) (c .bad4 .ensures)
+    bad-line (line st) (st .args .l .now) _ (st .args .r .now) _ (left e .operand-at .kept .1 .1 .0, R .kept .1 .1 .0) (c .bad4 .ensures)
     (⊎-elim
     (λ w. no-call _ _ (line st) few (lacks-on (after-left e) (then-lacks _ (operand-lacks (R .ensures) (not-true (R .result .good) (w .taken))))))
     (λ w. left-over _ _ (line st) few (after-right p (not-false (R .result .good) (w .0 .left))) (leb-true (R .result .next) (length (line st)) (w .2 .taken)))
@@ -110,7 +109,7 @@ returns-5 c =
     let p = e .before .before .before .before .before in
     let h = headed (halved p) in
     let st = start (short h) in
-    let L = lefted (halved p) .operand-at in
+    let L = left (halved p) .operand-at in
     let R = p .operand-at2 in
     let is-left : L .result .good ≡ true = not-false (L .result .good) (halved p .if2 .left) in
     let is-right : R .result .good ≡ true = not-false (R .result .good) (e .before .before .if3 .left) in

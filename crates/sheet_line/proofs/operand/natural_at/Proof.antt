@@ -1,7 +1,6 @@
-use Prim.Native.Nat.{_≤_, _<_}
 use mathlib.Core.Path.{_≡_, sym, _∙_}
-use mathlib.Core.Bool.{true, false}
-use lib.IntN.{ℤ, natAbs}
+use mathlib.Core.Bool.{false}
+use lib.IntN.{ℤ}
 use Rattle.meaning.specs.Terms.{negative}
 use Rattle.sheet_line.specs.Call.{give, nextNumber}
 use Rattle.sheet_line.proofs.Readers.{Reads, held, number-read, number-lacks, no-natural, natural-negative, natural-over, natural-good}

@@ -83,25 +83,25 @@ returns : tie.Need-returns
 unfolding operand
 returns c =
     let n = c .before .before .before in
-    untaken _ _ _ _ _ (c .no-operand .ensures) (then-lacks (lengthsOn _) (natural-lacks maxRank (n .natural-at .ensures .0) (c .before .enum-told .given .1)))
+    untaken (c .no-operand .ensures) (then-lacks (lengthsOn _) (natural-lacks maxRank (n .natural-at .ensures .0) (c .before .enum-told .given .1)))
 
 returns-2 : tie.Need-returns-2
 returns-2 c =
     let ls = c .before .before .before .lengths-at in
     let e = c .before .before .before .before in
-    untaken _ _ _ _ _ (c .no-operand2 .ensures)
+    untaken (c .no-operand2 .ensures)
     (lacks-on (after-rank e) (lengths-lack _ _ (ls .result) (ls .ensures .0) (not-true (ls .result .good) (c .before .if1 .taken))))
 
 returns-3 : tie.Need-returns-3
 returns-3 c =
     let e = measured (c .before .before) in
-    untaken _ _ _ _ _ (c .no-operand3 .ensures) (lacks-on (after-lengths e) (too-many (limit (start (ranked e))) (lengths e) (over (c .before))))
+    untaken (c .no-operand3 .ensures) (lacks-on (after-lengths e) (too-many (limit (start (ranked e))) (lengths e) (over (c .before))))
 
 returns-4 : tie.Need-returns-4
 returns-4 c =
     let es = c .before .before .before .before in
     let e = es .before .before in
-    untaken _ _ _ _ _ (c .no-operand4 .ensures)
+    untaken (c .no-operand4 .ensures)
     (lacks-on (after-count e) (elements-lack _ _ (count-is e) (es .elements-at .ensures .0) (c .before .enum-told2 .given .1)))
 
 returns-5 : tie.Need-returns-5
