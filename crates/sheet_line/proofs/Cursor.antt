@@ -18,7 +18,7 @@ use Rattle.sheet_line.specs.Call.{give, nextNumber}
 use Rattle.sheet_line.specs.Steps.{left, readAt, numberOf, numberTaken}
 use Rattle.sheet_line.proofs.Sizes.{size-over}
 use Rattle.sheet_line.proofs.Options.{none-some}
-use Rattle.sheet_line.proofs.Scan.{digit-of, scan-on, scan-blank, sign}
+use Rattle.sheet_line.proofs.Scan.{digit-of, scan-on, scan-blank, sign, more-sign}
 
 -- A byte less `0`, where the bytes below `0` wrap around.
 module _ (b r : ℕ) (h : r < 256) (e : (r + 48) % 2 ^ 8 ≡ b) where
@@ -118,11 +118,6 @@ over negative n (b ∷ bs) h =
 
 -- The first digit.
 module _ (b d : ℕ) (e : digitOf b ≡ some d) where
-  pub first-size : (negative : Bool) → 0 < d → first negative b ≡ some (size negative d)
-  unfolding first
-  first-size true h = rw (e, ne-eqb d 0 (λ q. omega arith))
-  first-size false h = rw e
-
   pub first-zero : (negative : Bool) → d ≡ 0 → negative ≡ false → first negative b ≡ some (size false 0)
   unfolding first
   first-zero negative h q = rw (e, h, q)
@@ -143,11 +138,6 @@ sign-blank : (negative : Bool) (bs : List ℕ) → scan (sign negative) (Text.bl
 unfolding ended
 sign-blank true bs = scan-blank minus bs
 sign-blank false bs = scan-blank nothing bs
-
-more-sign : (negative : Bool) (b : ℕ) → (negative ≡ false → b ≡ Text.minus → ⊥) → more (sign negative) b ≡ first negative b
-unfolding more
-more-sign true b m = refl
-more-sign false b m = rw (ne-eqb b Text.minus (m refl))
 
 module _ (negative : Bool) (line : List ℕ) (i : ℕ) (h : i < length line) (m : negative ≡ false → byteAt line i ≡ Text.minus → ⊥) where
   pub first-byte : scan (sign negative) (drop i line) ≡ andThen (first negative (byteAt line i)) (λ t. scan t (drop (i + 1) line))

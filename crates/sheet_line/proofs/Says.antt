@@ -142,29 +142,25 @@ natural-again : (m n : ℕ) (rest : List ℤ) → leb n m ≡ true → natural m
 unfolding natural
 natural-again m n rest h = rw h
 
-module _ {A : Type 0} (p : Reader A) (w : A → ℤ) (test : A → Bool)
-    (again : (a : A) (rest : List ℤ) → test a ≡ true → p (w a ∷ rest) ≡ some (a, rest)) where
-  many-again : (xs : List A) (rest : List ℤ) → every test xs ≡ true → many p (length xs) (map w xs ++ rest) ≡ some (xs, rest)
-  unfolding many every
-  many-again [] rest h = refl
-  many-again (x ∷ xs) rest h =
-      let b = both (test x) (every test xs) h in
-      rw (again x (map w xs ++ rest) (b .0), many-again xs rest (b .1))
-
-all-true : (zs : List ℤ) → every (λ z. true) zs ≡ true
-unfolding every
-all-true [] = refl
-all-true (z ∷ zs) = all-true zs
+lengths-again : (ns : List ℕ) (rest : List ℤ) → every (λ n. leb n maxHeld) ns ≡ true
+    → many (natural maxHeld) (length ns) (map pos ns ++ rest) ≡ some (ns, rest)
+unfolding many every
+lengths-again [] rest h = refl
+lengths-again (n ∷ ns) rest h =
+    let b = both (leb n maxHeld) (every (λ m. leb m maxHeld) ns) h in
+    rw (natural-again maxHeld n (map pos ns ++ rest) (b .0), lengths-again ns rest (b .1))
 
 elements-again : (zs rest : List ℤ) → many nextNumber (length zs) (zs ++ rest) ≡ some (zs, rest)
-elements-again zs rest = rw (map-id zs) at (many-again nextNumber (λ z. z) (λ z. true) (λ z r h. refl) zs rest (all-true zs))
+unfolding many
+elements-again [] rest = refl
+elements-again (z ∷ zs) rest = rw (elements-again zs rest)
 
 operand-again : (limit : ℕ) (a : Array) (rest : List ℤ) → Held limit a → operand limit (operandNumbers a ++ rest) ≡ some (a, rest)
 unfolding operand operandNumbers
 operand-again limit a rest h =
     let ns = a .lengths in
     let rank = natural-again maxRank (length ns) (map pos ns ++ (a .elements ++ rest)) (le-leb (length ns) maxRank (h .rank)) in
-    let lengths = many-again (natural maxHeld) pos (λ n. leb n maxHeld) (natural-again maxHeld) ns (a .elements ++ rest) (h .lengths) in
+    let lengths = lengths-again ns (a .elements ++ rest) (h .lengths) in
     let elements = rw (h .elements) at (elements-again (a .elements) rest) in
     rw (append-assoc (map pos ns) (a .elements) rest, rank, lengths, le-leb (count ns) limit (h .room), elements)
 

@@ -2,7 +2,8 @@ use native.Mathlib.Omega.{arith}
 use mathlib.Core.Path.{_≡_}
 use mathlib.Core.Option.{some}
 use Rattle.sheet_line.specs.Numbers.{digitOf}
-use Rattle.sheet_line.proofs.Cursor.{is-digit, no-digit, first-none, first-size, first-zero, minus-zero}
+use Rattle.sheet_line.proofs.Scan.{first-is}
+use Rattle.sheet_line.proofs.Cursor.{is-digit, no-digit, first-none, first-zero, minus-zero}
 use borrow.Author.Needs.{needs}
 use Rattle.sheet_line.proofs.numbers.from_digit.Statement.{statement}
 use Rattle.sheet_line.proofs.numbers.from_digit.Tie as tie
@@ -20,7 +21,7 @@ returns-2 : tie.Need-returns-2
 returns-2 c =
     let e = c .before .before in
     let a = e .before .before .before .args in
-    rw (first-size (a .b) (e .before .digit-value .result) (digit e) (a .negative) (c .before .if2 .taken)) (c .after-digit .ensures)
+    rw (first-is (a .negative) (a .b) (e .before .digit-value .result) (digit e) (λ t. c .before .if2 .taken)) (c .after-digit .ensures)
 
 returns-3 : tie.Need-returns-3
 returns-3 c =
