@@ -45,7 +45,9 @@ more-sign true b m = refl
 more-sign false b m = rw (ne-eqb b Text.minus (m refl))
 
 scan-first : (negative : Bool) (d : ℕ) (bs : List ℕ) → d < 10 → (negative ≡ true → 0 < d) → scan (sign negative) (digit d ∷ bs) ≡ scan (size negative d) bs
-scan-first negative d bs h k = scan-on (sign negative) (digit d) bs (λ e. omega arith) ∙ rw (more-sign negative (digit d) (λ p e. omega arith), first-is negative (digit d) d (digit-of d h) k)
+scan-first negative d bs h k =
+    scan-on (sign negative) (digit d) bs (λ e. omega arith)
+    ∙ rw (more-sign negative (digit d) (λ p e. omega arith), first-is negative (digit d) d (digit-of d h) k)
 
 pub scan-next : (negative : Bool) (n d : ℕ) (bs : List ℕ) → 0 < n → d < 10 → scan (size negative n) (digit d ∷ bs) ≡ scan (size negative (n * 10 + d)) bs
 unfolding more
