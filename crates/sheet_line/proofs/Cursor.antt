@@ -14,11 +14,11 @@ use lib.IntN.{ℤ}
 use borrow.Author.Tests.{le-leb, lt-leb, ne-eqb, eqb-true, eqb-false}
 use Rattle.sheet_line.specs.Text as Text
 use Rattle.sheet_line.specs.Numbers.{andThen, Begun, nothing, minus, size, digitOf, first, more, ended, scan, numbers}
-use Rattle.sheet_line.specs.Call.{number}
-use Rattle.sheet_line.specs.Steps.{left, got, numberOf}
+use Rattle.sheet_line.specs.Call.{give, nextNumber}
+use Rattle.sheet_line.specs.Steps.{left, readAt, numberOf, numberTaken}
 use Rattle.sheet_line.proofs.Sizes.{size-over}
 use Rattle.sheet_line.proofs.Options.{none-some}
-use Rattle.sheet_line.proofs.Scan.{digit-of, scan-on, scan-blank, sign}
+use Rattle.sheet_line.proofs.Scan.{digit-of, scan-on, scan-blank, sign, more-sign}
 
 -- A byte less `0`, where the bytes below `0` wrap around.
 module _ (b r : ℕ) (h : r < 256) (e : (r + 48) % 2 ^ 8 ≡ b) where
@@ -46,6 +46,9 @@ module _ (b r : ℕ) (e : digitOf b ≡ cond (leb r 9) (some r) none) where
   pub no-digit : 9 < r → digitOf b ≡ none
   no-digit h = e ∙ rw (lt-leb r 9 h)
 
+abbrev pub byteAt : List ℕ → ℕ → ℕ
+byteAt line i = getD line i 0
+
 -- A number's end, by what is left after it.
 abbrev pub Ends : List ℕ → ℕ → Type 0
 Ends line e = (s : Begun) → scan s (drop e line) ≡ andThen (ended s) (λ z. andThen (left line (e + 1)) (λ zs. some (z ∷ zs)))
@@ -54,57 +57,60 @@ pub line-ends : (line : List ℕ) (e : ℕ) → length line ≡ e → Ends line 
 unfolding scan left
 line-ends line e h s = rw (drop-of-length-le line {i = e} (omega arith), lt-leb (e + 1) (length line) (omega arith))
 
-pub blank-ends : (line : List ℕ) (e : ℕ) → e < length line → getD line e 0 ≡ Text.blank → Ends line e
+pub blank-ends : (line : List ℕ) (e : ℕ) → e < length line → byteAt line e ≡ Text.blank → Ends line e
 unfolding left numbers
 blank-ends line e h b s = rw (drop-cons line e 0 h, b, le-leb (e + 1) (length line) (omega arith), add-one) (scan-blank s (drop (suc e) line))
 
-found : (o : Option ℤ) (rest : ℕ → Option (List ℤ)) (next : ℕ)
-    → andThen (andThen o (λ z. andThen (rest next) (λ zs. some (z ∷ zs)))) number ≡ got (numberOf o next .good) (numberOf o next .value) (rest (numberOf o next .next))
-found none rest next = refl
-found (some z) rest next = by-rest (rest next)
-  where
-    by-rest : (r : Option (List ℤ)) → andThen (andThen r (λ zs. some (z ∷ zs))) number ≡ got true z r
-    by-rest none = refl
-    by-rest (some zs) = refl
-
 -- The number that ends at e.
 pub number-ends : (line : List ℕ) (e : ℕ) (s : Begun) → Ends line e
-    → andThen (scan s (drop e line)) number ≡ got (numberOf (ended s) (e + 1) .good) (numberOf (ended s) (e + 1) .value) (left line (numberOf (ended s) (e + 1) .next))
-number-ends line e s h = rw (h s) (found (ended s) (left line) (e + 1))
+    → andThen (scan s (drop e line)) nextNumber ≡ numberTaken line (numberOf (ended s) (e + 1))
+unfolding readAt
+number-ends line e s h = rw (h s) (by-number (ended s))
+  where
+    by-rest : (z : ℤ) (r : Option (List ℤ)) → andThen (andThen r (λ zs. some (z ∷ zs))) nextNumber ≡ andThen r (give z)
+    by-rest z none = refl
+    by-rest z (some zs) = refl
 
-module _ (line : List ℕ) (i : ℕ) (h : i < length line) (b : getD line i 0 ≡ Text.blank → ⊥) where
-  pub scan-at : (s : Begun) → scan s (drop i line) ≡ andThen (more s (getD line i 0)) (λ t. scan t (drop (suc i) line))
-  scan-at s = rw (drop-cons line i 0 h) (scan-on s (getD line i 0) (drop (suc i) line) b)
+    by-number : (o : Option ℤ)
+        → andThen (andThen o (λ z. andThen (left line (e + 1)) (λ zs. some (z ∷ zs)))) nextNumber ≡ numberTaken line (numberOf o (e + 1))
+    by-number none = refl
+    by-number (some z) = by-rest z (left line (e + 1))
+
+module _ (line : List ℕ) (i : ℕ) (h : i < length line) (b : byteAt line i ≡ Text.blank → ⊥) where
+  pub scan-at : (s : Begun) → scan s (drop i line) ≡ andThen (more s (byteAt line i)) (λ t. scan t (drop (suc i) line))
+  scan-at s = rw (drop-cons line i 0 h) (scan-on s (byteAt line i) (drop (suc i) line) b)
 
   -- Nothing follows a 0.
   pub zero-stops : (negative : Bool) → scan (size negative 0) (drop i line) ≡ none
   unfolding more
-  zero-stops negative = scan-at (size negative 0) ∙ by-digit (digitOf (getD line i 0))
+  zero-stops negative = scan-at (size negative 0) ∙ by-digit (digitOf (byteAt line i))
     where
       by-digit : (o : Option ℕ) → andThen (andThen o (λ (d : ℕ). none)) (λ t. scan t (drop (suc i) line)) ≡ none
       by-digit none = refl
       by-digit (some d) = refl
 
-  pub stops : (negative : Bool) (n : ℕ) → digitOf (getD line i 0) ≡ none → scan (size negative n) (drop i line) ≡ none
+  pub stops : (negative : Bool) (n : ℕ) → digitOf (byteAt line i) ≡ none → scan (size negative n) (drop i line) ≡ none
   unfolding more
   stops negative n e = scan-at (size negative n) ∙ rw e
 
-  pub goes-on : (negative : Bool) (n d : ℕ) → 0 < n → digitOf (getD line i 0) ≡ some d → scan (size negative n) (drop i line) ≡ scan (size negative (n * 10 + d)) (drop (i + 1) line)
+  pub goes-on : (negative : Bool) (n d : ℕ) → 0 < n → digitOf (byteAt line i) ≡ some d
+      → scan (size negative n) (drop i line) ≡ scan (size negative (n * 10 + d)) (drop (i + 1) line)
   unfolding more
   goes-on negative n d p e = scan-at (size negative n) ∙ rw (e, ne-eqb n 0 (λ q. omega arith), add-one)
 
 -- A size that is too large stays so.
-over-more : (negative : Bool) (n : ℕ) (o : Option ℕ) (t : Bool) (f : Begun → Option (List ℤ)) → ((d : ℕ) → f (size negative (n * 10 + d)) ≡ none)
-    → andThen (andThen o (λ d. cond t none (some (size negative (n * 10 + d))))) f ≡ none
-over-more negative n none t f h = refl
-over-more negative n (some d) true f h = refl
-over-more negative n (some d) false f h = h d
+module _ (negative : Bool) (n : ℕ) (f : Begun → Option (List ℤ)) (h : (d : ℕ) → f (size negative (n * 10 + d)) ≡ none) where
+  over-more : (o : Option ℕ) (t : Bool) → andThen (andThen o (λ d. cond t none (some (size negative (n * 10 + d))))) f ≡ none
+  over-more none t = refl
+  over-more (some d) true = refl
+  over-more (some d) false = h d
 
 pub over : (negative : Bool) (n : ℕ) (bs : List ℕ) → 2 ^ 31 < n → scan (size negative n) bs ≡ none
 unfolding scan more
 over negative n [] h = rw (size-over negative n h)
 over negative n (b ∷ bs) h =
-    rw (size-over negative n h, over-more negative n (digitOf b) (eqb n 0) (λ t. scan t bs) (λ d. over negative (n * 10 + d) bs (omega arith))) (same (eqb b Text.blank))
+    let longer : (d : ℕ) → scan (size negative (n * 10 + d)) bs ≡ none = λ d. over negative (n * 10 + d) bs (omega arith) in
+    rw (size-over negative n h, over-more negative n (λ t. scan t bs) longer (digitOf b) (eqb n 0)) (same (eqb b Text.blank))
   where
     same : (t : Bool) → _≡_ {A = Option (List ℤ)} (cond t none none) none
     same true = refl
@@ -112,11 +118,6 @@ over negative n (b ∷ bs) h =
 
 -- The first digit.
 module _ (b d : ℕ) (e : digitOf b ≡ some d) where
-  pub first-size : (negative : Bool) → 0 < d → first negative b ≡ some (size negative d)
-  unfolding first
-  first-size true h = rw (e, ne-eqb d 0 (λ q. omega arith))
-  first-size false h = rw e
-
   pub first-zero : (negative : Bool) → d ≡ 0 → negative ≡ false → first negative b ≡ some (size false 0)
   unfolding first
   first-zero negative h q = rw (e, h, q)
@@ -138,34 +139,31 @@ unfolding ended
 sign-blank true bs = scan-blank minus bs
 sign-blank false bs = scan-blank nothing bs
 
-more-sign : (negative : Bool) (b : ℕ) → (negative ≡ false → b ≡ Text.minus → ⊥) → more (sign negative) b ≡ first negative b
-unfolding more
-more-sign true b m = refl
-more-sign false b m = rw (ne-eqb b Text.minus (m refl))
-
-module _ (negative : Bool) (line : List ℕ) (i : ℕ) (h : i < length line) (m : negative ≡ false → getD line i 0 ≡ Text.minus → ⊥) where
-  byte-case : (t : Bool) → eqb (getD line i 0) Text.blank ≡ t → scan (sign negative) (drop i line) ≡ andThen (first negative (getD line i 0)) (λ u. scan u (drop (i + 1) line))
-  byte-case true e = let q = eqb-true (getD line i 0) Text.blank e in rw (drop-cons line i 0 h, q, no-blank-first negative) (sign-blank negative (drop (suc i) line))
-  byte-case false e = scan-at line i h (eqb-false (getD line i 0) Text.blank e) (sign negative) ∙ rw (more-sign negative (getD line i 0) m, add-one)
-
-  pub first-byte : scan (sign negative) (drop i line) ≡ andThen (first negative (getD line i 0)) (λ t. scan t (drop (i + 1) line))
-  first-byte = byte-case (eqb (getD line i 0) Text.blank) refl
+module _ (negative : Bool) (line : List ℕ) (i : ℕ) (h : i < length line) (m : negative ≡ false → byteAt line i ≡ Text.minus → ⊥) where
+  pub first-byte : scan (sign negative) (drop i line) ≡ andThen (first negative (byteAt line i)) (λ t. scan t (drop (i + 1) line))
+  first-byte = by-test (eqb (byteAt line i) Text.blank) refl
+    where
+      by-test : (t : Bool) → eqb (byteAt line i) Text.blank ≡ t
+          → scan (sign negative) (drop i line) ≡ andThen (first negative (byteAt line i)) (λ u. scan u (drop (i + 1) line))
+      by-test true e =
+          rw (drop-cons line i 0 h, eqb-true (byteAt line i) Text.blank e, no-blank-first negative) (sign-blank negative (drop (suc i) line))
+      by-test false e = scan-at line i h (eqb-false (byteAt line i) Text.blank e) (sign negative) ∙ rw (more-sign negative (byteAt line i) m, add-one)
 
 -- No number starts at the end of a line, or past it.
-pub none-left : (line : List ℕ) (at : ℕ) → length line ≤ at → andThen (left line at) number ≡ none
-unfolding left numbers scan ended
+pub none-left : (line : List ℕ) (at : ℕ) → length line ≤ at → readAt line at nextNumber ≡ none
+unfolding readAt left numbers scan ended
 none-left line at h = rw (drop-of-length-le line {i = at} h) (by-test (leb at (length line)))
   where
-    by-test : (t : Bool) → andThen (cond t none (some [])) number ≡ none
+    by-test : (t : Bool) → andThen (cond t none (some [])) nextNumber ≡ none
     by-test true = refl
     by-test false = refl
 
-pub left-here : (line : List ℕ) (at : ℕ) → at ≤ length line → left line at ≡ scan nothing (drop at line)
-unfolding left numbers
+pub left-here : (line : List ℕ) (at : ℕ) → at ≤ length line → readAt line at nextNumber ≡ andThen (scan nothing (drop at line)) nextNumber
+unfolding readAt left numbers
 left-here line at h = rw (le-leb at (length line) h)
 
 -- After `-`.
-pub minus-on : (line : List ℕ) (at : ℕ) → at < length line → getD line at 0 ≡ Text.minus → scan nothing (drop at line) ≡ scan minus (drop (at + 1) line)
+pub minus-on : (line : List ℕ) (at : ℕ) → at < length line → byteAt line at ≡ Text.minus → scan nothing (drop at line) ≡ scan minus (drop (at + 1) line)
 unfolding more
 minus-on line at h e = scan-at line at h (λ q. omega arith) nothing ∙ rw (e, add-one)
 

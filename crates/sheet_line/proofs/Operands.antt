@@ -1,36 +1,36 @@
 -- An operand, by what was taken of it.
-use Prim.Native.Nat.{ℕ, zero, suc, _≤_, _<_, min}
+use Prim.Native.Nat.{ℕ, zero, suc, _+_, _≤_, _<_, min}
+use native.Mathlib.Numerals.{add-one}
 use native.Mathlib.Omega.{arith}
 use mathlib.Core.Path.{_≡_, refl, sym, ap, _∙_}
-use mathlib.Core.List.{List, []}
-use mathlib.Core.Option.{Option, none}
-use mathlib.Core.Bool.{Bool, true, false, cond}
+use mathlib.Core.List.{List}
+use mathlib.Core.Bool.{true, false, cond}
 use lib.Dec.{leb}
-use lib.ListN.{length, take, drop, replicate, take-append-drop}
-use lib.Seq.{length-take-le}
+use lib.ListN.{length, take, drop, set, replicate, take-append-drop}
+use lib.Seq.{length-take-le, take-suc-set}
 use lib.IntN.{ℤ}
 use borrow.Author.Tests.{le-leb, lt-leb}
 use Rattle.shape.specs.declared.Shape.{Shape}
 use Rattle.shape.specs.Shape.{maxRank, maxCount, small, count, counted, countOf, shapeOf, scalar, madeOf}
 use Rattle.shape.proofs.Bools.{no-way}
-use Rattle.shape.proofs.Counts.{count-held}
+use Rattle.shape.proofs.Counts.{count-held, small-snoc}
 use Rattle.shape.proofs.Made.{made-is, made-counted}
 use Rattle.meaning.specs.Array.{Array}
+use Rattle.sheet_line.specs.declared.operand.Lengths.{Lengths}
+use Rattle.sheet_line.specs.declared.operand.Elements.{Elements}
 use Rattle.sheet_line.specs.declared.operand.Operand.{Operand}
-use Rattle.sheet_line.specs.Numbers.{andThen}
-use Rattle.sheet_line.specs.Call.{maxHeld, Reader, give, fail, _then_, number, natural, many, operand, front, room}
-use Rattle.sheet_line.specs.Steps.{left, got, Taken}
-use Rattle.sheet_line.proofs.Readers.{then-bad, then-good, fails}
-
-pub small-none : small [] ≡ true
-unfolding small
-small-none = refl
+use Rattle.sheet_line.specs.Call.{maxHeld, Reader, give, fail, _then_, nextNumber, natural, many, operand, room}
+use Rattle.sheet_line.specs.Steps.{readAt, lengthsTaken, elementsTaken, Taken}
+use Rattle.sheet_line.proofs.Readers.{Reads, Lacks, then-lacks, then-reads, fails}
 
 pub small-zeros : (n m : ℕ) → small (take n (replicate {A = ℕ} m 0)) ≡ true
 unfolding small
 small-zeros zero m = refl
 small-zeros (suc n) zero = refl
 small-zeros (suc n) (suc m) = small-zeros n m
+
+pub small-set : (i n : ℕ) (lens : List ℕ) → small (take i lens) ≡ true → n ≤ maxCount → i < length lens → small (take (i + 1) (set lens i n)) ≡ true
+small-set i n lens f h l = rw (add-one, take-suc-set lens i n l) (small-snoc (take i lens) n f h)
 
 -- The shape that is made of lengths, and its count.
 pub record Made (ns : List ℕ) (s : Shape) (n : ℕ) : Type 0 where
@@ -47,56 +47,51 @@ made rank lens s n h l f e k =
     let bound : s .rank ≤ maxRank = rw shape (omega (arith, length-take-le rank lens (omega arith))) in
     record { shape = shape; counts = counts; held = k ∙ count-held s bound (rw counts f) ∙ rw counts }
 
--- The operand that the rank, the lengths and the elements taken make.
-module _ (limit : ℕ) (o : Option (List ℤ)) (has-rank : Bool) (rank : ℕ) (o₁ : Option (List ℤ)) (e₁ : andThen o (natural maxRank) ≡ got has-rank rank o₁) where
-  elementsOf : List ℕ → Reader Array
-  elementsOf ns = many number (count ns) then λ zs. give (record { lengths = ns; elements = zs })
+-- What is still to be read of an operand: after the rank, after the lengths, and where there is room for so many elements.
+abbrev pub elementsOn : List ℕ → Reader Array
+elementsOn ns = many nextNumber (count ns) then λ zs. give (record { lengths = ns; elements = zs })
 
-  lengthsOf : ℕ → Reader Array
-  lengthsOf r = many (natural maxHeld) r then λ ns. cond (leb (count ns) limit) (elementsOf ns) fail
+abbrev pub countOn : ℕ → List ℕ → Reader Array
+countOn limit ns = cond (leb (count ns) limit) (elementsOn ns) fail
 
-  pub no-rank : has-rank ≡ false → andThen o (operand limit) ≡ none
-  unfolding operand
-  no-rank g = then-bad (natural maxRank) _ o (rw g at e₁)
+abbrev pub lengthsOn : ℕ → ℕ → Reader Array
+lengthsOn limit rank = many (natural maxHeld) rank then countOn limit
 
-  module _ (t₁ : has-rank ≡ true) (has-lengths : Bool) (ns : List ℕ) (o₂ : Option (List ℤ)) (e₂ : andThen o₁ (many (natural maxHeld) rank) ≡ got has-lengths ns o₂) where
-    rank-taken : andThen o (operand limit) ≡ andThen o₁ (lengthsOf rank)
-    unfolding operand lengthsOf elementsOf
-    rank-taken = then-good (natural maxRank) lengthsOf o rank o₁ (rw t₁ at e₁)
+module _ (limit : ℕ) (ns : List ℕ) {line : List ℕ} {at : ℕ} where
+  pub too-many : limit < count ns → Lacks line (countOn limit ns) at
+  too-many h = rw (lt-leb (count ns) limit h) fails
 
-    pub no-lengths : has-lengths ≡ false → andThen o (operand limit) ≡ none
-    unfolding lengthsOf
-    no-lengths g = rank-taken ∙ then-bad (many (natural maxHeld) rank) _ o₁ (rw g at e₂)
+  pub few-enough : count ns ≤ limit → Reads line (countOn limit ns) at (elementsOn ns) at
+  few-enough h = record { is = rw (le-leb (count ns) limit h) }
 
-    module _ (t₂ : has-lengths ≡ true) where
-      lengths-taken : andThen o (operand limit) ≡ andThen o₂ (cond (leb (count ns) limit) (elementsOf ns) fail)
-      unfolding lengthsOf
-      lengths-taken = rank-taken ∙ then-good (many (natural maxHeld) rank) (λ ms. cond (leb (count ms) limit) (elementsOf ms) fail) o₁ ns o₂ (rw t₂ at e₂)
+-- By what the code has found.
+module _ (limit rank : ℕ) (r : Lengths) {line : List ℕ} {at : ℕ} (e : readAt line at (many (natural maxHeld) rank) ≡ lengthsTaken line rank r) where
+  pub lengths-read : r .good ≡ true → Reads line (lengthsOn limit rank) at (countOn limit (take rank (r .lens))) (r .next)
+  lengths-read g = then-reads (countOn limit) (record { is = rw g at e })
 
-      pub too-many : limit < count ns → andThen o (operand limit) ≡ none
-      too-many h = lengths-taken ∙ rw (lt-leb (count ns) limit h) (fails o₂)
+  pub lengths-lack : r .good ≡ false → Lacks line (lengthsOn limit rank) at
+  lengths-lack g = then-lacks (countOn limit) (record { is = rw g at e })
 
-      module _ (h : count ns ≤ limit) (has-elements : Bool) (zs : List ℤ) (o₃ : Option (List ℤ)) (e₃ : andThen o₂ (many number (count ns)) ≡ got has-elements zs o₃) where
-        count-within : andThen o (operand limit) ≡ andThen o₂ (elementsOf ns)
-        count-within = lengths-taken ∙ rw (le-leb (count ns) limit h)
+module _ (ns : List ℕ) (zs : List ℤ) {line : List ℕ} {at n : ℕ} {r : Elements} (k : n ≡ count ns)
+    (e : readAt line at (many nextNumber n) ≡ elementsTaken line zs r) where
+  pub elements-read : {next : ℕ} → r ≡ Elements.Before next → Reads line (elementsOn ns) at (give (record { lengths = ns; elements = zs })) next
+  elements-read f = then-reads (λ xs. give (record { lengths = ns; elements = xs })) (record { is = rw k at e ∙ ap (elementsTaken line zs) f })
 
-        pub no-elements : has-elements ≡ false → andThen o (operand limit) ≡ none
-        unfolding elementsOf
-        no-elements g = count-within ∙ then-bad (many number (count ns)) _ o₂ (rw g at e₃)
-
-        pub all-taken : has-elements ≡ true → andThen o (operand limit) ≡ andThen o₃ (give (record { lengths = ns; elements = zs }))
-        unfolding elementsOf
-        all-taken g = count-within ∙ then-good (many number (count ns)) (λ xs. give (record { lengths = ns; elements = xs })) o₂ zs o₃ (rw g at e₃)
+  pub elements-lack : r ≡ Elements.Nothing → Lacks line (elementsOn ns) at
+  elements-lack f = then-lacks (λ xs. give (record { lengths = ns; elements = xs })) (record { is = rw k at e ∙ ap (elementsTaken line zs) f })
 
 -- No operand.
-module _ (line : List ℕ) (at : ℕ) (before after : List ℤ) (r : Operand) where
-  pub untaken : (r .good ≡ false) × (r .shape ≡ scalar) → andThen (left line at) (operand (room before)) ≡ none → Taken line at before after r
-  untaken b e = record {
-    read = rw (b .0) e;
-    shape = rw (b .1);
-    stored = λ g. no-way (sym (b .0) ∙ g);
-  }
+pub untaken : {line : List ℕ} {at : ℕ} {before after : List ℤ} {r : Operand} → (r .good ≡ false) × (r .shape ≡ scalar)
+    → Lacks line (operand (room before)) at → Taken line at before after r
+untaken b e = record { read = rw (b .0) (e .is); shape = rw (b .1); stored = λ g. no-way (sym (b .0) ∙ g) }
 
--- Elements that were stored at the front of a buffer.
-pub stored-front : (n : ℕ) (before after : List ℤ) → n ≤ length after → drop n after ≡ drop n before → after ≡ front (take n after) before
-stored-front n before after h e = rw (length-take-le n after h, ← e) (sym (take-append-drop n after))
+-- An operand whose elements were stored at the front of the buffer.
+module _ {line : List ℕ} {at : ℕ} {before after : List ℤ} {s : Shape} {n next : ℕ} (ns : List ℕ) (k : n ≡ count ns) where
+  pub whole-taken : counted s ≡ ns → s ≡ shapeOf ns
+      → Reads line (operand (room before)) at (give (record { lengths = ns; elements = take n after })) next
+      → n ≤ length after → drop n after ≡ drop n before → Taken line at before after (record { good = true; shape = s; next = next })
+  whole-taken c m e h d = record {
+    read = rw c (rw k at (e .is));
+    shape = rw c m;
+    stored = λ g. rw (c, ← k, length-take-le n after h, ← d) (sym (take-append-drop n after));
+  }

@@ -90,7 +90,8 @@ first-text negative b t e =
     let u = unless-some (negative && eqb (p .found) 0) (some (size negative (p .found))) t (p .on) in
     rw (← some-inj (u .1)) (first-size negative b (p .found) (p .is) (u .0))
 
-next-size : (negative : Bool) (n b d : ℕ) → Fine (size negative n) → digitOf b ≡ some d → eqb n 0 ≡ false → Longer (size negative n) b (size negative (n * 10 + d))
+next-size : (negative : Bool) (n b d : ℕ) → Fine (size negative n) → digitOf b ≡ some d → eqb n 0 ≡ false
+    → Longer (size negative n) b (size negative (n * 10 + d))
 unfolding Longer textOf Fine
 next-size true n b d f e h = let q = digit-text b d e in (rw (digits-append n d f (q .1), q .0), omega arith)
 next-size false n b d f e h =

@@ -34,18 +34,20 @@ abbrev pub sign : Bool → Begun
 sign true = minus
 sign false = nothing
 
-first-digit : (negative : Bool) (d : ℕ) → d < 10 → (negative ≡ true → 0 < d) → first negative (digit d) ≡ some (size negative d)
+pub first-is : (negative : Bool) (b d : ℕ) → digitOf b ≡ some d → (negative ≡ true → 0 < d) → first negative b ≡ some (size negative d)
 unfolding first
-first-digit true d h k = rw (digit-of d h, ne-eqb d 0 (let p = k refl in λ e. omega arith))
-first-digit false d h k = rw (digit-of d h)
+first-is true b d e k = rw (e, ne-eqb d 0 (let p = k refl in λ q. omega arith))
+first-is false b d e k = rw e
 
-more-first : (negative : Bool) (d : ℕ) → more (sign negative) (digit d) ≡ first negative (digit d)
+pub more-sign : (negative : Bool) (b : ℕ) → (negative ≡ false → b ≡ Text.minus → ⊥) → more (sign negative) b ≡ first negative b
 unfolding more
-more-first true d = refl
-more-first false d = rw (ne-eqb (48 + d) 45 (λ e. omega arith))
+more-sign true b m = refl
+more-sign false b m = rw (ne-eqb b Text.minus (m refl))
 
 scan-first : (negative : Bool) (d : ℕ) (bs : List ℕ) → d < 10 → (negative ≡ true → 0 < d) → scan (sign negative) (digit d ∷ bs) ≡ scan (size negative d) bs
-scan-first negative d bs h k = scan-on (sign negative) (digit d) bs (λ e. omega arith) ∙ rw (more-first negative d, first-digit negative d h k)
+scan-first negative d bs h k =
+    scan-on (sign negative) (digit d) bs (λ e. omega arith)
+    ∙ rw (more-sign negative (digit d) (λ p e. omega arith), first-is negative (digit d) d (digit-of d h) k)
 
 pub scan-next : (negative : Bool) (n d : ℕ) (bs : List ℕ) → 0 < n → d < 10 → scan (size negative n) (digit d ∷ bs) ≡ scan (size negative (n * 10 + d)) bs
 unfolding more
@@ -60,7 +62,8 @@ module _ (negative : Bool) (n : ℕ) (k : negative ≡ true → 0 < n) where
       rw (digits-more n (omega arith), append-snoc (digits (n / 10)) (digit (n % 10)) bs)
       (shorter (omega arith) (digit (n % 10) ∷ bs) ∙ scan-next negative (n / 10) (n % 10) bs (omega arith) (omega arith) ∙ rw e)
 
-digits-deep : (f : ℕ) (negative : Bool) (n : ℕ) (bs : List ℕ) → n ≤ f → (negative ≡ true → 0 < n) → scan (sign negative) (digits n ++ bs) ≡ scan (size negative n) bs
+digits-deep : (f : ℕ) (negative : Bool) (n : ℕ) (bs : List ℕ) → n ≤ f → (negative ≡ true → 0 < n)
+    → scan (sign negative) (digits n ++ bs) ≡ scan (size negative n) bs
 digits-deep zero negative n bs h k = digits-case negative n k bs (λ q cs. absurd (omega arith)) (decLt n 10)
 digits-deep (suc f) negative n bs h k = digits-case negative n k bs (λ q cs. digits-deep f negative (n / 10) cs (omega arith) (λ t. omega arith)) (decLt n 10)
 

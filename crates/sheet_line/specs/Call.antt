@@ -37,9 +37,9 @@ abbrev pub _then_ : {A B : Type 0} → Reader A → (A → Reader B) → Reader 
 (p then q) zs = andThen (p zs) (λ t. q (t .0) (t .1))
 
 -- The next number.
-abbrev pub number : Reader ℤ
-number [] = none
-number (z ∷ zs) = some (z, zs)
+abbrev pub nextNumber : Reader ℤ
+nextNumber [] = none
+nextNumber (z ∷ zs) = some (z, zs)
 
 -- A number from 0 to m.
 abbrev pub upTo : ℕ → ℤ → Reader ℕ
@@ -48,7 +48,7 @@ upTo m (negsuc k) = fail
 
 -- The next number, from 0 to m.
 unfoldable pub natural : ℕ → Reader ℕ
-natural m = number then upTo m
+natural m = nextNumber then upTo m
 
 -- So many values, one after the other.
 unfoldable pub many : {A : Type 0} → Reader A → ℕ → Reader (List A)
@@ -59,16 +59,16 @@ many p (suc n) = p then λ a. many p n then λ rest. give (a ∷ rest)
 unfoldable pub operand : ℕ → Reader Array
 operand limit =
     natural maxRank then λ rank. many (natural maxHeld) rank then λ ns.
-    cond (leb (count ns) limit) (many number (count ns) then λ zs. give (record { lengths = ns; elements = zs })) fail
+    cond (leb (count ns) limit) (many nextNumber (count ns) then λ zs. give (record { lengths = ns; elements = zs })) fail
 
--- Number, origin and axis.
+-- Primitive, origin and axis.
 pub record Head : Type 0 where
   pub primitive : ℤ
   pub origin : ℤ
   pub axis : ℤ
 
 unfoldable pub head : Reader Head
-head = number then λ n. number then λ G. number then λ K. give (record { primitive = n; origin = G; axis = K })
+head = nextNumber then λ n. nextNumber then λ G. nextNumber then λ K. give (record { primitive = n; origin = G; axis = K })
 
 -- A line's call.
 pub record Call : Type 0 where
@@ -76,7 +76,7 @@ pub record Call : Type 0 where
   pub left : Array
   pub right : Array
 
--- Order: number, origin, axis, then L and R.
+-- Order: primitive, origin, axis, then L and R.
 unfoldable pub call : ℕ → ℕ → Reader Call
 call roomL roomR =
     head then λ h. operand roomL then λ L. operand roomR then λ R.

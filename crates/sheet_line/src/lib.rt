@@ -3,12 +3,12 @@ mod numbers;
 mod operand;
 
 ghost use mathlib.Core.Path.{_≡_};
-ghost use mathlib.Core.Bool.{true, false};
+ghost use mathlib.Core.Bool.{true};
 ghost use mathlib.Core.Option.{none};
 ghost use lib.ListN.{length};
-ghost use Rattle.sheet_line.specs.Numbers.{andThen};
 ghost use Rattle.sheet_line.specs.Call.{head, lineCall, readOf, leftOf, rightOf, front, room};
-ghost use Rattle.sheet_line.specs.Steps.{left, got};
+ghost use Rattle.sheet_line.specs.Steps.{readAt, headTaken};
+use numbers::Number;
 use numbers::number_at;
 use operand::operand_at;
 use shape::Shape;
@@ -19,58 +19,38 @@ pub const MAX_LINE: usize = 16384;
 // The largest length and count on a line.
 pub const MAX_HELD: usize = 1024;
 
-// Number, origin and axis, and the place of the next number.
-struct Head {
-    good: bool,
-    number: i32,
-    origin: i32,
-    axis: i32,
-    next: usize,
-}
-
-fn no_head() -> Head
-    ensures { λ r. ⌜ r .good ≡ false ⌝ }
-{
-    Head {
-        good: false,
-        number: 0,
-        origin: 0,
-        axis: 0,
-        next: 0,
-    }
+// Primitive, origin and axis, and the place of the next number.
+enum Head {
+    Is {
+        primitive: i32,
+        origin: i32,
+        axis: i32,
+        next: usize,
+    },
+    Nothing,
 }
 
 fn head_at(line: &[u8], at: usize) -> Head
-    ensures { λ r. ⌜ andThen (left (now (line .entry)) at) head ≡ got (r .good) (record { primitive = r .number; origin = r .origin; axis = r .axis }) (left (now (line .entry)) (r .next)) ⌝ }
+    ensures { λ r. ⌜ readAt (now (line .entry)) at head ≡ headTaken (now (line .entry)) r ⌝ }
 {
-    let n = number_at(line, at);
-    let has_number = n.good;
-    let number = n.value;
-    if !has_number {
-        return no_head();
-    }
-    let g = number_at(line, n.next);
-    let has_origin = g.good;
-    let origin = g.value;
-    if !has_origin {
-        return no_head();
-    }
-    let k = number_at(line, g.next);
-    let has_axis = k.good;
-    let axis = k.value;
-    if !has_axis {
-        return no_head();
-    }
-    Head {
-        good: true,
-        number,
+    let Number::Is(primitive, second) = number_at(line, at) else {
+        return Head::Nothing;
+    };
+    let Number::Is(origin, third) = number_at(line, second) else {
+        return Head::Nothing;
+    };
+    let Number::Is(axis, next) = number_at(line, third) else {
+        return Head::Nothing;
+    };
+    Head::Is {
+        primitive,
         origin,
         axis,
-        next: k.next,
+        next,
     }
 }
 
-// What a line says: a call's number, origin, axis and the shapes of its operands, or that it is bad.
+// What a line says: a call's primitive as its `number`, its origin and axis and the shapes of its operands. It holds arrays, so a flag says that it is bad.
 pub struct Read {
     pub good: bool,
     pub number: i32,
@@ -97,52 +77,45 @@ impl Read {
     }
 }
 
-fn answered(head: Head, left: Shape, right: Shape) -> Read
-    ensures { λ r. ⌜ r ≡ record { good = true; number = head .number; origin = head .origin; axis = head .axis; left = left; right = right } ⌝ }
-{
-    let number = head.number;
-    let origin = head.origin;
-    let axis = head.axis;
-    Read {
-        good: true,
-        number,
-        origin,
-        axis,
-        left,
-        right,
-    }
-}
-
 // The elements of L go to the front of l, those of R to the front of r. What l and r hold after a bad line is not decided.
 pub fn read_line(line: &[u8], l: &mut [i32], r: &mut [i32]) -> Read
     ensures answer { λ a. ⌜ a ≡ readOf (lineCall (room (now (l .entry))) (room (now (r .entry))) (now (line .entry))) ⌝ }
-    ensures left { λ a. ⌜ (a .good ≡ true → now (l .exit) ≡ front (leftOf (lineCall (room (now (l .entry))) (room (now (r .entry))) (now (line .entry)))) (now (l .entry))) ⌝ }
-    ensures right { λ a. ⌜ (a .good ≡ true → now (r .exit) ≡ front (rightOf (lineCall (room (now (l .entry))) (room (now (r .entry))) (now (line .entry)))) (now (r .entry))) ⌝ }
+    ensures left { λ a.
+        ⌜ (a .good ≡ true
+        → now (l .exit) ≡ front (leftOf (lineCall (room (now (l .entry))) (room (now (r .entry))) (now (line .entry)))) (now (l .entry))) ⌝ }
+    ensures right { λ a.
+        ⌜ (a .good ≡ true
+        → now (r .exit) ≡ front (rightOf (lineCall (room (now (l .entry))) (room (now (r .entry))) (now (line .entry)))) (now (r .entry))) ⌝ }
     ensures lengths { λ a. ⌜ (length (now (l .exit)) ≡ length (now (l .entry))) × (length (now (r .exit)) ≡ length (now (r .entry))) ⌝ }
 {
     if MAX_LINE < line.len() {
         return Read::bad();
     }
-    let head = head_at(line, 0);
-    let has_head = head.good;
-    if !has_head {
+    let Head::Is {
+        primitive,
+        origin,
+        axis,
+        next,
+    } = head_at(line, 0)
+    else {
         return Read::bad();
-    }
-    let left = operand_at(line, head.next, l);
-    let has_left = left.good;
-    if !has_left {
+    };
+    let left = operand_at(line, next, l);
+    if !left.good {
         return Read::bad();
     }
     let right = operand_at(line, left.next, r);
-    let has_right = right.good;
-    let end = right.next;
-    if !has_right {
-        return Read::bad();
-    }
-    if end <= line.len() {
+    if !right.good || right.next <= line.len() {
         return Read::bad();
     }
     let ls = left.shape;
     let rs = right.shape;
-    answered(head, ls, rs)
+    Read {
+        good: true,
+        number: primitive,
+        origin,
+        axis,
+        left: ls,
+        right: rs,
+    }
 }

@@ -1,58 +1,39 @@
 // The numbers of a line, from left to right. A place is where a number begins; the one past the end of the line is where none is left.
 ghost use mathlib.Core.Path.{_≡_};
 ghost use Prim.Native.Nat.{_≤_, _<_};
-ghost use mathlib.Core.Bool.{true, false, cond};
+ghost use mathlib.Core.Bool.{false, cond};
 ghost use mathlib.Core.Option.{none, some};
 ghost use lib.Dec.{leb};
 ghost use lib.ListN.{length, drop};
 ghost use Rattle.sheet_line.specs.Numbers.{andThen, Begun, digitOf, first, ended, scan};
-ghost use Rattle.sheet_line.specs.Call.{number};
-ghost use Rattle.sheet_line.specs.Steps.{left, got, numberOf};
+ghost use Rattle.sheet_line.specs.Call.{nextNumber};
+ghost use Rattle.sheet_line.specs.Steps.{readAt, numberOf, numberTaken};
 
-// A number, and the place of the next one.
-pub struct Number {
-    pub good: bool,
-    pub value: i32,
-    pub next: usize,
+// A number and the place of the next one.
+pub enum Number {
+    Is(i32, usize),
+    Nothing,
 }
 
-// The largest size of a number, of the least number.
-const MAX_SIZE: usize = 2147483648;
+// The largest magnitude of a number, of the least number.
+const MAX_MAGNITUDE: usize = 2147483648;
 
-fn no_number() -> Number
-    ensures { λ r. ⌜ r ≡ numberOf none 0 ⌝ }
+// The number of a sign and a magnitude. The least number has no opposite in 32 bits.
+fn whole(negative: bool, magnitude: usize, next: usize) -> Number
+    ensures { λ r. ⌜ r ≡ numberOf (ended (Begun.size negative magnitude)) next ⌝ }
 {
-    Number {
-        good: false,
-        value: 0,
-        next: 0,
+    if MAX_MAGNITUDE < magnitude {
+        return Number::Nothing;
     }
-}
-
-// The number of a sign and a size. The least number has no opposite in 32 bits.
-fn whole(negative: bool, size: usize, next: usize) -> Number
-    ensures { λ r. ⌜ r ≡ numberOf (ended (Begun.size negative size)) next ⌝ }
-{
-    if MAX_SIZE < size {
-        return no_number();
-    }
-    if size == MAX_SIZE {
+    if magnitude == MAX_MAGNITUDE {
         if !negative {
-            return no_number();
+            return Number::Nothing;
         }
-        return Number {
-            good: true,
-            value: -2147483648,
-            next,
-        };
+        return Number::Is(-2147483648, next);
     }
-    let n = size as i32;
+    let n = magnitude as i32;
     let value = if negative { 0 - n } else { n };
-    Number {
-        good: true,
-        value,
-        next,
-    }
+    Number::Is(value, next)
 }
 
 // What a byte says as a digit, and more than 9 for a byte that is none: one below `0` wraps around.
@@ -65,7 +46,7 @@ fn digit_value(b: u8) -> usize
 // What follows a 0: the number ends here.
 fn after_zero(line: &[u8], at: usize) -> Number
     requires { ⌜ at ≤ length (now line) ⌝ }
-    ensures { λ r. ⌜ andThen (scan (Begun.size false 0) (drop at (now (line .entry)))) number ≡ got (r .good) (r .value) (left (now (line .entry)) (r .next)) ⌝ }
+    ensures { λ r. ⌜ andThen (scan (Begun.size false 0) (drop at (now (line .entry)))) nextNumber ≡ numberTaken (now (line .entry)) r ⌝ }
 {
     if line.len() <= at {
         return whole(false, 0, at + 1);
@@ -73,13 +54,13 @@ fn after_zero(line: &[u8], at: usize) -> Number
     if line[at] == b' ' {
         return whole(false, 0, at + 1);
     }
-    no_number()
+    Number::Nothing
 }
 
-// The digits after the first one, which is not 0. A size that is too large stays so.
+// The digits after the first one, which is not 0. A magnitude that is too large stays so.
 fn after_digit(line: &[u8], at: usize, negative: bool, first: usize) -> Number
     requires { ⌜ (at ≤ length (now line)) × (0 < first) ⌝ }
-    ensures { λ r. ⌜ andThen (scan (Begun.size negative first) (drop at (now (line .entry)))) number ≡ got (r .good) (r .value) (left (now (line .entry)) (r .next)) ⌝ }
+    ensures { λ r. ⌜ andThen (scan (Begun.size negative first) (drop at (now (line .entry)))) nextNumber ≡ numberTaken (now (line .entry)) r ⌝ }
 {
     let mut n = first;
     let mut i = at;
@@ -88,12 +69,12 @@ fn after_digit(line: &[u8], at: usize, negative: bool, first: usize) -> Number
         let d = digit_value(b);
         if 9 < d {
             if b != b' ' {
-                return no_number();
+                return Number::Nothing;
             }
             break;
         }
-        if MAX_SIZE < n {
-            return no_number();
+        if MAX_MAGNITUDE < n {
+            return Number::Nothing;
         }
         n = n * 10 + d;
         i += 1;
@@ -104,34 +85,34 @@ fn after_digit(line: &[u8], at: usize, negative: bool, first: usize) -> Number
 // A number from its first digit on, whose byte is b.
 fn from_digit(line: &[u8], at: usize, negative: bool, b: u8) -> Number
     requires { ⌜ at ≤ length (now line) ⌝ }
-    ensures { λ r. ⌜ andThen (andThen (first negative b) (λ t. scan t (drop at (now (line .entry))))) number ≡ got (r .good) (r .value) (left (now (line .entry)) (r .next)) ⌝ }
+    ensures { λ r. ⌜ andThen (andThen (first negative b) (λ t. scan t (drop at (now (line .entry))))) nextNumber ≡ numberTaken (now (line .entry)) r ⌝ }
 {
     let d = digit_value(b);
     if 9 < d {
-        return no_number();
+        return Number::Nothing;
     }
     if 0 < d {
         return after_digit(line, at, negative, d);
     }
     if negative {
-        return no_number();
+        return Number::Nothing;
     }
     after_zero(line, at)
 }
 
 // The number at a place.
 pub fn number_at(line: &[u8], at: usize) -> Number
-    ensures { λ r. ⌜ andThen (left (now (line .entry)) at) number ≡ got (r .good) (r .value) (left (now (line .entry)) (r .next)) ⌝ }
+    ensures { λ r. ⌜ readAt (now (line .entry)) at nextNumber ≡ numberTaken (now (line .entry)) r ⌝ }
 {
     if line.len() <= at {
-        return no_number();
+        return Number::Nothing;
     }
     let mut b = line[at];
     let mut next = at + 1;
     let negative = b == b'-';
     if b == b'-' {
         if line.len() <= next {
-            return no_number();
+            return Number::Nothing;
         }
         b = line[next];
         next += 1;

@@ -4,28 +4,29 @@ ghost use Prim.Native.Nat.{_≤_};
 ghost use mathlib.Core.Bool.{true, false};
 ghost use lib.ListN.{length, take, drop};
 ghost use Rattle.shape.specs.Shape.{maxRank, small, scalar};
-ghost use Rattle.sheet_line.specs.Numbers.{andThen};
-ghost use Rattle.sheet_line.specs.Call.{maxHeld, number, natural, many};
-ghost use Rattle.sheet_line.specs.Steps.{left, got, Taken};
+ghost use Rattle.sheet_line.specs.Call.{maxHeld, nextNumber, natural, many};
+ghost use Rattle.sheet_line.specs.Steps.{readAt, naturalTaken, AtMost, lengthsTaken, elementsTaken, Taken};
 use crate::MAX_HELD;
+use crate::numbers::Number;
 use crate::numbers::number_at;
 use shape::Shape;
 
-// A number from 0 up, and the place of the next one.
-pub struct Natural {
-    pub good: bool,
-    pub value: usize,
-    pub next: usize,
+// A number from 0 up and the place of the next one.
+pub enum Natural {
+    Is(usize, usize),
+    Nothing,
 }
 
+// The place after the elements.
+pub enum Elements {
+    Before(usize),
+    Nothing,
+}
+
+// Lengths and an operand hold an array, so a flag says that there are none: the prover's own walk covers no enum that holds one.
 pub struct Lengths {
     pub good: bool,
     pub lens: [usize; Shape::MAX_RANK],
-    pub next: usize,
-}
-
-pub struct Elements {
-    pub good: bool,
     pub next: usize,
 }
 
@@ -35,61 +36,42 @@ pub struct Operand {
     pub next: usize,
 }
 
-fn no_natural() -> Natural
-    ensures { λ r. ⌜ (r .good ≡ false) × (r .value ≡ 0) ⌝ }
-{
-    Natural {
-        good: false,
-        value: 0,
-        next: 0,
-    }
-}
-
 // A number from 0 to `most`.
 fn natural_at(line: &[u8], at: usize, most: usize) -> Natural
-    ensures taken { λ r. ⌜ andThen (left (now (line .entry)) at) (natural most) ≡ got (r .good) (r .value) (left (now (line .entry)) (r .next)) ⌝ }
-    ensures bound { λ r. ⌜ r .value ≤ most ⌝ }
+    ensures taken { λ r. ⌜ readAt (now (line .entry)) at (natural most) ≡ naturalTaken (now (line .entry)) r ⌝ }
+    ensures bound { λ r. ⌜ AtMost most r ⌝ }
 {
-    let z = number_at(line, at);
-    let good = z.good;
-    let value = z.value;
-    if !good {
-        return no_natural();
-    }
+    let Number::Is(value, next) = number_at(line, at) else {
+        return Natural::Nothing;
+    };
     if signed::negative(value) {
-        return no_natural();
+        return Natural::Nothing;
     }
     let n = signed::magnitude(value);
     if most < n {
-        return no_natural();
+        return Natural::Nothing;
     }
-    Natural {
-        good: true,
-        value: n,
-        next: z.next,
-    }
+    Natural::Is(n, next)
 }
 
 fn lengths_at(line: &[u8], at: usize, rank: usize) -> Lengths
     requires { ⌜ rank ≤ maxRank ⌝ }
-    ensures taken { λ r. ⌜ andThen (left (now (line .entry)) at) (many (natural maxHeld) rank) ≡ got (r .good) (take rank (r .lens)) (left (now (line .entry)) (r .next)) ⌝ }
+    ensures taken { λ r. ⌜ readAt (now (line .entry)) at (many (natural maxHeld) rank) ≡ lengthsTaken (now (line .entry)) rank r ⌝ }
     ensures bound { λ r. ⌜ small (take rank (r .lens)) ≡ true ⌝ }
 {
     let mut lens = [0; Shape::MAX_RANK];
     let mut place = at;
     let mut i = 0;
     while i < rank {
-        let n = natural_at(line, place, MAX_HELD);
-        let good = n.good;
-        if !good {
+        let Natural::Is(n, next) = natural_at(line, place, MAX_HELD) else {
             return Lengths {
                 good: false,
                 lens: [0; Shape::MAX_RANK],
                 next: 0,
             };
-        }
-        lens[i] = n.value;
-        place = n.next;
+        };
+        lens[i] = n;
+        place = next;
         i += 1;
     }
     Lengths {
@@ -102,29 +84,21 @@ fn lengths_at(line: &[u8], at: usize, rank: usize) -> Lengths
 // The elements go to the front of `out`.
 fn elements_at(line: &[u8], at: usize, count: usize, out: &mut [i32]) -> Elements
     requires { ⌜ count ≤ length (now out) ⌝ }
-    ensures taken { λ r. ⌜ andThen (left (now (line .entry)) at) (many number count) ≡ got (r .good) (take count (now (out .exit))) (left (now (line .entry)) (r .next)) ⌝ }
+    ensures taken { λ r.
+        ⌜ readAt (now (line .entry)) at (many nextNumber count) ≡ elementsTaken (now (line .entry)) (take count (now (out .exit))) r ⌝ }
     ensures rest { λ r. ⌜ drop count (now (out .exit)) ≡ drop count (now (out .entry)) ⌝ }
 {
     let mut place = at;
     let mut i = 0;
     while i < count {
-        let z = number_at(line, place);
-        let good = z.good;
-        let value = z.value;
-        if !good {
-            return Elements {
-                good: false,
-                next: 0,
-            };
-        }
-        out[i] = value;
-        place = z.next;
+        let Number::Is(z, next) = number_at(line, place) else {
+            return Elements::Nothing;
+        };
+        out[i] = z;
+        place = next;
         i += 1;
     }
-    Elements {
-        good: true,
-        next: place,
-    }
+    Elements::Before(place)
 }
 
 fn no_operand() -> Operand
@@ -142,34 +116,25 @@ fn no_operand() -> Operand
 pub fn operand_at(line: &[u8], at: usize, out: &mut [i32]) -> Operand
     ensures { λ r. ⌜ Taken (now (line .entry)) at (now (out .entry)) (now (out .exit)) r ⌝ }
 {
-    let rank = natural_at(line, at, Shape::MAX_RANK);
-    let has_rank = rank.good;
-    let n = rank.value;
-    if !has_rank {
+    let Natural::Is(rank, after) = natural_at(line, at, Shape::MAX_RANK) else {
+        return no_operand();
+    };
+    let lengths = lengths_at(line, after, rank);
+    if !lengths.good {
         return no_operand();
     }
-    let lengths = lengths_at(line, rank.next, n);
-    let has_lengths = lengths.good;
     let lens = lengths.lens;
-    if !has_lengths {
-        return no_operand();
-    }
-    let shape = Shape::of_lengths(n, lens);
+    let shape = Shape::of_lengths(rank, lens);
     let count = shape.count();
-    if MAX_HELD < count {
+    if MAX_HELD < count || out.len() < count {
         return no_operand();
     }
-    if out.len() < count {
+    let Elements::Before(next) = elements_at(line, lengths.next, count, out) else {
         return no_operand();
-    }
-    let elements = elements_at(line, lengths.next, count, out);
-    let has_elements = elements.good;
-    if !has_elements {
-        return no_operand();
-    }
+    };
     Operand {
         good: true,
         shape,
-        next: elements.next,
+        next,
     }
 }

@@ -8,18 +8,19 @@ use Rattle.sheet_line.proofs.numbers.after_zero.Tie as tie
 
 returns : tie.Need-returns
 returns c =
-    let st = c .before .before .before in
-    rw (c .whole .ensures) (number-ends (st .args .line .now) (st .args .at) (size false 0) (line-ends (st .args .line .now) (st .args .at) (omega arith)))
+    let a = c .before .before .before .args in
+    rw (c .whole .ensures) (number-ends (a .line .now) (a .at) (size false 0) (line-ends (a .line .now) (a .at) (omega arith)))
 
 returns-2 : tie.Need-returns-2
 returns-2 c =
-    let st = c .before .before .before .before .before in
-    rw (c .whole2 .ensures) (number-ends (st .args .line .now) (st .args .at) (size false 0) (blank-ends (st .args .line .now) (st .args .at) (omega arith) (c .before .if2 .taken)))
+    let a = c .before .before .before .before .before .args in
+    let blank = blank-ends (a .line .now) (a .at) (omega arith) (c .before .if2 .taken) in
+    rw (c .whole2 .ensures) (number-ends (a .line .now) (a .at) (size false 0) blank)
 
 returns-3 : tie.Need-returns-3
 returns-3 c =
-    let st = c .before .before .before .before .before in
-    rw (c .no-number .ensures, zero-stops (st .args .line .now) (st .args .at) (omega arith) (c .before .if2 .left) false)
+    let a = c .before .before .before .before .args in
+    rw (zero-stops (a .line .now) (a .at) (omega arith) (c .if2 .left) false)
 
 pub after-zero-spec : {M : Type 1} → statement M
 after-zero-spec =
@@ -32,5 +33,4 @@ after-zero-spec =
     (λ c. search needs)
     (λ c κs. search needs)
     returns-2
-    (λ c κs. search needs)
     returns-3)
