@@ -64,7 +64,16 @@ fn answer_line(
     }
     let left = read.left;
     let right = read.right;
-    let a = kernel::call(read.number, read.origin, read.axis, left, l, right, r, out);
+    let a = kernel::call(
+        read.primitive,
+        read.origin,
+        read.axis,
+        left,
+        l,
+        right,
+        r,
+        out,
+    );
     let shape = a.shape;
     sheet_answer::print_reply(line, a.number, shape, out, text)
 }

@@ -23,22 +23,13 @@ use Rattle.sheet_line.specs.declared.Read.{Read}
 use Rattle.sheet_line.specs.Call.{maxHeld, maxLine, Reader, give, fail, _then_, natural, many, operand, head, Call, call, allRead, callOf, lineCall}
 use Rattle.sheet_line.specs.Call.{readOf, leftOf, rightOf, front, room}
 use Rattle.sheet_line.proofs.Calls.{too-long}
+use Rattle.sheet_line.proofs.Says.{many-length}
 use Rattle.sheet_line.proofs.Options.{none-some, some-inj, passed, if-some}
 use Rattle.sheet_answer.specs.Answer.{okLine, badLine, resultIn, replyLine, fitted}
 use Rattle.sheet_answer.specs.Sheet.{operandOf, replyTo, answerTo, sheetAnswer, heldAnswer}
 use Rattle.sheet_answer.proofs.Answers.{Print}
 
--- The operands of a good line are whole.
-many-length : {A : Type 0} (p : Reader A) (n : ℕ) (zs : List ℤ) (xs : List A) (rest : List ℤ) → many p n zs ≡ some (xs, rest) → length xs ≡ n
-unfolding many
-many-length p zero zs xs rest e = sym (ap (λ t. length (t .0)) (some-inj e))
-many-length p (suc n) zs xs rest e =
-    let one = passed (p zs) _ (xs, rest) e in
-    let others = passed (many p n (one .found .1)) _ (xs, rest) (one .on) in
-    sym (ap (λ t. length (t .0)) (some-inj (others .on)))
-    ∙ ap suc (many-length p n (one .found .1) (others .found .0) (others .found .1) (others .is))
-
--- The elements, behind the test of their count.
+-- The operands of a good line are whole; their elements stand behind the test of their count.
 elements-whole : (p : Reader ℤ) (t : Bool) (ns : List ℕ) (ys : List ℤ) (a : Array) (rest : List ℤ)
     → cond t (many p (count ns) then λ xs. give (record { lengths = ns; elements = xs })) fail ys ≡ some (a, rest) → Whole a
 elements-whole p false ns ys a rest e = none-some e
@@ -155,7 +146,7 @@ reply-line line n G K L R out out′ e =
 abbrev lineFor : ℕ → List ℤ → Read → List ℤ → List ℤ → List ℕ
 lineFor line out a l r =
     lineOf line
-    (reply (a .number) (a .origin) (a .axis) (record { shape = a .left; buffer = l }) (record { shape = a .right; buffer = r }) out)
+    (reply (a .primitive) (a .origin) (a .axis) (record { shape = a .left; buffer = l }) (record { shape = a .right; buffer = r }) out)
 
 -- It is the answer.
 module _ (line : ℕ) (bytes : List ℕ) (l r out : List ℤ) (hl : length l ≡ maxHeld) (hr : length r ≡ maxHeld) (ho : length out ≡ maxHeld) where

@@ -102,4 +102,4 @@ module _ (line : List ℕ) (l l′ r r′ : List ℤ) {answer : Read} (kept : (l
 
 -- The answer to a good line.
 abbrev pub answered : ℤ → ℤ → ℤ → Shape → Shape → Read
-answered n g k s t = record { good = true; number = n; origin = g; axis = k; left = s; right = t }
+answered n g k s t = record { good = true; primitive = n; origin = g; axis = k; left = s; right = t }

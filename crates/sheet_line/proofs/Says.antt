@@ -65,7 +65,7 @@ module _ {A : Type 0} (p : Reader A) where
       then-back p _ (λ a. one (w a)) (map w) [] back
       (λ a ys zs e. then-back (many p n) _ (map w) (map w) (one (w a)) (many-back w back n) (λ xs ys zs e. give-back (map w) (a ∷ xs)))
 
-  many-length : (n : ℕ) (zs : List ℤ) (xs : List A) (rest : List ℤ) → many p n zs ≡ some (xs, rest) → length xs ≡ n
+  pub many-length : (n : ℕ) (zs : List ℤ) (xs : List A) (rest : List ℤ) → many p n zs ≡ some (xs, rest) → length xs ≡ n
   unfolding many
   many-length zero zs xs rest e = sym (ap (λ t. length (t .0)) (some-inj e))
   many-length (suc n) zs xs rest e =

@@ -106,13 +106,13 @@ lineCall roomL roomR line = cond (leb (length line) maxLine) (andThen (numbers l
 abbrev pub readOf : Option Call → Read
 readOf (some c) = record {
   good = true;
-  number = c .head .primitive;
+  primitive = c .head .primitive;
   origin = c .head .origin;
   axis = c .head .axis;
   left = shapeOf (c .left .lengths);
   right = shapeOf (c .right .lengths);
 }
-readOf none = record { good = false; number = pos 0; origin = pos 0; axis = pos 0; left = scalar; right = scalar }
+readOf none = record { good = false; primitive = pos 0; origin = pos 0; axis = pos 0; left = scalar; right = scalar }
 
 -- The elements of a line's operands.
 abbrev pub leftOf : Option Call → List ℤ

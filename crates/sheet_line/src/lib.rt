@@ -50,10 +50,10 @@ fn head_at(line: &[u8], at: usize) -> Head
     }
 }
 
-// What a line says: a call's primitive as its `number`, its origin and axis and the shapes of its operands. It holds arrays, so a flag says that it is bad.
+// What a line says: a call's primitive, origin, axis and the shapes of its operands. It holds arrays, so a flag says that it is bad.
 pub struct Read {
     pub good: bool,
-    pub number: i32,
+    pub primitive: i32,
     pub origin: i32,
     pub axis: i32,
     pub left: Shape,
@@ -68,7 +68,7 @@ impl Read {
         let right = Shape::scalar();
         Read {
             good: false,
-            number: 0,
+            primitive: 0,
             origin: 0,
             axis: 0,
             left,
@@ -112,7 +112,7 @@ pub fn read_line(line: &[u8], l: &mut [i32], r: &mut [i32]) -> Read
     let rs = right.shape;
     Read {
         good: true,
-        number: primitive,
+        primitive,
         origin,
         axis,
         left: ls,

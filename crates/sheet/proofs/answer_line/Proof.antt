@@ -66,8 +66,8 @@ good c = c .before .before .before .before .before .before
 abbrev result : tie.After-struct-told → Read
 result c = reading (good c .before) .read-line .result
 
-number-fits : (c : tie.After-struct-told) → SFits w32 (result c .number)
-number-fits c = search needs
+primitive-fits : (c : tie.After-struct-told) → SFits w32 (result c .primitive)
+primitive-fits c = search needs
 
 origin-fits : (c : tie.After-struct-told2) → SFits w32 (result (c .before) .origin)
 origin-fits c = search needs
@@ -87,14 +87,14 @@ r′ c = reading (c .before) .read-line .last .1 .1 .0
 abbrev replyTo : tie.After-struct-told → Reply
 replyTo c =
     let a = result c in
-    reply (a .number) (a .origin) (a .axis) (lent (a .left) (l′ (good c))) (lent (a .right) (r′ (good c))) (began (reading (good c .before)) .args .out .now)
+    reply (a .primitive) (a .origin) (a .axis) (lent (a .left) (l′ (good c))) (lent (a .right) (r′ (good c))) (began (reading (good c .before)) .args .out .now)
 
 abbrev out : tie.After-call → List ℤ
 out c = c .call .last .1 .1 .1 .1 .1 .1 .1 .0
 
 replied : (c : tie.After-call) → Replied (c .call .result) (out c) (replyTo (asked c))
 replied c =
-    rw (toZ-ofZ (number-fits (asked c)), toZ-ofZ (origin-fits (c .before .before)), toZ-ofZ (axis-fits (c .before))) at (c .call .ensures)
+    rw (toZ-ofZ (primitive-fits (asked c)), toZ-ofZ (origin-fits (c .before .before)), toZ-ofZ (axis-fits (c .before))) at (c .call .ensures)
 
 abbrev called : tie.After-slice-known4 → tie.After-call
 called c = c .before .before .before .before .before .before .before
