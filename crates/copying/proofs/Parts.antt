@@ -1,15 +1,16 @@
 -- A buffer that is filled part by part, each part by a function that fills it.
-use mathlib.Core.Path.{_≡_, sym, ap, _∙_}
-use mathlib.Core.List.{List}
+use mathlib.Core.Path.{_≡_, sym, ap, ap₂, _∙_}
+use mathlib.Core.List.{List, _++_, append-assoc}
 use Prim.Native.Nat.{ℕ, _+_, _-_, _*_, _≤_, _<_}
 use native.Mathlib.Nat.{zero-mul}
 use native.Mathlib.Omega.{arith}
-use lib.ListN.{length, getD, take, drop, List·getD-append}
+use lib.ListN.{length, getD, take, drop, take-append-drop, length-drop, List·getD-append}
+use lib.Seq.{getD-take, getD-drop, length-take-le, drop-drop}
 use lib.IntN.{ℤ, pos}
 use borrow.Rule.Slice.PartMut.{putMid, mid-len}
 use Rattle.meaning.specs.Array.{tab}
-use Rattle.meaning.proofs.Tab.{length-tab, getD-tab}
-use Rattle.copying.proofs.Runs.{filled-none, length-filled, put-list}
+use Rattle.meaning.proofs.Tab.{length-tab, getD-tab, tab-add}
+use Rattle.copying.proofs.Runs.{filled-none, length-filled, tab-is, put-list}
 use Rattle.copying.specs.Steps.{filled}
 
 -- Before the first part.
@@ -35,3 +36,16 @@ part-filled g h n m e out out₀ last part o end long q same =
     ∙ sym (ap (λ ys. getD ys i (pos 0)) q
     ∙ List·getD-append (tab m h) (drop m part) (pos 0) i (omega (arith, length-tab m h))
     ∙ getD-tab m h i (pos 0) l))
+
+-- A buffer that is filled up to n, and already holds the next k elements.
+pub filled-on : (g : ℕ → ℤ) (n k : ℕ) (out : List ℤ) → n + k ≤ length out → ((i : ℕ) → i < k → g (n + i) ≡ getD out (n + i) (pos 0))
+    → filled g n out ≡ filled g (n + k) out
+filled-on g n k out h same =
+    let rest : List ℤ = drop n out in
+    ap (λ x. tab n g ++ x) (sym (take-append-drop k rest))
+    ∙ sym (append-assoc (tab n g) (take k rest) (drop k rest))
+    ∙ ap₂ (λ x y. (tab n g ++ x) ++ y)
+    (tab-is (take k rest) (pos 0) k (λ i. g (n + i)) (length-take-le k rest (rw length-drop (omega arith)))
+    (λ i l. same i l ∙ sym (getD-take k rest i (pos 0) l ∙ getD-drop n out i (pos 0))))
+    (drop-drop k n out)
+    ∙ ap (λ x. x ++ drop (n + k) out) (sym (tab-add n k g))

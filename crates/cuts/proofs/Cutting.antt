@@ -16,6 +16,7 @@ use Rattle.meaning.specs.Array.{tab}
 use Rattle.meaning.proofs.Tab.{length-tab, getD-tab, tab-add}
 use Rattle.copying.specs.Runs.{copied}
 use Rattle.copying.proofs.Runs.{length-filled, filled-whole, tab-is, put-list, put-copied, part-length}
+use Rattle.copying.proofs.Parts.{filled-on}
 use Rattle.copying.specs.Steps.{filled}
 use borrow.Rule.Slice.PartMut.{putMid}
 use Rattle.cuts.specs.Steps.{cutAt, Fitting, Blank}
@@ -117,19 +118,6 @@ cut-run t r at k l p e h =
     ∙ cut-inside t r at (k / c) (k % c) (omega arith) (row-in (len t) c k h .1) (mod-lt k p)
     ∙ ap (λ w. cutAt w r (at + from t * step t + k / c * step t) (k % c)) (drop-of-length-le t {i = 5} (omega arith))
     ∙ ap (λ x. getD r x (pos 0)) (let s = ap (λ y. k / c * y) e in omega (arith, div-add-mod' k c))
-
--- A buffer that is filled up to n, and already holds the next k elements.
-pub filled-on : (g : ℕ → ℤ) (n k : ℕ) (out : List ℤ) → n + k ≤ length out → ((i : ℕ) → i < k → g (n + i) ≡ getD out (n + i) (pos 0))
-    → filled g n out ≡ filled g (n + k) out
-filled-on g n k out h same =
-    let rest : List ℤ = drop n out in
-    ap (λ x. tab n g ++ x) (sym (take-append-drop k rest))
-    ∙ sym (append-assoc (tab n g) (take k rest) (drop k rest))
-    ∙ ap₂ (λ x y. (tab n g ++ x) ++ y)
-    (tab-is (take k rest) (pos 0) k (λ i. g (n + i)) (length-take-le k rest (rw length-drop (omega arith)))
-    (λ i l. same i l ∙ sym (getD-take k rest i (pos 0) l ∙ getD-drop n out i (pos 0))))
-    (drop-drop k n out)
-    ∙ ap (λ x. x ++ drop (n + k) out) (sym (tab-add n k g))
 
 -- How `out`, of m elements, is filled: the zeros first, then the window, as one run or part by part.
 module _ {t : List ℕ} (r : List ℤ) {at m : ℕ} (f : Fits t at (length r) m) where

@@ -2,10 +2,10 @@
 use Prim.Native.Nat.{ℕ, suc, _+_, _-_, _*_, _/_, _%_, _≤_, _<_}
 use mathlib.Core.Path.{_≡_}
 use mathlib.Core.List.{List, [], _∷_}
-use mathlib.Core.Bool.{Bool, cond}
+use mathlib.Core.Bool.{Bool, cond, _&&_}
 use lib.ListN.{length, getD, set, drop}
-use lib.Dec.{eqb, ltb}
-use lib.IntN.{ℤ}
+use lib.Dec.{eqb, leb, ltb}
+use lib.IntN.{ℤ, pos}
 use Rattle.shape.specs.declared.Shape.{Shape}
 use Rattle.shape.specs.Shape.{maxRank, maxCount, counted, count, shapeOf, without}
 use Rattle.meaning.specs.Array.{Array}
@@ -50,13 +50,18 @@ pub record RunFits (a : Run) (o m : ℕ) : Type 0 where
   pub small : o * a .width + a .width ≤ maxCount
   pub has : sized (a .scalar) (o * a .width + a .width) ≤ m
 
--- The runs of so many blocks lie in operands of m and n elements, and the blocks in a buffer with some room.
-pub record RunsFit (a b : Run) (outer m n room : ℕ) : Type 0 where
+-- The runs of so many blocks lie in an operand of m elements, and the blocks, with the runs from `first` on, in a buffer with some room.
+pub record RunsFit (a : Run) (first size outer m room : ℕ) : Type 0 where
   pub some : 0 < outer
-  pub small : outer * (a .width + b .width) ≤ maxCount
-  pub space : outer * (a .width + b .width) ≤ room
-  pub left : sized (a .scalar) (outer * a .width) ≤ m
-  pub right : sized (b .scalar) (outer * b .width) ≤ n
+  pub within : first + a .width ≤ size
+  pub small : outer * size ≤ maxCount
+  pub space : outer * size ≤ room
+  pub has : sized (a .scalar) (outer * a .width) ≤ m
+
+-- Element j of blocks of so many elements, where each has an operand's run from `first` on, and a buffer has the others.
+abbrev pub runsAt : Run → List ℤ → ℕ → ℕ → List ℤ → ℕ → ℤ
+runsAt a src first size out j =
+    cond (leb first (j % size) && ltb (j % size) (first + a .width)) (sideAt (a .scalar) src (j / size * a .width + (j % size - first))) (getD out j (pos 0))
 
 -- Element j of blocks that have v elements of f and then w of g.
 abbrev pub joinedAt : ℕ → ℕ → (ℕ → ℤ) → (ℕ → ℤ) → ℕ → ℤ

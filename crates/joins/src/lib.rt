@@ -14,7 +14,7 @@ ghost use Rattle.meaning.specs.Reply.{reply};
 ghost use Rattle.meaning.specs.Steps.{fit, sideAt};
 ghost use Rattle.copying.specs.Steps.{filled};
 ghost use Rattle.answer.specs.Answer.{lent, own, Replied};
-ghost use Rattle.joins.specs.Steps.{higherShape, extentOf, runOf, Compared, agree, RunFits, RunsFit, joined, joinedAlong, Joinable};
+ghost use Rattle.joins.specs.Steps.{higherShape, extentOf, runOf, Compared, agree, RunFits, RunsFit, runsAt, joinedAlong, Joinable};
 use answer::Answer;
 use answer::refusal;
 use shape::Shape;
@@ -199,25 +199,24 @@ fn join_into(
         scalar: right.scalar,
         width: right.width * w.inner,
     };
-    join_blocks(x, l, y, r, w.outer, out);
+    let first = x.width;
+    let size = first + y.width;
+    put_runs(x, l, 0, size, w.outer, out);
+    put_runs(y, r, first, size, w.outer, out);
 }
 
-// Each block is a run of L and then a run of R.
-fn join_blocks(left: Run, l: &[i32], right: Run, r: &[i32], outer: usize, out: &mut [i32])
-    requires { ⌜ RunsFit left right outer (length (now l)) (length (now r)) (length (now out)) ⌝ }
-    ensures { λ _.
-        ⌜ now (out .exit) ≡ filled (joined left (now (l .entry)) right (now (r .entry))) (outer * (left .width + right .width)) (now (out .entry)) ⌝ }
+// Each block of `size` elements has a run of an operand, from `first` on; the block's other elements stay.
+fn put_runs(run: Run, src: &[i32], first: usize, size: usize, outer: usize, out: &mut [i32])
+    requires { ⌜ RunsFit run first size outer (length (now src)) (length (now out)) ⌝ }
+    ensures { λ _. ⌜ now (out .exit) ≡ filled (runsAt run (now (src .entry)) first size (now (out .entry))) (outer * size) (now (out .entry)) ⌝ }
 {
-    let v = left.width;
-    let w = right.width;
-    let mut at = 0;
+    let width = run.width;
+    let mut at = first;
     let mut o = 0;
     while o < outer {
-        let mid = at + v;
-        let end = mid + w;
-        put_run(left, l, o, &mut out[at..mid]);
-        put_run(right, r, o, &mut out[mid..end]);
-        at = end;
+        let end = at + width;
+        put_run(run, src, o, &mut out[at..end]);
+        at += size;
         o += 1;
     }
 }

@@ -25,7 +25,8 @@ use Rattle.sheet.proofs.answer_line.Tie as tie
 abbrev answer : tie.Start → List ℕ
 answer st = heldAnswer (st .args .line) (st .args .over) (st .args .bytes .now)
 
-bad-printed : (st : tie.Start) → answer st ≡ badLine (st .args .line) → (after : List ℕ) (n : ℕ) → Print (badLine (st .args .line)) (st .args .text .now) after n
+bad-printed : (st : tie.Start) → answer st ≡ badLine (st .args .line) → (after : List ℕ) (n : ℕ) → Print (badLine (st .args .line))
+    (st .args .text .now) after n
     → (n ≡ length (answer st)) × (after ≡ front (answer st) (st .args .text .now))
 bad-printed st e after n p =
     printed-whole (badLine (st .args .line)) (answer st) (st .args .text .now) after n (sym e) (bad-fits (st .args .line) (omega arith)) (st .pre .room) p

@@ -21,8 +21,14 @@ returns c = let inv = c .before .before .before .before .loop .inv in ((inv .0, 
 loop-again : tie.Need-loop-again Inv-loop μ-loop
 loop-again c =
     let st = c .before .before .before .before .before .before in
-    let lp = c .before .before .before .before .loop in
-    (omega arith, (omega arith, free-block (st .args .chunk .now) (st .args .at) (lp .i) (lp .inv .1 .1) (lp .i + 64) (omega arith) (omega arith) (c .before .has-newline .ensures (c .if1 .left))))
+    let lp = c .before .before .before .before .loop in (
+      omega arith,
+      (
+        omega arith,
+        free-block (st .args .chunk .now) (st .args .at) (lp .i) (lp .inv .1 .1) (lp .i + 64) (omega arith) (omega arith)
+            (c .before .has-newline .ensures (c .if1 .left)),
+      ),
+    )
 
 returns-2 : tie.Need-returns-2 Inv-loop μ-loop
 returns-2 c = let inv = c .before .loop .inv in ((inv .0, inv .1 .0), inv .1 .1)

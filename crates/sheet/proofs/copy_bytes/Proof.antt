@@ -21,8 +21,14 @@ loop-holds c = (omega arith, (refl, refl))
 loop-again : tie.Need-loop-again Inv-loop μ-loop
 loop-again c =
     let a = c .before .before .before .args in
-    let lp = c .before .before .loop in
-    (omega arith, (search needs, ap (λ l. set l (lp .i) (getD (a .run .now) (lp .i) 0)) (lp .inv .1 .1) ∙ front-step (a .run .now) (a .out .now) (lp .i) 0 (omega arith) (omega arith)))
+    let lp = c .before .before .loop in (
+      omega arith,
+      (
+        search needs,
+        ap (λ l. set l (lp .i) (getD (a .run .now) (lp .i) 0)) (lp .inv .1 .1) ∙ front-step (a .run .now) (a .out .now) (lp .i) 0
+            (omega arith) (omega arith),
+      ),
+    )
 
 returns : tie.Need-returns Inv-loop μ-loop
 returns c =
