@@ -103,7 +103,8 @@ module _ (a b : Run) (l r out : List ℤ) (outer : ℕ) where
 
   left-at : (j : ℕ) → j < outer * size → getD left j (pos 0) ≡ runsAt a l 0 size out j
   left-at j h =
-      List·getD-append (tab (outer * size) (runsAt a l 0 size out)) (drop (outer * size) out) (pos 0) j (omega (arith, length-tab (outer * size) (runsAt a l 0 size out)))
+      List·getD-append (tab (outer * size) (runsAt a l 0 size out)) (drop (outer * size) out) (pos 0) j
+      (omega (arith, length-tab (outer * size) (runsAt a l 0 size out)))
       ∙ getD-tab (outer * size) (runsAt a l 0 size out) j (pos 0) h
 
   some : (n j : ℕ) → j < outer * n → 0 < n

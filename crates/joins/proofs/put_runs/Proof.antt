@@ -13,7 +13,8 @@ use Rattle.joins.proofs.put_runs.Statement.{statement}
 use Rattle.joins.proofs.put_runs.Tie as tie
 
 abbrev Inv-loop : tie.InvT-loop
-Inv-loop run src first size outer out₀ width at₀ o₀ out at o = (at ≡ o * size + first) × Blockwise outer size (runsAt run src first size out₀) out₀ out (o * size) o
+Inv-loop run src first size outer out₀ width at₀ o₀ out at o =
+    (at ≡ o * size + first) × Blockwise outer size (runsAt run src first size out₀) out₀ out (o * size) o
 
 abbrev μ-loop : tie.MeasureT-loop
 μ-loop run src first size outer out₀ width at₀ o₀ out at o = outer - o
