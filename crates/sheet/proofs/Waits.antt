@@ -9,7 +9,8 @@ use lib.Seq.{take-at, length-take-le}
 use borrow.Rule.Slice.PartMut.{putMid, postOf}
 use Rattle.shape.proofs.Bools.{no-way}
 use Rattle.sheet_line.specs.Call.{maxLine, front}
-use Rattle.sheet_answer.specs.Sheet.{sheetAnswer, heldAnswer}
+use Rattle.sheet_answer.specs.Sheet.{sheetAnswer}
+use Rattle.sheet_answer.specs.Steps.{heldAnswer}
 use Rattle.sheet_answer.proofs.Joined.{long-answer, not-held, held-whole}
 use Rattle.sheet.specs.declared.Held.{Held}
 use Rattle.sheet.specs.Lines.{next}

@@ -2,15 +2,17 @@
 use libc::STDERR_FILENO;
 use libc::STDIN_FILENO;
 use libc::STDOUT_FILENO;
+use sheet_line::MAX_HELD;
 use sheet_line::MAX_LINE;
 ghost use mathlib.Core.Path.{_≡_};
-ghost use mathlib.Core.Bool.{false};
+ghost use mathlib.Core.Bool.{true, false};
 ghost use mathlib.Core.List.{List, [], _++_};
 ghost use Prim.Native.Nat.{ℕ, _+_, _-_, _≤_, _<_};
 ghost use lib.ListN.{length, take, getD};
 ghost use Rattle.sheet_line.specs.Text.{newline};
 ghost use Rattle.sheet_line.specs.Call.{maxLine, front};
-ghost use Rattle.sheet_answer.specs.Sheet.{sheetAnswer, heldAnswer, Buffers};
+ghost use Rattle.sheet_answer.specs.Sheet.{sheetAnswer};
+ghost use Rattle.sheet_answer.specs.Steps.{heldAnswer, Buffers};
 ghost use Rattle.sheet.specs.Lines.{linesFrom};
 ghost use Rattle.sheet.specs.Waiting.{Appended, Holds, Took};
 ghost use Rattle.sheet.specs.Steps.{newlines, SameLine, Answered};
@@ -64,22 +66,13 @@ fn answer_line(
     }
     let left = read.left;
     let right = read.right;
-    let a = kernel::call(
-        read.primitive,
-        read.origin,
-        read.axis,
-        left,
-        l,
-        right,
-        r,
-        out,
-    );
+    let a = kernel::call(read.primitive, read.origin, read.k, left, l, right, r, out);
     let shape = a.shape;
     sheet_answer::print_reply(line, a.number, shape, out, text)
 }
 
 // Where the text ends after n bytes more.
-fn ended(start: usize, n: usize, room: usize) -> usize
+fn text_end(start: usize, n: usize, room: usize) -> usize
     requires { ⌜ start ≤ room ⌝ }
     ensures bound { λ e. ⌜ e ≤ room ⌝ }
     ensures sum { λ e. ⌜ (start + n ≤ room → e ≡ start + n) ⌝ }
@@ -146,7 +139,8 @@ fn tell(failure: &[u8], last: u64) {
 // Writes what waits. Where a write fails that is told, and the rest is given up.
 fn written(text: &[u8], held: Held) -> Held
     requires { ⌜ held .waiting ≤ length (now text) ⌝ }
-    ensures { λ h. ⌜ SameLine held h × (h .waiting ≡ 0) ⌝ }
+    ensures same { λ h. ⌜ SameLine held h × (h .waiting ≡ 0) ⌝ }
+    ensures stays { λ h. ⌜ (held .stopped ≡ true → h .stopped ≡ true) ⌝ }
 {
     let len = held.len;
     let over = held.over;
@@ -205,7 +199,7 @@ fn end_line(
     let start = kept.waiting;
     let room = text.len();
     let n = answer_line(bytes, over, line, l, r, out, &mut text[start..room]);
-    let end = ended(start, n, room);
+    let end = text_end(start, n, room);
     Held {
         len: 0,
         over: false,
@@ -367,9 +361,9 @@ fn take_chunk(
 fn main() {
     let mut chunk = [0u8; 65536];
     let mut begun = [0u8; MAX_LINE];
-    let mut l = [0i32; 1024];
-    let mut r = [0i32; 1024];
-    let mut out = [0i32; 1024];
+    let mut l = [0i32; MAX_HELD];
+    let mut r = [0i32; MAX_HELD];
+    let mut out = [0i32; MAX_HELD];
     let mut text = [0u8; 65536];
     let mut held = Held::none();
     let mut turns = u64::MAX;

@@ -26,7 +26,8 @@ use Rattle.sheet_line.proofs.Calls.{too-long}
 use Rattle.sheet_line.proofs.Says.{many-length}
 use Rattle.sheet_line.proofs.Options.{none-some, some-inj, passed, if-some}
 use Rattle.sheet_answer.specs.Answer.{okLine, badLine, resultIn, replyLine, fitted}
-use Rattle.sheet_answer.specs.Sheet.{operandOf, replyTo, answerTo, sheetAnswer, heldAnswer}
+use Rattle.sheet_answer.specs.Sheet.{operandOf, replyTo, answerTo, sheetAnswer}
+use Rattle.sheet_answer.specs.Steps.{heldAnswer}
 use Rattle.sheet_answer.proofs.Answers.{Print}
 
 -- The operands of a good line are whole; their elements stand behind the test of their count.
@@ -146,7 +147,7 @@ reply-line line n G K L R out out′ e =
 abbrev lineFor : ℕ → List ℤ → Read → List ℤ → List ℤ → List ℕ
 lineFor line out a l r =
     lineOf line
-    (reply (a .primitive) (a .origin) (a .axis) (record { shape = a .left; buffer = l }) (record { shape = a .right; buffer = r }) out)
+    (reply (a .primitive) (a .origin) (a .k) (record { shape = a .left; buffer = l }) (record { shape = a .right; buffer = r }) out)
 
 -- It is the answer.
 module _ (line : ℕ) (bytes : List ℕ) (l r out : List ℤ) (hl : length l ≡ maxHeld) (hr : length r ≡ maxHeld) (ho : length out ≡ maxHeld) where
@@ -156,8 +157,8 @@ module _ (line : ℕ) (bytes : List ℕ) (l r out : List ℤ) (hl : length l ≡
   call-line c e =
       let w = line-whole maxHeld maxHeld bytes c e in
       let h = c .head in
-      ap (lineOf line) (same-reply (h .primitive) (h .origin) (h .axis) (held-alike (c .left) l (w .0)) (held-alike (c .right) r (w .1)) out)
-      ∙ reply-line line (h .primitive) (h .origin) (h .axis) (operandOf (c .left)) (operandOf (c .right)) out (replicate maxHeld (pos 0))
+      ap (lineOf line) (same-reply (h .primitive) (h .origin) (h .k) (held-alike (c .left) l (w .0)) (held-alike (c .right) r (w .1)) out)
+      ∙ reply-line line (h .primitive) (h .origin) (h .k) (operandOf (c .left)) (operandOf (c .right)) out (replicate maxHeld (pos 0))
       (ho ∙ sym (length-replicate maxHeld (pos 0)))
 
   held-call : lineCall (room l) (room r) bytes ≡ lineCall maxHeld maxHeld bytes

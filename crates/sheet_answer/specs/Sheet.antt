@@ -1,15 +1,13 @@
 -- Paper 01, "The sheet program": the answer to a line, from its bytes to the bytes printed.
-use Prim.Native.Nat.{ℕ, _≤_}
-use mathlib.Core.Path.{_≡_}
+use Prim.Native.Nat.{ℕ}
 use mathlib.Core.List.{List}
 use mathlib.Core.Option.{Option, none, some}
-use mathlib.Core.Bool.{Bool, cond}
-use lib.ListN.{length, replicate}
-use lib.IntN.{ℤ, pos}
+use lib.ListN.{replicate}
+use lib.IntN.{pos}
 use Rattle.shape.specs.Shape.{shapeOf}
 use Rattle.meaning.specs.Array.{Operand, Array}
 use Rattle.meaning.specs.Reply.{Reply, reply}
-use Rattle.sheet_line.specs.Call.{maxLine, maxHeld, Call, lineCall}
+use Rattle.sheet_line.specs.Call.{maxHeld, Call, lineCall}
 use Rattle.sheet_answer.specs.Answer.{resultIn, replyLine, badLine}
 
 -- An operand of a line.
@@ -19,7 +17,7 @@ operandOf a = record { shape = shapeOf (a .lengths); buffer = a .elements }
 -- The reply to a line's call; the program holds 1,024 elements for the result.
 unfoldable pub replyTo : Call → Reply
 replyTo c =
-    reply (c .head .primitive) (c .head .origin) (c .head .axis) (operandOf (c .left)) (operandOf (c .right)) (replicate maxHeld (pos 0))
+    reply (c .head .primitive) (c .head .origin) (c .head .k) (operandOf (c .left)) (operandOf (c .right)) (replicate maxHeld (pos 0))
 
 unfoldable pub answerTo : ℕ → Option Call → List ℕ
 answerTo line none = badLine line
@@ -28,14 +26,3 @@ answerTo line (some c) = let r : Reply = replyTo c in replyLine line (r .number)
 -- What is printed for line number `line`.
 unfoldable pub sheetAnswer : ℕ → List ℕ → List ℕ
 sheetAnswer line bytes = answerTo line (lineCall maxHeld maxHeld bytes)
-
--- What the program prints for a line; one that was too long to be held is bad.
-unfoldable pub heldAnswer : ℕ → Bool → List ℕ → List ℕ
-heldAnswer line over bytes = cond over (badLine line) (sheetAnswer line bytes)
-
--- The program's buffers, whatever they hold: for L, R and the result, and a text with room for the longest answer, which is no longer than the longest line.
-pub record Buffers (l r out : List ℤ) (text : List ℕ) : Type 0 where
-  pub left : length l ≡ maxHeld
-  pub right : length r ≡ maxHeld
-  pub result : length out ≡ maxHeld
-  pub room : maxLine ≤ length text

@@ -67,7 +67,7 @@ leftOn a b h = operand a then rightOn b h
 -- By what the code has found.
 module _ (a b : ℕ) {line : List ℕ} {at : ℕ} {r : Found.Head} (e : readAt line at head ≡ headTaken line r) where
   pub head-read : {n g k : ℤ} {next : ℕ} → r ≡ Found.Head.Is n g k next → SFits w32 n → SFits w32 g → SFits w32 k
-      → Reads line (call a b) at (leftOn a b (record { primitive = held n; origin = held g; axis = held k })) next
+      → Reads line (call a b) at (leftOn a b (record { primitive = held n; origin = held g; k = held k })) next
   unfolding call
   head-read f p q s = then-reads {p = head} (leftOn a b) (record { is = rw (toZ-ofZ p, toZ-ofZ q, toZ-ofZ s) (e ∙ ap (headTaken line) f) })
 
@@ -102,4 +102,4 @@ module _ (line : List ℕ) (l l′ r r′ : List ℤ) {answer : Read} (kept : (l
 
 -- The answer to a good line.
 abbrev pub answered : ℤ → ℤ → ℤ → Shape → Shape → Read
-answered n g k s t = record { good = true; primitive = n; origin = g; axis = k; left = s; right = t }
+answered n g k s t = record { good = true; primitive = n; origin = g; k = k; left = s; right = t }

@@ -13,10 +13,10 @@ use lib.Seq.{drop-cons}
 use lib.IntN.{ℤ}
 use borrow.Author.Tests.{le-leb, lt-leb, ne-eqb, eqb-true, eqb-false}
 use Rattle.sheet_line.specs.Text as Text
-use Rattle.sheet_line.specs.Numbers.{andThen, Begun, nothing, minus, size, digitOf, first, more, ended, scan, numbers}
+use Rattle.sheet_line.specs.Numbers.{andThen, Begun, nothing, minus, magnitude, digitOf, first, more, ended, scan, numbers}
 use Rattle.sheet_line.specs.Call.{give, nextNumber}
 use Rattle.sheet_line.specs.Steps.{left, readAt, numberOf, numberTaken}
-use Rattle.sheet_line.proofs.Sizes.{size-over}
+use Rattle.sheet_line.proofs.Magnitudes.{magnitude-over}
 use Rattle.sheet_line.proofs.Options.{none-some}
 use Rattle.sheet_line.proofs.Scan.{digit-of, scan-on, scan-blank, sign, more-sign}
 
@@ -81,36 +81,36 @@ module _ (line : List ℕ) (i : ℕ) (h : i < length line) (b : byteAt line i �
   scan-at s = rw (drop-cons line i 0 h) (scan-on s (byteAt line i) (drop (suc i) line) b)
 
   -- Nothing follows a 0.
-  pub zero-stops : (negative : Bool) → scan (size negative 0) (drop i line) ≡ none
+  pub zero-stops : (negative : Bool) → scan (magnitude negative 0) (drop i line) ≡ none
   unfolding more
-  zero-stops negative = scan-at (size negative 0) ∙ by-digit (digitOf (byteAt line i))
+  zero-stops negative = scan-at (magnitude negative 0) ∙ by-digit (digitOf (byteAt line i))
     where
       by-digit : (o : Option ℕ) → andThen (andThen o (λ (d : ℕ). none)) (λ t. scan t (drop (suc i) line)) ≡ none
       by-digit none = refl
       by-digit (some d) = refl
 
-  pub stops : (negative : Bool) (n : ℕ) → digitOf (byteAt line i) ≡ none → scan (size negative n) (drop i line) ≡ none
+  pub stops : (negative : Bool) (n : ℕ) → digitOf (byteAt line i) ≡ none → scan (magnitude negative n) (drop i line) ≡ none
   unfolding more
-  stops negative n e = scan-at (size negative n) ∙ rw e
+  stops negative n e = scan-at (magnitude negative n) ∙ rw e
 
   pub goes-on : (negative : Bool) (n d : ℕ) → 0 < n → digitOf (byteAt line i) ≡ some d
-      → scan (size negative n) (drop i line) ≡ scan (size negative (n * 10 + d)) (drop (i + 1) line)
+      → scan (magnitude negative n) (drop i line) ≡ scan (magnitude negative (n * 10 + d)) (drop (i + 1) line)
   unfolding more
-  goes-on negative n d p e = scan-at (size negative n) ∙ rw (e, ne-eqb n 0 (λ q. omega arith), add-one)
+  goes-on negative n d p e = scan-at (magnitude negative n) ∙ rw (e, ne-eqb n 0 (λ q. omega arith), add-one)
 
--- A size that is too large stays so.
-module _ (negative : Bool) (n : ℕ) (f : Begun → Option (List ℤ)) (h : (d : ℕ) → f (size negative (n * 10 + d)) ≡ none) where
-  over-more : (o : Option ℕ) (t : Bool) → andThen (andThen o (λ d. cond t none (some (size negative (n * 10 + d))))) f ≡ none
+-- A magnitude that is too large stays so.
+module _ (negative : Bool) (n : ℕ) (f : Begun → Option (List ℤ)) (h : (d : ℕ) → f (magnitude negative (n * 10 + d)) ≡ none) where
+  over-more : (o : Option ℕ) (t : Bool) → andThen (andThen o (λ d. cond t none (some (magnitude negative (n * 10 + d))))) f ≡ none
   over-more none t = refl
   over-more (some d) true = refl
   over-more (some d) false = h d
 
-pub over : (negative : Bool) (n : ℕ) (bs : List ℕ) → 2 ^ 31 < n → scan (size negative n) bs ≡ none
+pub over : (negative : Bool) (n : ℕ) (bs : List ℕ) → 2 ^ 31 < n → scan (magnitude negative n) bs ≡ none
 unfolding scan more
-over negative n [] h = rw (size-over negative n h)
+over negative n [] h = rw (magnitude-over negative n h)
 over negative n (b ∷ bs) h =
-    let longer : (d : ℕ) → scan (size negative (n * 10 + d)) bs ≡ none = λ d. over negative (n * 10 + d) bs (omega arith) in
-    rw (size-over negative n h, over-more negative n (λ t. scan t bs) longer (digitOf b) (eqb n 0)) (same (eqb b Text.blank))
+    let longer : (d : ℕ) → scan (magnitude negative (n * 10 + d)) bs ≡ none = λ d. over negative (n * 10 + d) bs (omega arith) in
+    rw (magnitude-over negative n h, over-more negative n (λ t. scan t bs) longer (digitOf b) (eqb n 0)) (same (eqb b Text.blank))
   where
     same : (t : Bool) → _≡_ {A = Option (List ℤ)} (cond t none none) none
     same true = refl
@@ -118,7 +118,7 @@ over negative n (b ∷ bs) h =
 
 -- The first digit.
 module _ (b d : ℕ) (e : digitOf b ≡ some d) where
-  pub first-zero : (negative : Bool) → d ≡ 0 → negative ≡ false → first negative b ≡ some (size false 0)
+  pub first-zero : (negative : Bool) → d ≡ 0 → negative ≡ false → first negative b ≡ some (magnitude false 0)
   unfolding first
   first-zero negative h q = rw (e, h, q)
 

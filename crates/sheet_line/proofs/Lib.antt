@@ -2,7 +2,7 @@ pub mod Options
 pub mod Digits
 pub mod Scan
 pub mod Round
-pub mod Sizes
+pub mod Magnitudes
 pub mod Cursor
 pub mod Readers
 pub mod Operands

@@ -14,7 +14,7 @@ use Rattle.shape.proofs.Bools.{both}
 use Rattle.meaning.specs.Terms.{every}
 use Rattle.sheet_line.specs.Text as Text
 use Rattle.sheet_line.specs.Text.{digit, digits, decimal, following, spaced, printed}
-use Rattle.sheet_line.specs.Numbers.{andThen, fits, Begun, nothing, minus, size, digitOf, first, more, signed, ended, scan, numbers}
+use Rattle.sheet_line.specs.Numbers.{andThen, fits, Begun, nothing, minus, magnitude, digitOf, first, more, signed, ended, scan, numbers}
 use Rattle.sheet_line.proofs.Options.{none-some, some-inj, passed, if-some, unless-some}
 use Rattle.sheet_line.proofs.Digits.{digits-one, digits-append}
 use Rattle.sheet_line.proofs.Scan.{sign, ended-fits, scan-decimal}
@@ -35,25 +35,25 @@ printed-is-read z zs h = scan-printed z zs h
 textOf : Begun → List ℕ
 textOf nothing = []
 textOf minus = Text.minus ∷ []
-textOf (size true n) = Text.minus ∷ digits n
-textOf (size false n) = digits n
+textOf (magnitude true n) = Text.minus ∷ digits n
+textOf (magnitude false n) = digits n
 
 -- No minus zero has begun.
 Fine : Begun → Type 0
 Fine nothing = Unit {0}
 Fine minus = Unit {0}
-Fine (size true n) = 0 < n
-Fine (size false n) = Unit {0}
+Fine (magnitude true n) = 0 < n
+Fine (magnitude false n) = Unit {0}
 
 ended-text : (s : Begun) (z : ℤ) → Fine s → ended s ≡ some z → (textOf s ≡ decimal z) × (fits z ≡ true)
 unfolding ended signed textOf Fine decimal
 ended-text nothing z f e = none-some e
 ended-text minus z f e = none-some e
-ended-text (size true zero) z f e = absurd (omega arith)
-ended-text (size true (suc n)) z f e =
+ended-text (magnitude true zero) z f e = absurd (omega arith)
+ended-text (magnitude true (suc n)) z f e =
     let i = if-some (fits (negsuc n)) (some (negsuc n)) z e in
     rw (← some-inj (i .1)) (refl, i .0)
-ended-text (size false n) z f e =
+ended-text (magnitude false n) z f e =
     let i = if-some (fits (pos n)) (some (pos n)) z e in
     rw (← some-inj (i .1)) (refl, i .0)
 
@@ -71,9 +71,9 @@ digit-text b d e =
 Longer : Begun → ℕ → Begun → Type 0
 Longer s b t = (textOf s ++ b ∷ [] ≡ textOf t) × Fine t
 
-first-size : (negative : Bool) (b d : ℕ) → digitOf b ≡ some d → (negative && eqb d 0) ≡ false → Longer (sign negative) b (size negative d)
+first-magnitude : (negative : Bool) (b d : ℕ) → digitOf b ≡ some d → (negative && eqb d 0) ≡ false → Longer (sign negative) b (magnitude negative d)
 unfolding Longer textOf Fine
-first-size true b d e h =
+first-magnitude true b d e h =
     let q = digit-text b d e in
     let n = eqb-false d 0 h in
     (rw (digits-one d (q .1), q .0), by-test (ltb 0 d) refl n)
@@ -81,20 +81,20 @@ first-size true b d e h =
     by-test : (t : Bool) → ltb 0 d ≡ t → (d ≡ 0 → ⊥) → 0 < d
     by-test true p n = ltb-true 0 d p
     by-test false p n = absurd (n (omega (arith, ltb-false 0 d p)))
-first-size false b d e h = let q = digit-text b d e in (rw (digits-one d (q .1), q .0), tt)
+first-magnitude false b d e h = let q = digit-text b d e in (rw (digits-one d (q .1), q .0), tt)
 
 first-text : (negative : Bool) (b : ℕ) (t : Begun) → first negative b ≡ some t → Longer (sign negative) b t
 unfolding first
 first-text negative b t e =
-    let p = passed (digitOf b) (λ d. cond (negative && eqb d 0) none (some (size negative d))) t e in
-    let u = unless-some (negative && eqb (p .found) 0) (some (size negative (p .found))) t (p .on) in
-    rw (← some-inj (u .1)) (first-size negative b (p .found) (p .is) (u .0))
+    let p = passed (digitOf b) (λ d. cond (negative && eqb d 0) none (some (magnitude negative d))) t e in
+    let u = unless-some (negative && eqb (p .found) 0) (some (magnitude negative (p .found))) t (p .on) in
+    rw (← some-inj (u .1)) (first-magnitude negative b (p .found) (p .is) (u .0))
 
-next-size : (negative : Bool) (n b d : ℕ) → Fine (size negative n) → digitOf b ≡ some d → eqb n 0 ≡ false
-    → Longer (size negative n) b (size negative (n * 10 + d))
+next-magnitude : (negative : Bool) (n b d : ℕ) → Fine (magnitude negative n) → digitOf b ≡ some d → eqb n 0 ≡ false
+    → Longer (magnitude negative n) b (magnitude negative (n * 10 + d))
 unfolding Longer textOf Fine
-next-size true n b d f e h = let q = digit-text b d e in (rw (digits-append n d f (q .1), q .0), omega arith)
-next-size false n b d f e h =
+next-magnitude true n b d f e h = let q = digit-text b d e in (rw (digits-append n d f (q .1), q .0), omega arith)
+next-magnitude false n b d f e h =
     let q = digit-text b d e in
     let p : 0 < n = omega (arith, eqb-false n 0 h) in
     (rw (digits-append n d p (q .1), q .0), tt)
@@ -107,10 +107,10 @@ more-text nothing b t f e = by-test (eqb b Text.minus) refl e
     by-test true p q = rw (← some-inj q, eqb-true b Text.minus p) (refl, tt)
     by-test false p q = first-text false b t q
 more-text minus b t f e = first-text true b t e
-more-text (size negative n) b t f e =
-    let p = passed (digitOf b) (λ d. cond (eqb n 0) none (some (size negative (n * 10 + d)))) t e in
-    let u = unless-some (eqb n 0) (some (size negative (n * 10 + p .found))) t (p .on) in
-    rw (← some-inj (u .1)) (next-size negative n b (p .found) f (p .is) (u .0))
+more-text (magnitude negative n) b t f e =
+    let p = passed (digitOf b) (λ d. cond (eqb n 0) none (some (magnitude negative (n * 10 + d)))) t e in
+    let u = unless-some (eqb n 0) (some (magnitude negative (n * 10 + p .found))) t (p .on) in
+    rw (← some-inj (u .1)) (next-magnitude negative n b (p .found) f (p .is) (u .0))
 
 -- A text that was read is the printing of the numbers, each in 32 signed bits, and there is one.
 pub record Printing (bs : List ℕ) (zs : List ℤ) : Type 0 where

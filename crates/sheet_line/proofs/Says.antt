@@ -15,10 +15,17 @@ use Rattle.meaning.specs.Terms.{every}
 use Rattle.sheet_line.specs.Text.{printed}
 use Rattle.sheet_line.specs.Numbers.{andThen, fits, numbers}
 use Rattle.sheet_line.specs.Call.{maxLine, maxHeld, Reader, give, fail, _then_, nextNumber, upTo, natural, many, operand, Head, head}
-use Rattle.sheet_line.specs.Call.{Call, call, operandNumbers, callNumbers, allRead, callOf, lineCall}
+use Rattle.sheet_line.specs.Call.{Call, call, allRead, callOf, lineCall}
 use Rattle.sheet_line.proofs.Options.{none-some, some-inj, passed, if-some}
 use Rattle.sheet_line.proofs.Operands.{elementsOn, countOn, lengthsOn}
 use Rattle.sheet_line.proofs.Round.{printed-is-read, read-is-printing}
+
+-- The numbers that say a call, in this order.
+unfoldable pub operandNumbers : Array → List ℤ
+operandNumbers a = pos (length (a .lengths)) ∷ map pos (a .lengths) ++ a .elements
+
+unfoldable pub callNumbers : Call → List ℤ
+callNumbers c = c .head .primitive ∷ c .head .origin ∷ c .head .k ∷ operandNumbers (c .left) ++ operandNumbers (c .right)
 
 -- Numbers that stand before, and then what a reader takes, say what it finds.
 abbrev Back : {A : Type 0} → List ℤ → Reader A → (A → List ℤ) → Type 0
@@ -94,7 +101,7 @@ operand-back limit =
         (λ xs ys zs e. give-back operandNumbers (record { lengths = ns; elements = xs })))
 
 abbrev headNumbers : Head → List ℤ
-headNumbers h = h .primitive ∷ h .origin ∷ h .axis ∷ []
+headNumbers h = h .primitive ∷ h .origin ∷ h .k ∷ []
 
 head-back : Back [] head headNumbers
 unfolding head
@@ -102,7 +109,7 @@ head-back =
     then-back nextNumber _ one headNumbers [] number-back
     (λ n ys zs e. then-back nextNumber _ one headNumbers (one n) number-back
     (λ G ys zs e. then-back nextNumber _ one headNumbers (n ∷ one G) number-back
-    (λ K ys zs e. give-back headNumbers (record { primitive = n; origin = G; axis = K }))))
+    (λ K ys zs e. give-back headNumbers (record { primitive = n; origin = G; k = K }))))
 
 call-back : (a b : ℕ) → Back [] (call a b) callNumbers
 unfolding call callNumbers

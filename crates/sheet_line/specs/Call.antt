@@ -1,6 +1,6 @@
 -- Paper 01, "The sheet program": the call that a line says.
 use Prim.Native.Nat.{ℕ, zero, suc, min}
-use mathlib.Core.List.{List, [], _∷_, _++_, map}
+use mathlib.Core.List.{List, [], _∷_, _++_}
 use mathlib.Core.Option.{Option, none, some}
 use mathlib.Core.Bool.{true, false, cond}
 use lib.Dec.{leb}
@@ -61,14 +61,14 @@ operand limit =
     natural maxRank then λ rank. many (natural maxHeld) rank then λ ns.
     cond (leb (count ns) limit) (many nextNumber (count ns) then λ zs. give (record { lengths = ns; elements = zs })) fail
 
--- Primitive, origin and axis.
+-- Primitive, origin G and axis number K.
 pub record Head : Type 0 where
   pub primitive : ℤ
   pub origin : ℤ
-  pub axis : ℤ
+  pub k : ℤ
 
 unfoldable pub head : Reader Head
-head = nextNumber then λ n. nextNumber then λ G. nextNumber then λ K. give (record { primitive = n; origin = G; axis = K })
+head = nextNumber then λ n. nextNumber then λ G. nextNumber then λ K. give (record { primitive = n; origin = G; k = K })
 
 -- A line's call.
 pub record Call : Type 0 where
@@ -81,13 +81,6 @@ unfoldable pub call : ℕ → ℕ → Reader Call
 call roomL roomR =
     head then λ h. operand roomL then λ L. operand roomR then λ R.
     give (record { head = h; left = L; right = R })
-
--- The numbers that say a call, in this order.
-unfoldable pub operandNumbers : Array → List ℤ
-operandNumbers a = pos (length (a .lengths)) ∷ map pos (a .lengths) ++ a .elements
-
-unfoldable pub callNumbers : Call → List ℤ
-callNumbers c = c .head .primitive ∷ c .head .origin ∷ c .head .axis ∷ operandNumbers (c .left) ++ operandNumbers (c .right)
 
 -- No number is left over.
 abbrev pub allRead : {A : Type 0} → A × List ℤ → Option A
@@ -108,11 +101,11 @@ readOf (some c) = record {
   good = true;
   primitive = c .head .primitive;
   origin = c .head .origin;
-  axis = c .head .axis;
+  k = c .head .k;
   left = shapeOf (c .left .lengths);
   right = shapeOf (c .right .lengths);
 }
-readOf none = record { good = false; primitive = pos 0; origin = pos 0; axis = pos 0; left = scalar; right = scalar }
+readOf none = record { good = false; primitive = pos 0; origin = pos 0; k = pos 0; left = scalar; right = scalar }
 
 -- The elements of a line's operands.
 abbrev pub leftOf : Option Call → List ℤ

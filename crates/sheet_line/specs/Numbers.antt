@@ -17,11 +17,11 @@ unfoldable pub fits : ℤ → Bool
 fits (pos n) = ltb n (2 ^ 31)
 fits (negsuc m) = ltb m (2 ^ 31)
 
--- What was read of a number: nothing, its `-`, or its sign (true: negative) and the size that its digits say.
+-- What was read of a number: nothing, its `-`, or its sign (true: negative) and the magnitude that its digits say.
 pub data Begun : Type 0 where
   nothing : Begun
   minus : Begun
-  size : Bool → ℕ → Begun
+  magnitude : Bool → ℕ → Begun
 
 -- What a byte says as a digit.
 unfoldable pub digitOf : ℕ → Option ℕ
@@ -29,15 +29,15 @@ digitOf b = cond (leb 48 b && leb b 57) (some (b - 48)) none
 
 -- The first digit. No minus zero.
 unfoldable pub first : Bool → ℕ → Option Begun
-first negative b = andThen (digitOf b) (λ d. cond (negative && eqb d 0) none (some (size negative d)))
+first negative b = andThen (digitOf b) (λ d. cond (negative && eqb d 0) none (some (magnitude negative d)))
 
 -- One byte more of a number. Nothing follows a 0: no leading zeros.
 unfoldable pub more : Begun → ℕ → Option Begun
 more nothing b = cond (eqb b Text.minus) (some minus) (first false b)
 more minus b = first true b
-more (size negative n) b = andThen (digitOf b) (λ d. cond (eqb n 0) none (some (size negative (n * 10 + d))))
+more (magnitude negative n) b = andThen (digitOf b) (λ d. cond (eqb n 0) none (some (magnitude negative (n * 10 + d))))
 
--- The number that a sign and a size make.
+-- The number that a sign and a magnitude make.
 unfoldable pub signed : Bool → ℕ → ℤ
 signed true n = negℤ (pos n)
 signed false n = pos n
@@ -46,7 +46,7 @@ signed false n = pos n
 unfoldable pub ended : Begun → Option ℤ
 ended nothing = none
 ended minus = none
-ended (size negative n) = cond (fits (signed negative n)) (some (signed negative n)) none
+ended (magnitude negative n) = cond (fits (signed negative n)) (some (signed negative n)) none
 
 -- The numbers of a text whose first one has begun: one blank between, no other byte.
 unfoldable pub scan : Begun → List ℕ → Option (List ℤ)

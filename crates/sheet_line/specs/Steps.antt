@@ -42,7 +42,7 @@ naturalTaken line (Natural.Is n next) = readAt line next (give n)
 naturalTaken line Natural.Nothing = none
 
 abbrev pub headTaken : List ℕ → Head → Option (Call.Head × List ℤ)
-headTaken line (Head.Is n g k next) = readAt line next (give (record { primitive = n; origin = g; axis = k }))
+headTaken line (Head.Is n g k next) = readAt line next (give (record { primitive = n; origin = g; k = k }))
 headTaken line Head.Nothing = none
 
 abbrev pub lengthsTaken : List ℕ → ℕ → Lengths → Option (List ℕ × List ℤ)

@@ -19,12 +19,12 @@ pub const MAX_LINE: usize = 16384;
 // The largest length and count on a line.
 pub const MAX_HELD: usize = 1024;
 
-// Primitive, origin and axis, and the place of the next number.
+// Primitive, origin and axis number K, and the place of the next number.
 enum Head {
     Is {
         primitive: i32,
         origin: i32,
-        axis: i32,
+        k: i32,
         next: usize,
     },
     Nothing,
@@ -39,23 +39,23 @@ fn head_at(line: &[u8], at: usize) -> Head
     let Number::Is(origin, third) = number_at(line, second) else {
         return Head::Nothing;
     };
-    let Number::Is(axis, next) = number_at(line, third) else {
+    let Number::Is(k, next) = number_at(line, third) else {
         return Head::Nothing;
     };
     Head::Is {
         primitive,
         origin,
-        axis,
+        k,
         next,
     }
 }
 
-// What a line says: a call's primitive, origin, axis and the shapes of its operands. It holds arrays, so a flag says that it is bad.
+// What a line says: a call's primitive, origin, K and the shapes of its operands. It holds arrays, so a flag says that it is bad.
 pub struct Read {
     pub good: bool,
     pub primitive: i32,
     pub origin: i32,
-    pub axis: i32,
+    pub k: i32,
     pub left: Shape,
     pub right: Shape,
 }
@@ -70,7 +70,7 @@ impl Read {
             good: false,
             primitive: 0,
             origin: 0,
-            axis: 0,
+            k: 0,
             left,
             right,
         }
@@ -94,7 +94,7 @@ pub fn read_line(line: &[u8], l: &mut [i32], r: &mut [i32]) -> Read
     let Head::Is {
         primitive,
         origin,
-        axis,
+        k,
         next,
     } = head_at(line, 0)
     else {
@@ -114,7 +114,7 @@ pub fn read_line(line: &[u8], l: &mut [i32], r: &mut [i32]) -> Read
         good: true,
         primitive,
         origin,
-        axis,
+        k,
         left: ls,
         right: rs,
     }

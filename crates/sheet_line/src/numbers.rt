@@ -20,7 +20,7 @@ const MAX_MAGNITUDE: usize = 2147483648;
 
 // The number of a sign and a magnitude. The least number has no opposite in 32 bits.
 fn whole(negative: bool, magnitude: usize, next: usize) -> Number
-    ensures { λ r. ⌜ r ≡ numberOf (ended (Begun.size negative magnitude)) next ⌝ }
+    ensures { λ r. ⌜ r ≡ numberOf (ended (Begun.magnitude negative magnitude)) next ⌝ }
 {
     if MAX_MAGNITUDE < magnitude {
         return Number::Nothing;
@@ -46,7 +46,7 @@ fn digit_value(b: u8) -> usize
 // What follows a 0: the number ends here.
 fn after_zero(line: &[u8], at: usize) -> Number
     requires { ⌜ at ≤ length (now line) ⌝ }
-    ensures { λ r. ⌜ andThen (scan (Begun.size false 0) (drop at (now (line .entry)))) nextNumber ≡ numberTaken (now (line .entry)) r ⌝ }
+    ensures { λ r. ⌜ andThen (scan (Begun.magnitude false 0) (drop at (now (line .entry)))) nextNumber ≡ numberTaken (now (line .entry)) r ⌝ }
 {
     if line.len() <= at {
         return whole(false, 0, at + 1);
@@ -60,7 +60,7 @@ fn after_zero(line: &[u8], at: usize) -> Number
 // The digits after the first one, which is not 0. A magnitude that is too large stays so.
 fn after_digit(line: &[u8], at: usize, negative: bool, first: usize) -> Number
     requires { ⌜ (at ≤ length (now line)) × (0 < first) ⌝ }
-    ensures { λ r. ⌜ andThen (scan (Begun.size negative first) (drop at (now (line .entry)))) nextNumber ≡ numberTaken (now (line .entry)) r ⌝ }
+    ensures { λ r. ⌜ andThen (scan (Begun.magnitude negative first) (drop at (now (line .entry)))) nextNumber ≡ numberTaken (now (line .entry)) r ⌝ }
 {
     let mut n = first;
     let mut i = at;

@@ -13,7 +13,8 @@ use Rattle.answer.specs.Answer.{lent, Replied}
 use Rattle.sheet_line.specs.declared.Read.{Read}
 use Rattle.sheet_line.specs.Call.{maxHeld, front}
 use Rattle.sheet_answer.specs.Answer.{badLine, replyLine}
-use Rattle.sheet_answer.specs.Sheet.{sheetAnswer, heldAnswer}
+use Rattle.sheet_answer.specs.Sheet.{sheetAnswer}
+use Rattle.sheet_answer.specs.Steps.{heldAnswer}
 use Rattle.sheet_answer.proofs.Answers.{Print}
 use Rattle.sheet_answer.proofs.Room.{bad-fits}
 use Rattle.sheet_answer.proofs.Joined.{bad-answer, good-answer, printed-whole, not-held, held-whole}
@@ -73,8 +74,8 @@ primitive-fits c = search needs
 origin-fits : (c : tie.After-struct-told2) → SFits w32 (result (c .before) .origin)
 origin-fits c = search needs
 
-axis-fits : (c : tie.After-struct-told3) → SFits w32 (result (c .before .before) .axis)
-axis-fits c = search needs
+k-fits : (c : tie.After-struct-told3) → SFits w32 (result (c .before .before) .k)
+k-fits c = search needs
 
 abbrev asked : tie.After-call → tie.After-struct-told
 asked c = c .before .before .before
@@ -88,14 +89,14 @@ r′ c = reading (c .before) .read-line .last .1 .1 .0
 abbrev replyTo : tie.After-struct-told → Reply
 replyTo c =
     let a = result c in
-    reply (a .primitive) (a .origin) (a .axis) (lent (a .left) (l′ (good c))) (lent (a .right) (r′ (good c))) (began (reading (good c .before)) .args .out .now)
+    reply (a .primitive) (a .origin) (a .k) (lent (a .left) (l′ (good c))) (lent (a .right) (r′ (good c))) (began (reading (good c .before)) .args .out .now)
 
 abbrev out : tie.After-call → List ℤ
 out c = c .call .last .1 .1 .1 .1 .1 .1 .1 .0
 
 replied : (c : tie.After-call) → Replied (c .call .result) (out c) (replyTo (asked c))
 replied c =
-    rw (toZ-ofZ (primitive-fits (asked c)), toZ-ofZ (origin-fits (c .before .before)), toZ-ofZ (axis-fits (c .before))) at (c .call .ensures)
+    rw (toZ-ofZ (primitive-fits (asked c)), toZ-ofZ (origin-fits (c .before .before)), toZ-ofZ (k-fits (c .before))) at (c .call .ensures)
 
 abbrev called : tie.After-slice-known4 → tie.After-call
 called c = c .before .before .before .before .before .before .before

@@ -5,7 +5,7 @@ use lib.ListN.{length, take, drop, length-take, length-drop}
 use borrow.Author.Needs.{needs}
 use borrow.Rule.Slice.PartMut.{midOf}
 use Rattle.shape.proofs.Bools.{no-way}
-use Rattle.sheet_answer.specs.Sheet.{heldAnswer}
+use Rattle.sheet_answer.specs.Steps.{heldAnswer}
 use Rattle.sheet.proofs.Waits.{put-front, front-fits}
 use Rattle.sheet.proofs.end_line.Statement.{statement}
 use Rattle.sheet.proofs.end_line.Tie as tie
@@ -20,7 +20,7 @@ returns c =
       λ on. no-way (sym on ∙ c .if1 .taken),
     )
 
-abbrev answered : tie.After-ended → tie.After-answer-line
+abbrev answered : tie.After-text-end → tie.After-answer-line
 answered c = c .before .before .before .before .before .before
 
 abbrev going : tie.After-answer-line → tie.Else1
@@ -40,10 +40,10 @@ returns-2 c =
     let text′ = answer .last .1 .1 .1 .1 .1 .1 .0 in
     let fits = front-fits bytes part text′ (answer .ensures .1) (answer .kept .1 .1 .1 .1 .1 .1 .0) in
     let long = length-take rest (drop at text) in
-    let end = c .ended .ensures .1 (omega (arith, answer .ensures .0, kept .ensures .1 .0, long, length-drop at text)) in
-    let waits = put-front text bytes part text′ at rest (c .ended .result) (omega (arith, kept .ensures .1 .0)) (answer .ensures .1)
+    let end = c .text-end .ensures .1 (omega (arith, answer .ensures .0, kept .ensures .1 .0, long, length-drop at text)) in
+    let waits = put-front text bytes part text′ at rest (c .text-end .result) (omega (arith, kept .ensures .1 .0)) (answer .ensures .1)
     (omega (arith, end, answer .ensures .0)) in (
-      (omega arith, c .ended .ensures .0),
+      (omega arith, c .text-end .ensures .0),
       λ on. record { none = omega arith; over = refl; line = refl; kept = take at text; waited = kept .ensures .1 .1; waits = waits },
     )
 

@@ -15,7 +15,7 @@ returns-2 c =
     let st = c .before .before .before in
     let a = st .args in
     let w = c .written in
-    (w .ensures .0, (omega (arith, w .ensures .1, st .pre), rw (w .ensures .1) (all-written (take (a .held .waiting) (a .text .now)))))
+    (w .ensures .0 .0, (omega (arith, w .ensures .0 .1, st .pre), rw (w .ensures .0 .1) (all-written (take (a .held .waiting) (a .text .now)))))
 
 pub flushed-spec : {M : Type 1} → statement M
 flushed-spec = tie.close (tie.spec (λ c. search needs) returns (λ c κs. search needs) returns-2)

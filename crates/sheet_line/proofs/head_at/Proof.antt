@@ -7,7 +7,7 @@ use Rattle.sheet_line.proofs.head_at.Tie as tie
 
 -- What is still to be read after the primitive, and after the origin.
 abbrev axisOn : ℤ → ℤ → Reader Head
-axisOn n G = nextNumber then λ K. give (record { primitive = n; origin = G; axis = K })
+axisOn n G = nextNumber then λ K. give (record { primitive = n; origin = G; k = K })
 
 abbrev originOn : ℤ → Reader Head
 originOn n = nextNumber then axisOn n
@@ -53,8 +53,8 @@ returns-3 c =
 
 returns-4 : tie.Need-returns-4
 returns-4 c =
-    let axis = number-read (c .before .before .before .number-at3 .ensures) (c .before .axis .given .1) (search needs) in
-    reads-on (after-two (two c)) (then-reads (λ K. give (record { primitive = _; origin = _; axis = K })) axis) .is
+    let k = number-read (c .before .before .before .number-at3 .ensures) (c .before .k .given .1) (search needs) in
+    reads-on (after-two (two c)) (then-reads (λ K. give (record { primitive = _; origin = _; k = K })) k) .is
 
 pub head-at-spec : {M : Type 1} → statement M
 head-at-spec =

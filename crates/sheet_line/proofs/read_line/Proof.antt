@@ -38,7 +38,7 @@ roomR st = room (st .args .r .now)
 
 -- What was found there.
 abbrev headOf : tie.After-known-told → Head
-headOf c = let x = c .before .primitive .given .0 in record { primitive = held (x .0); origin = held (x .1 .0); axis = held (x .1 .1 .0) }
+headOf c = let x = c .before .primitive .given .0 in record { primitive = held (x .0); origin = held (x .1 .0); k = held (x .1 .1 .0) }
 
 abbrev left : tie.Else2 → tie.After-operand-at
 left c = c .before .before .before

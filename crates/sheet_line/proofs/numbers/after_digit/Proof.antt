@@ -6,14 +6,14 @@ use mathlib.Core.List.{List}
 use mathlib.Core.Option.{some}
 use lib.ListN.{length, getD, drop}
 use borrow.Author.Needs.{needs}
-use Rattle.sheet_line.specs.Numbers.{size, digitOf, scan}
+use Rattle.sheet_line.specs.Numbers.{magnitude, digitOf, scan}
 use Rattle.sheet_line.proofs.Cursor.{is-digit, no-digit, digit-not-blank, Ends, line-ends, blank-ends, number-ends, stops, goes-on, over}
 use Rattle.sheet_line.proofs.numbers.after_digit.Statement.{statement}
 use Rattle.sheet_line.proofs.numbers.after_digit.Tie as tie
 
 abbrev Inv-loop : tie.InvT-loop
 Inv-loop line at negative first n₀ i₀ n i =
-    (i ≤ length line) × ((0 < n) × (scan (size negative first) (drop at line) ≡ scan (size negative n) (drop i line)))
+    (i ≤ length line) × ((0 < n) × (scan (magnitude negative first) (drop at line) ≡ scan (magnitude negative n) (drop i line)))
 
 abbrev μ-loop : tie.MeasureT-loop
 μ-loop line at negative first n₀ i₀ n i = length line - i
@@ -61,7 +61,7 @@ returns-3 : tie.Need-returns-3 Inv-loop μ-loop
 returns-3 c =
     let lp = c .before .before in
     rw (lp .loop .inv .1 .1, c .whole .ensures)
-    (number-ends (line lp) (lp .loop .i) (size (lp .before .before .args .negative) (lp .loop .n)) (ends (c .before)))
+    (number-ends (line lp) (lp .loop .i) (magnitude (lp .before .before .args .negative) (lp .loop .n)) (ends (c .before)))
 
 pub after-digit-spec : {M : Type 1} → statement M
 after-digit-spec =

@@ -6,7 +6,7 @@ use mir.Val.{toZ}
 use lib.IntN.{pos}
 use mir.Facts.{toZ-pos, toZ-ofZ}
 use mathlib.Core.Bool.{true, false}
-use Rattle.sheet_line.proofs.Sizes.{size-fits, size-over, least, no-largest, opposite-fits, opposite, itself}
+use Rattle.sheet_line.proofs.Magnitudes.{magnitude-fits, magnitude-over, least, no-largest, opposite-fits, opposite, itself}
 use borrow.Author.Needs.{needs}
 use Rattle.sheet_line.proofs.numbers.whole.Statement.{statement}
 use Rattle.sheet_line.proofs.numbers.whole.Tie as tie
@@ -15,7 +15,7 @@ read-magnitude : (c : tie.Else2) → toZ w32 (c .before .before .args .magnitude
 read-magnitude c = toZ-pos w32 {n = c .before .before .args .magnitude} (omega arith)
 
 returns : tie.Need-returns
-returns c = rw (size-over (c .before .args .negative) (c .before .args .magnitude) (c .if1 .taken))
+returns c = rw (magnitude-over (c .before .args .negative) (c .before .args .magnitude) (c .if1 .taken))
 
 returns-2 : tie.Need-returns-2
 returns-2 c =
@@ -33,12 +33,12 @@ sub-value c = rw (read-magnitude (c .before)) (opposite-fits (c .before .before 
 returns-4 : tie.Need-returns-4
 returns-4 c =
     let n = c .before .before .before .args .magnitude in
-    rw (toZ-ofZ (sub-value c), read-magnitude (c .before), opposite n, c .if4 .taken, size-fits true n (omega arith))
+    rw (toZ-ofZ (sub-value c), read-magnitude (c .before), opposite n, c .if4 .taken, magnitude-fits true n (omega arith))
 
 returns-5 : tie.Need-returns-5
 returns-5 c =
     let n = c .before .before .before .args .magnitude in
-    rw (read-magnitude (c .before), itself n, c .if4 .left, size-fits false n (omega arith))
+    rw (read-magnitude (c .before), itself n, c .if4 .left, magnitude-fits false n (omega arith))
 
 pub whole-spec : {M : Type 1} → statement M
 whole-spec = tie.close (tie.spec returns returns-2 returns-3 (λ c. search needs) sub-value returns-4 returns-5)
