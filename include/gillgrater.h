@@ -88,7 +88,7 @@ enum {
    shape and a buffer whose first count elements are the array, row by row; later ones are not read. A result fills the front of `out`;
    elements after its count keep their values, and a refusal leaves all of them. */
 gillgrater_answer gillgrater_call(
-    int32_t number, int32_t g, int32_t k,
+    int32_t primitive, int32_t g, int32_t k,
     gillgrater_shape ls, const int32_t *l, size_t l_length,
     gillgrater_shape rs, const int32_t *r, size_t r_length,
     int32_t *out, size_t out_length);

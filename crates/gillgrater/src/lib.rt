@@ -15,7 +15,7 @@ use shape::Shape;
 // A call by its primitive's number.
 #[no_mangle]
 pub extern "C" fn gillgrater_call(
-    number: i32,
+    primitive: i32,
     g: i32,
     k: i32,
     ls: Shape,
@@ -24,9 +24,9 @@ pub extern "C" fn gillgrater_call(
     r: &[i32],
     out: &mut [i32],
 ) -> Answer
-    ensures { λ a. ⌜ Replied a (now (out .exit)) (reply number g k (lent ls (now (l .entry))) (lent rs (now (r .entry))) (now (out .entry))) ⌝ }
+    ensures { λ a. ⌜ Replied a (now (out .exit)) (reply primitive g k (lent ls (now (l .entry))) (lent rs (now (r .entry))) (now (out .entry))) ⌝ }
 {
-    kernel::call(number, g, k, ls, l, rs, r, out)
+    kernel::call(primitive, g, k, ls, l, rs, r, out)
 }
 
 // The leading item as a part of R's buffer, 0 and 0 for a refusal. A slice cannot be returned to C.

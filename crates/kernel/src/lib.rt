@@ -9,7 +9,7 @@ use shape::Shape;
 
 // A call by its primitive's number: 11 to 15 take one operand, 21 to 31 take two, and every other number is refused.
 pub fn call(
-    number: i32,
+    primitive: i32,
     g: i32,
     k: i32,
     ls: Shape,
@@ -18,20 +18,20 @@ pub fn call(
     r: &[i32],
     out: &mut [i32],
 ) -> Answer
-    ensures { λ a. ⌜ Replied a (now (out .exit)) (reply number g k (lent ls (now (l .entry))) (lent rs (now (r .entry))) (now (out .entry))) ⌝ }
+    ensures { λ a. ⌜ Replied a (now (out .exit)) (reply primitive g k (lent ls (now (l .entry))) (lent rs (now (r .entry))) (now (out .entry))) ⌝ }
 {
-    match number {
-        11..=15 => call_one(number, g, k, rs, r, out),
-        21..=31 => call_two(number, g, k, ls, l, rs, r, out),
+    match primitive {
+        11..=15 => call_one(primitive, g, k, rs, r, out),
+        21..=31 => call_two(primitive, g, k, ls, l, rs, r, out),
         _ => Answer::refused(refusal::NUMBER),
     }
 }
 
-fn call_one(number: i32, g: i32, k: i32, rs: Shape, r: &[i32], out: &mut [i32]) -> Answer
-    requires { ⌜ OneOperand number ⌝ }
-    ensures { λ a. ⌜ ((L : Operand) → Replied a (now (out .exit)) (reply number g k L (lent rs (now (r .entry))) (now (out .entry)))) ⌝ }
+fn call_one(primitive: i32, g: i32, k: i32, rs: Shape, r: &[i32], out: &mut [i32]) -> Answer
+    requires { ⌜ OneOperand primitive ⌝ }
+    ensures { λ a. ⌜ ((L : Operand) → Replied a (now (out .exit)) (reply primitive g k L (lent rs (now (r .entry))) (now (out .entry)))) ⌝ }
 {
-    match number {
+    match primitive {
         11 => vectors::shape_of(g, rs, r, out),
         12 => vectors::ravel(g, rs, r, out),
         13 => vectors::interval(g, rs, r, out),
@@ -42,7 +42,7 @@ fn call_one(number: i32, g: i32, k: i32, rs: Shape, r: &[i32], out: &mut [i32]) 
 }
 
 fn call_two(
-    number: i32,
+    primitive: i32,
     g: i32,
     k: i32,
     ls: Shape,
@@ -51,10 +51,10 @@ fn call_two(
     r: &[i32],
     out: &mut [i32],
 ) -> Answer
-    requires { ⌜ TwoOperands number ⌝ }
-    ensures { λ a. ⌜ Replied a (now (out .exit)) (reply number g k (lent ls (now (l .entry))) (lent rs (now (r .entry))) (now (out .entry))) ⌝ }
+    requires { ⌜ TwoOperands primitive ⌝ }
+    ensures { λ a. ⌜ Replied a (now (out .exit)) (reply primitive g k (lent ls (now (l .entry))) (lent rs (now (r .entry))) (now (out .entry))) ⌝ }
 {
-    match number {
+    match primitive {
         21 => vectors::reshape(g, ls, l, rs, r, out),
         22 => joins::catenate(g, k, ls, l, rs, r, out),
         23 => cuts::take(g, ls, l, rs, r, out),

@@ -32,17 +32,17 @@ two c = c .before .before .before .before
 returns : tie.Need-returns
 returns c =
     let st = one (c .before .before .before) in
-    carried (left st) (right st) (st .args .out .now) (read32 _ (st .fits .number)) (read32 _ (st .fits .g)) (read32 _ (st .fits .k))
+    carried (left st) (right st) (st .args .out .now) (read32 _ (st .fits .primitive)) (read32 _ (st .fits .g)) (read32 _ (st .fits .k))
     (c .before .call-one .ensures (left st))
 
 returns-2 : tie.Need-returns-2
 returns-2 c =
     let st = two (c .before .before .before) in
-    carried (left st) (right st) (st .args .out .now) (read32 _ (st .fits .number)) (read32 _ (st .fits .g)) (read32 _ (st .fits .k))
+    carried (left st) (right st) (st .args .out .now) (read32 _ (st .fits .primitive)) (read32 _ (st .fits .g)) (read32 _ (st .fits .k))
     (c .before .call-two .ensures)
 
 -- The number is below both ranges, between them, or above them.
-none : (c : tie.Joined1) → isNumber (toZ w32 (ofZ w32 (c .before .args .number))) ≡ false
+none : (c : tie.Joined1) → isNumber (toZ w32 (ofZ w32 (c .before .args .primitive))) ≡ false
 none c =
     ⊎-elim (λ w. rw (w .taken)) (λ v. ⊎-elim (λ w. rw (w .0 .left, w .1 .left, w .2 .taken)) (λ w. rw (w .0 .left, w .1 .left, w .2 .left) (w .3 .left)) v)
     (c .if1 .came)
@@ -50,8 +50,8 @@ none c =
 returns-3 : tie.Need-returns-3
 returns-3 c =
     let st = c .before .before in
-    let z = rw (read32 _ (st .fits .number)) at (none (c .before)) in
-    unnamed-replied (st .args .number) z (st .args .g) (st .args .k) (left st) (right st) (st .args .out .now) (c .refused .ensures)
+    let z = rw (read32 _ (st .fits .primitive)) at (none (c .before)) in
+    unnamed-replied (st .args .primitive) z (st .args .g) (st .args .k) (left st) (right st) (st .args .out .now) (c .refused .ensures)
 
 pub call-spec : {M : Type 1} → statement M
 call-spec =

@@ -18,9 +18,9 @@ abbrev right : tie.Start → Operand
 right st = lent (st .args .rs) (st .args .r .now)
 
 -- The arm of a key, whatever L is.
-arm : (st : tie.Start) (L : Operand) {n : ℕ} {a : Answer} {out : List ℤ} → ofZ w32 (st .args .number) ≡ n
+arm : (st : tie.Start) (L : Operand) {n : ℕ} {a : Answer} {out : List ℤ} → ofZ w32 (st .args .primitive) ≡ n
     → Replied a out (reply (pos n) (toZ w32 (ofZ w32 (st .args .g))) (toZ w32 (ofZ w32 (st .args .k))) L (right st) (st .args .out .now))
-    → Replied a out (reply (st .args .number) (st .args .g) (st .args .k) L (right st) (st .args .out .now))
+    → Replied a out (reply (st .args .primitive) (st .args .g) (st .args .k) L (right st) (st .args .out .now))
 arm st L e r = keyed (st .pre) e (st .fits .g) (st .fits .k) L (right st) (st .args .out .now) r
 
 returns : tie.Need-returns

@@ -21,9 +21,9 @@ abbrev right : tie.Start → Operand
 right st = lent (st .args .rs) (st .args .r .now)
 
 -- The arm of a key.
-arm : (st : tie.Start) {n : ℕ} {a : Answer} {out : List ℤ} → ofZ w32 (st .args .number) ≡ n
+arm : (st : tie.Start) {n : ℕ} {a : Answer} {out : List ℤ} → ofZ w32 (st .args .primitive) ≡ n
     → Replied a out (reply (pos n) (toZ w32 (ofZ w32 (st .args .g))) (toZ w32 (ofZ w32 (st .args .k))) (left st) (right st) (st .args .out .now))
-    → Replied a out (reply (st .args .number) (st .args .g) (st .args .k) (left st) (right st) (st .args .out .now))
+    → Replied a out (reply (st .args .primitive) (st .args .g) (st .args .k) (left st) (right st) (st .args .out .now))
 arm st e r = keyed (st .pre) e (st .fits .g) (st .fits .k) (left st) (right st) (st .args .out .now) r
 
 returns : tie.Need-returns
