@@ -1,8 +1,7 @@
 -- A buffer that is filled part by part, each part by a function that fills it.
 use mathlib.Core.Path.{_≡_, sym, ap, ap₂, _∙_}
 use mathlib.Core.List.{List, _++_, append-assoc}
-use Prim.Native.Nat.{ℕ, _+_, _-_, _*_, _≤_, _<_}
-use native.Mathlib.Nat.{zero-mul}
+use Prim.Native.Nat.{ℕ, _+_, _-_, _≤_, _<_}
 use native.Mathlib.Omega.{arith}
 use lib.ListN.{length, getD, take, drop, take-append-drop, length-drop, List·getD-append}
 use lib.Seq.{getD-take, getD-drop, length-take-le, drop-drop}
@@ -10,12 +9,8 @@ use lib.IntN.{ℤ, pos}
 use borrow.Rule.Slice.PartMut.{putMid, mid-len}
 use Rattle.meaning.specs.Array.{tab}
 use Rattle.meaning.proofs.Tab.{length-tab, getD-tab, tab-add}
-use Rattle.copying.proofs.Runs.{filled-none, length-filled, tab-is, put-list}
+use Rattle.copying.proofs.Runs.{length-filled, tab-is, put-list}
 use Rattle.copying.specs.Steps.{filled}
-
--- Before the first part.
-pub filled-start : {A : Type 0} (g : ℕ → A) (c : ℕ) (out : List A) → out ≡ filled g (0 * c) out
-filled-start g c out = filled-none g out ∙ ap (λ n. filled g n out) (sym (zero-mul c))
 
 -- A part has as many elements as it is long.
 pub part-long : {A : Type 0} (xs : List A) (at w : ℕ) → at + w ≤ length xs → length (take (at + w - at) (drop at xs)) ≡ w

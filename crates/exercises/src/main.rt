@@ -1,5 +1,4 @@
 // Paper 01's exercises through the numbered entry point, and the leading item, its sister and the successor, printed.
-use answer::Answer;
 use libc::STDOUT_FILENO;
 use shape::Place;
 use shape::Shape;

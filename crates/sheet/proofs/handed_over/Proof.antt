@@ -1,5 +1,4 @@
 use Prim.Native.Nat.{_-_, _≤_}
-use lib.ListN.{length}
 use borrow.Author.Needs.{needs}
 use Rattle.sheet.proofs.handed_over.Statement.{statement}
 use Rattle.sheet.proofs.handed_over.Tie as tie

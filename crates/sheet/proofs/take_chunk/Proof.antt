@@ -2,7 +2,6 @@ use Prim.Native.Nat.{_-_}
 use native.Mathlib.Omega.{arith}
 use mathlib.Core.Path.{sym, _∙_}
 use lib.ListN.{length}
-use borrow.Author.Tests.{not-false}
 use borrow.Author.Needs.{needs}
 use Rattle.shape.proofs.Bools.{no-way}
 use Rattle.sheet.proofs.Cut.{Going, none-taken, line-taken, chunk-taken}
