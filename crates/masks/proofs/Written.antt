@@ -42,11 +42,11 @@ module _ {g : ℕ → ℤ} {size : ℕ} {out₀ out : List ℤ} {to q : ℕ} (w 
   written-more room e = record { at = omega (arith, w .at); long = ap length e ∙ length-filled g (to + size) out₀ room; filling = e }
 
   -- n runs more, all at once.
-  pub written-run : (next : List ℤ) (n e : ℕ) → e ≡ to + n * size → e ≤ length out₀ → next ≡ filled g (to + n * size) out₀
-      → Written g size out₀ next e (q + n)
-  written-run next n e end room f =
-      let there : next ≡ filled g e out₀ = f ∙ ap (λ x. filled g x out₀) (sym end) in
-      record { at = omega (arith, w .at); long = ap length there ∙ length-filled g e out₀ room; filling = there }
+  pub written-run : (n : ℕ) {e q′ : ℕ} {next : List ℤ} → e ≡ to + n * size → e ≤ length out₀ → q′ ≡ q + n → next ≡ filled g (to + n * size) out₀
+      → Written g size out₀ next e q′
+  written-run n {e} end room all f =
+      let there = f ∙ ap (λ x. filled g x out₀) (sym end) in
+      record { at = omega (arith, w .at, ap (λ x. x * size) all); long = ap length there ∙ length-filled g e out₀ room; filling = there }
 
 -- A run of one element.
 pub written-one : {g : ℕ → ℤ} {out₀ out : List ℤ} {to q : ℕ} (w : Written g 1 out₀ out to q) → to < length out₀ → (v : ℤ) → v ≡ g to

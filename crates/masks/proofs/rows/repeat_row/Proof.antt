@@ -17,10 +17,7 @@ abbrev μ-loop : tie.MeasureT-loop
 
 room : (c : tie.In-loop Inv-loop μ-loop)
     → let a = c .before .before .before .args in c .before .loop .to + a .inner ≤ length (a .out .now)
-room c =
-    let lp = c .before .loop in
-    let a = c .before .before .before .args in
-    chosen-room (λ j. 0) (a .r .now) (a .m) (a .inner) (lp .inv) (omega arith) (omega arith)
+room c = chosen-room (c .before .loop .inv) (omega arith) (omega arith)
 
 returns : tie.Need-returns Inv-loop μ-loop
 returns c =
@@ -47,17 +44,13 @@ passed c = c .before .before .before .before
 
 loop-again : tie.Need-loop-again Inv-loop μ-loop
 loop-again c =
-    let lp = passed c in
-    let a = lp .before .before .args in
-    repeated-row (a .r .now) (a .m) (a .inner) (lp .loop .inv) (omega arith) (omega arith) (omega arith) _ (c .before .copy-run .ensures)
+    repeated-row (passed c .loop .inv) (omega arith) (omega arith) (omega arith) _ (c .before .copy-run .ensures)
 
 same-length-2 : tie.Need-same-length-2 Inv-loop μ-loop
 same-length-2 c = c .before .loop .inv .written .long
 
 returns-2 : tie.Need-returns-2 Inv-loop μ-loop
-returns-2 c =
-    let a = c .before .before .before .args in
-    chosen-all (λ j. 0) (a .r .now) (a .m) (a .inner) (c .before .loop .inv) (omega arith) (omega arith)
+returns-2 c = chosen-all (c .before .loop .inv) (omega arith) (omega arith)
 
 pub repeat-row-spec : {M : Type 1} → statement M
 repeat-row-spec =
