@@ -13,8 +13,8 @@ use Rattle.meaning.specs.Array.{tab}
 use Rattle.copying.specs.Runs.{copied}
 use Rattle.copying.proofs.Runs.{tab-is}
 use Rattle.masks.specs.Steps.Rows.{rowed}
-use Rattle.masks.proofs.Filling.{one-row, rows-more}
-use Rattle.masks.proofs.Written.{Written, written-none, written-whole, written-room}
+use Rattle.masks.proofs.Filling.{row-from, rows-more}
+use Rattle.masks.proofs.Written.{Written, written-none, written-whole, written-room, run-next}
 
 abbrev pub chosen : (ℕ → ℕ) → ℕ → List ℤ → ℕ → ℤ
 chosen φ c r = rowed (λ i. true) φ c r
@@ -40,7 +40,7 @@ module _ {φ : ℕ → ℕ} {r : List ℤ} {m c : ℕ} {out₀ out : List ℤ} {
     chosen-row from at inside last w = record {
       within = omega arith;
       written =
-          rows-more (λ j. true) φ c r (k .written) 1 (omega arith) chosen-room refl (one-row refl refl at inside) last w;
+          rows-more (λ j. true) φ c r (run-next (k .written) chosen-room) (row-from refl refl at inside) last w;
     }
 
 -- One row, repeated. Where it is one element.

@@ -20,7 +20,7 @@ use Rattle.masks.specs.Steps.Rows.{keptRows, Stretch}
 use Rattle.masks.proofs.Ones.{before, before-none, before-few, before-all, before-most, before-one, before-other, one-at}
 use Rattle.masks.proofs.Filling.{one-is, RowsFrom, rows-more}
 use Rattle.masks.proofs.Stretches.{ones-add, ones-pass, others-pass, rows-size}
-use Rattle.masks.proofs.Written.{Written, written-none}
+use Rattle.masks.proofs.Written.{Written, written-none, MoreRuns}
 
 pub record Kept (l r : List ℤ) (c : ℕ) (out₀ out : List ℤ) (to i : ℕ) : Type 0 where
   pub within : i ≤ length l
@@ -65,6 +65,9 @@ module _ {l r : List ℤ} {c : ℕ} {out₀ out : List ℤ} {to i : ℕ} (k : Ke
         let here : before next l * c ≡ (before i l + (next - first)) * c = ap (λ x. x * c) passed in
         omega (arith, k .written .at, size, most, here)
 
+    more : MoreRuns (keptRows (ones l) c r) c out₀ out to (before i l) (next - first) (to + (next * c - first * c)) (before next l)
+    more = record { written = k .written; end = ap (λ x. to + x) size; room = run-room; all = passed }
+
     ones-from : next * c ≤ length r → RowsFrom (λ j. true) (λ j. getD (ones l) j 0) c r (before i l) (next - first) first (first * c) (next * c)
     ones-from inside = record {
       takes = λ j h. refl;
@@ -82,7 +85,7 @@ module _ {l r : List ℤ} {c : ℕ} {out₀ out : List ℤ} {to i : ℕ} (k : Ke
     kept-run inside last w =
         record {
           within = b .within;
-          written = rows-more (λ j. true) (λ j. getD (ones l) j 0) c r (k .written) (next - first) (ap (λ x. to + x) size) run-room passed (ones-from inside) last w;
+          written = rows-more (λ j. true) (λ j. getD (ones l) j 0) c r more (ones-from inside) last w;
         }
 
 -- Every element is written, and the next over it if its position is no one: the place after those at ones may hold anything.

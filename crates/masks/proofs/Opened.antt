@@ -16,7 +16,7 @@ use Rattle.masks.specs.Steps.Rows.{openedRows, Stretch}
 use Rattle.masks.proofs.Ones.{before, before-most, before-one, before-other, one-below}
 use Rattle.masks.proofs.Stretches.{ones-add, ones-pass, others-pass, rows-size}
 use Rattle.masks.proofs.Filling.{one-is, one-zero, RowsFrom, rows-more, zeros-more}
-use Rattle.masks.proofs.Written.{run-inside, Written, written-none, written-whole, written-room, written-one}
+use Rattle.masks.proofs.Written.{run-inside, Written, written-none, written-whole, written-room, written-one, MoreRuns}
 
 pub record Opened (l r : List ℤ) (c : ℕ) (out₀ out : List ℤ) (from to i : ℕ) : Type 0 where
   pub within : i ≤ length l
@@ -48,14 +48,13 @@ module _ {l r : List ℤ} {c : ℕ} {out₀ out : List ℤ} {from to i : ℕ} (k
 
 -- A stretch of positions: rows of zeros, or rows of r.
 module _ {l r : List ℤ} {c : ℕ} {out₀ out : List ℤ} {from i e : ℕ} (k : Opened l r c out₀ out from (i * c) i) (room : length out₀ ≡ length l * c) where
-  rows-end : {b : Bool} → Stretch b l i e → e * c ≡ i * c + (e - i) * c
-  rows-end s = omega (arith, rows-size i e c (s .starts), mul-le-mul-right {m = i} {n = e} c (s .starts))
-
-  rows-room : {b : Bool} → Stretch b l i e → e * c ≤ length out₀
-  rows-room s = omega (arith, mul-le-mul-right {m = e} {n = length l} c (s .within))
-
-  to-end : {b : Bool} → Stretch b l i e → e ≡ i + (e - i)
-  to-end s = omega (arith, s .starts)
+  more : {b : Bool} → Stretch b l i e → MoreRuns (openedRows l c r) c out₀ out (i * c) i (e - i) (e * c) e
+  more s = record {
+    written = k .written;
+    end = omega (arith, rows-size i e c (s .starts), mul-le-mul-right {m = i} {n = e} c (s .starts));
+    room = omega (arith, mul-le-mul-right {m = e} {n = length l} c (s .within));
+    all = omega (arith, s .starts);
+  }
 
   pub opened-gap : Stretch false l i e → (last : List ℤ) → last ≡ replicate (length (take (e * c - i * c) (drop (i * c) out))) (pos 0)
       → Opened l r c out₀ (putMid (i * c) (e * c - i * c) out last) from (e * c) e
@@ -63,9 +62,7 @@ module _ {l r : List ℤ} {c : ℕ} {out₀ out : List ℤ} {from i e : ℕ} (k 
       record {
         within = s .within;
         source = k .source ∙ ap (λ x. x * c) (sym (others-pass s));
-        written =
-            zeros-more (oneAt l) (λ j. before j l) c r (k .written) (e - i) (rows-end s) (rows-room s) (to-end s)
-            (λ j h. s .alike (i + j) (omega arith) (omega arith)) last w;
+        written = zeros-more (oneAt l) (λ j. before j l) c r (more s) (λ j h. s .alike (i + j) (omega arith) (omega arith)) last w;
       }
 
   ones-from : Stretch true l i e → from + (e * c - i * c) ≤ length r
@@ -85,7 +82,7 @@ module _ {l r : List ℤ} {c : ℕ} {out₀ out : List ℤ} {from i e : ℕ} (k 
       record {
         within = s .within;
         source = rw (ones-pass s, rows-size i e c (s .starts)) (omega (arith, k .source));
-        written = rows-more (oneAt l) (λ j. before j l) c r (k .written) (e - i) (rows-end s) (rows-room s) (to-end s) (ones-from s inside) last w;
+        written = rows-more (oneAt l) (λ j. before j l) c r (more s) (ones-from s inside) last w;
       }
 
 -- The rows of r for a stretch of ones after a gap.

@@ -18,8 +18,8 @@ use Rattle.masks.specs.Steps.Actions.{oneAt}
 use Rattle.masks.specs.Steps.Rows.{openedRows, Zeros, Stretch}
 use Rattle.masks.proofs.Ones.{before, before-none, before-all, before-one, ones-le, one-at, one-below}
 use Rattle.masks.proofs.Stretches.{others-pass}
-use Rattle.masks.proofs.Written.{Written, written-rest, written-one}
-use Rattle.masks.proofs.Filling.{one-is, one-row, rows-more}
+use Rattle.masks.proofs.Written.{Written, written-rest, written-one, run-next}
+use Rattle.masks.proofs.Filling.{one-is, row-from, rows-more}
 use Rattle.masks.proofs.Opened.{Opened, opened-none, opened-all, opened-room, opened-next, opened-inside, opened-gap}
 
 -- One position more in front of a stretch of others.
@@ -157,8 +157,8 @@ module _ {l r : List ℤ} {c : ℕ} {zeros out : List ℤ} {from q : ℕ} (s : S
             → Scattered l r c zeros (putMid (p * c) (p * c + c - p * c) out last) (from + c) (q + 1)
         scattered-row last w =
             scattered-next
-            (rows-more (oneAt l) (λ j. before j l) c r (here .written) 1 (omega arith) row-zeros refl
-            (one-row one-here count-here (rw count-here at (here .source)) row-inside) last w)
+            (rows-more (oneAt l) (λ j. before j l) c r (run-next (here .written) row-zeros)
+            (row-from one-here count-here (rw count-here at (here .source)) row-inside) last w)
 
 -- Where a row is one element.
 pub scattered-one : {l r zeros out : List ℤ} {q p : ℕ} (s : Scattered l r 1 zeros out q q) (all : length r ≡ length (ones l) * 1)

@@ -3,7 +3,8 @@ use Prim.Native.Nat.{_+_, _-_, _*_, _≤_}
 use lib.ListN.{length}
 use borrow.Author.Needs.{needs}
 use Rattle.masks.specs.Steps.Actions.{actionOf}
-use Rattle.masks.proofs.Placing.{BlocksPlaced, placed-none, placed-all, placed-inside, placed-room, placed-block, placed-notes, placed-more, size-in, part-in}
+use Rattle.masks.proofs.Placing.{BlocksPlaced, placed-none, placed-all, placed-inside, placed-room, placed-block, placed-notes, placed-more}
+use Rattle.masks.proofs.Placing.{size-in, part-in}
 use Rattle.masks.proofs.blocks.Statement.{statement}
 use Rattle.masks.proofs.blocks.Tie as tie
 
