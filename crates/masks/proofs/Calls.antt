@@ -1,10 +1,10 @@
 -- A call of 27 or 28: what it asks, and what it gives.
 use mathlib.Core.Path.{_≡_, refl, sym, ap, ap₂, _∙_}
-use mathlib.Core.List.{List, _++_}
+use mathlib.Core.List.{List, [], _∷_, _++_}
 use mathlib.Core.Bool.{Bool, true, false, not, cond, _||_, or-true}
 use Prim.Native.Nat.{ℕ, _-_, _≤_, _<_}
 use native.Mathlib.Omega.{arith}
-use borrow.Author.Tests.{eq-eqb, eqb-true}
+use borrow.Author.Tests.{eq-eqb, eqb-true, not-false}
 use lib.ListN.{length, getD, take, drop, set, replicate, length-replicate}
 use lib.Seq.{getD-take}
 use lib.Dec.{eqb}
@@ -14,24 +14,36 @@ use Rattle.shape.specs.Shape.{maxRank, counted, count, countOf, goodShape, shap
 use Rattle.shape.proofs.Bools.{no-way}
 use Rattle.shape.proofs.Made.{with-length-is, made-stands, stands-count}
 use Rattle.meaning.specs.Array.{Operand, Array, arrayOf, build}
-use Rattle.meaning.specs.Refusal.{number, precedence}
-use Rattle.meaning.specs.Refusal.Refusal.{RANK, AXIS}
-use Rattle.meaning.specs.Terms.{rank, axis, asVector, isList, within, fromZero, every, isBit, eqZ}
+use Rattle.meaning.specs.Refusal.{Rule, _unless_, precedence, winner, meets}
+use Rattle.meaning.specs.Refusal.Refusal.{RANK, AXIS, LENGTH}
+use Rattle.meaning.specs.Terms.{rank, axis, asVector, isList, within, fromZero, eqZ}
 use Rattle.meaning.specs.Primitives.{Meaning, compress, expand}
 use Rattle.meaning.specs.Reply.{primitives, named}
 use Rattle.meaning.proofs.Positions.{within-below}
+use Rattle.meaning.proofs.Winner.{neither, unmet, firstMet, orElse, first-append}
 use Rattle.answer.specs.Answer.{lent, own}
 use Rattle.answer.proofs.Lent.{Lent, lent-part, rank-of, FineTwo}
-use Rattle.answer.proofs.Order.{Names, own-first, Ready, Roomy}
+use Rattle.answer.proofs.Order.{Names, Own, own-first, Ready, Roomy}
 use Rattle.masks.specs.declared.Action.{Action}
 use Rattle.masks.specs.declared.Action.the-variants.{Compress, Expand}
-use Rattle.masks.specs.Steps.Actions.{actionNumber, masking, vectorShape, repeats, maskFits, maskMeets, maskTest, maskOf, suits, width, takesAt, taken}
+use Rattle.masks.specs.Steps.Actions.{actionNumber, masking, vectorShape, repeats, maskFits, maskRules, maskOf, suits, width, takesAt, taken}
 use Rattle.masks.specs.Steps.Actions.{maskElement, Masked}
 use Rattle.masks.proofs.Vectors.{read-good, read-long, read-lent, read-array, read-alone}
 
--- RANK, AXIS and what a mask meets, in turn.
-abbrev pub inTurn : Bool → Bool → ℕ → ℕ
-inTurn list inside test = cond (not list) (number RANK) (cond (not inside) (number AXIS) test)
+-- In turn: L is a list, K names an axis, and what the mask can meet.
+abbrev pub asked : Action → Bool → Bool → List Rule → ℕ
+asked a list inside rules = orElse (firstMet (RANK unless list ∷ AXIS unless inside ∷ [])) (own (actionNumber a) rules)
+
+in-turn : (n : ℕ) (front rest : List Rule) → Own n (front ++ rest) → Own n rest → own n (front ++ rest) ≡ orElse (firstMet front) (own n rest)
+in-turn n front rest h k = own-first n (front ++ rest) h ∙ first-append front rest ∙ ap (orElse (firstMet front)) (sym (own-first n rest k))
+
+-- What is known where nothing of that is met.
+pub record Accepts (a : Action) (repeated inside : Bool) (l : List ℤ) (n : ℕ) : Type 0 where
+  pub has : inside ≡ true
+  pub fitting : maskFits a repeated l n ≡ true
+
+holds : (b : Bool) → (not b || false) ≡ false → b ≡ true
+holds b h = not-false b (neither (not b) false h .0)
 
 module _ (G K : ℤ) (L R : Operand) where
   abbrev l : List ℤ
@@ -40,6 +52,9 @@ module _ (G K : ℤ) (L R : Operand) where
   abbrev w : Array
   w = asVector (arrayOf R)
 
+  abbrev first : List Rule
+  first = RANK unless isList (arrayOf L) ∷ AXIS unless within (K -ℤ G) (rank w) ∷ []
+
   pub mask-names : (a : Action) → Names (actionNumber a) 2 G K L R (masking a G K (arrayOf L) (arrayOf R))
   unfolding primitives named eqZ masking compress expand precedence
   mask-names Compress = record { number = refl; arity = refl; meaning = refl; own = refl }
@@ -47,10 +62,16 @@ module _ (G K : ℤ) (L R : Operand) where
 
   -- What it asks, in turn, and what the result is.
   masking-own : (a : Action) → own (actionNumber a) (masking a G K (arrayOf L) (arrayOf R) .refusals)
-      ≡ inTurn (isList (arrayOf L)) (within (K -ℤ G) (rank w)) (maskTest a (repeats a (rank (arrayOf R))) l (axis w (fromZero G K)))
-  unfolding masking compress expand maskMeets maskFits
-  masking-own Compress = own-first 27 _ (mask-names Compress .own)
-  masking-own Expand = own-first 28 _ (mask-names Expand .own)
+      ≡ asked a (isList (arrayOf L)) (within (K -ℤ G) (rank w)) (maskRules a (repeats a (rank (arrayOf R))) l (axis w (fromZero G K)))
+  unfolding masking compress expand maskFits precedence winner meets
+  masking-own Compress = in-turn 27 first (drop 2 (masking Compress G K (arrayOf L) (arrayOf R) .refusals)) (mask-names Compress .own) refl
+  masking-own Expand = in-turn 28 first (drop 2 (masking Expand G K (arrayOf L) (arrayOf R) .refusals)) (mask-names Expand .own) refl
+
+  accepts : (a : Action) → own (actionNumber a) (masking a G K (arrayOf L) (arrayOf R) .refusals) ≡ 0
+      → Accepts a (repeats a (rank (arrayOf R))) (within (K -ℤ G) (rank w)) l (axis w (fromZero G K))
+  unfolding masking compress expand maskFits meets
+  accepts Compress h = record { has = holds _ (unmet 27 _ h AXIS); fitting = holds _ (unmet 27 _ h LENGTH) }
+  accepts Expand h = record { has = holds _ (unmet 28 _ h AXIS); fitting = holds _ (unmet 28 _ h LENGTH) }
 
   masking-lengths : (a : Action) → masking a G K (arrayOf L) (arrayOf R) .lengths
       ≡ set (w .lengths) (fromZero G K) (width a (maskOf a l (axis w (fromZero G K))))
@@ -66,32 +87,15 @@ module _ (G K : ℤ) (L R : Operand) where
 -- What it asks, by the shape s that R is read with.
 pub mask-own : (a : Action) (G K : ℤ) (L : Operand) (rs : Shape) {s : Shape} (b : List ℤ) → s ≡ vectorShape rs → length (rs .lens) ≡ maxRank
     → goodShape rs ≡ true → own (actionNumber a) (masking a G K (arrayOf L) (arrayOf (lent rs b)) .refusals)
-    ≡ inTurn (isList (arrayOf L)) (within (K -ℤ G) (s .rank)) (maskTest a (repeats a (rs .rank)) (arrayOf L .elements) (getD (counted s) (fromZero G K) 0))
+    ≡ asked a (isList (arrayOf L)) (within (K -ℤ G) (s .rank)) (maskRules a (repeats a (rs .rank)) (arrayOf L .elements) (getD (counted s) (fromZero G K) 0))
 mask-own a G K L rs {s} b read long good =
     let h : rank (arrayOf (lent rs b)) ≡ rs .rank = rank-of rs b long good in
     let k : ℕ = fromZero G K in
-    let test : ℕ → ℕ → ℕ = λ n m. maskTest a (repeats a n) (arrayOf L .elements) m in
+    let rules : ℕ → ℕ → List Rule = λ n m. maskRules a (repeats a n) (arrayOf L .elements) m in
     masking-own G K L (lent rs b) a
-    ∙ ap₂ (λ (w : Array) n. inTurn (isList (arrayOf L)) (within (K -ℤ G) (rank w)) (test n (axis w k))) (read-array rs read b h) h
-    ∙ ap (λ n. inTurn (isList (arrayOf L)) (within (K -ℤ G) n) (test (rs .rank) (getD (counted s) k 0)))
+    ∙ ap₂ (λ (w : Array) n. asked a (isList (arrayOf L)) (within (K -ℤ G) (rank w)) (rules n (axis w k))) (read-array rs read b h) h
+    ∙ ap (λ n. asked a (isList (arrayOf L)) (within (K -ℤ G) n) (rules (rs .rank) (getD (counted s) k 0)))
     (rank-of s b (read-long rs read long) (read-good rs read good))
-
--- What is known where it refuses nothing of its own.
-pub record Accepts (a : Action) (repeated inside : Bool) (l : List ℤ) (n : ℕ) : Type 0 where
-  pub has : inside ≡ true
-  pub fitting : maskFits a repeated l n ≡ true
-
-meets-none : (a : Action) (fitting bits : Bool) → maskMeets a fitting bits ≡ 0 → fitting ≡ true
-unfolding maskMeets
-meets-none a true bits h = refl
-meets-none Compress false bits h = absurd (omega arith)
-meets-none Expand false true h = absurd (omega arith)
-meets-none Expand false false h = absurd (omega arith)
-
-accepts : (a : Action) (list repeated inside : Bool) (l : List ℤ) (n : ℕ) → inTurn list inside (maskTest a repeated l n) ≡ 0 → Accepts a repeated inside l n
-accepts a false repeated inside l n h = absurd (omega arith)
-accepts a true repeated false l n h = absurd (omega arith)
-accepts a true repeated true l n h = record { has = refl; fitting = meets-none a _ (every isBit l) h }
 
 -- A mask that fits suits the axis with an element for each position.
 mask-suits : (a : Action) (l : List ℤ) (n : ℕ) → maskFits a false l n ≡ true → suits a (maskOf a l n) n ≡ true
@@ -148,7 +152,7 @@ module _ {a : Action} {G K : ℤ} {ls rs : Shape} {l r : List ℤ} {s : Shape} {
   known : Accepts a rep (within (K -ℤ G) (rank right)) mask (getD (counted s) axis 0)
   known =
       seen (λ l n w k. Accepts a (repeats a n) (within (K -ℤ G) (rank w)) l (getD (w .lengths) k 0))
-      (accepts a (isList (arrayOf left)) _ _ _ _ (sym (masking-own G K left (lent rs r) a) ∙ d .none))
+      (accepts G K left (lent rs r) a (d .none))
 
   pub known-has : axis < s .rank
   known-has = within-below _ _ _ _ (good .rank-is) (d .axis-is) (known .has)

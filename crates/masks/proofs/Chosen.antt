@@ -13,8 +13,8 @@ use Rattle.meaning.specs.Array.{tab}
 use Rattle.copying.specs.Runs.{copied}
 use Rattle.copying.proofs.Runs.{tab-is}
 use Rattle.masks.specs.Steps.Rows.{rowed}
-use Rattle.masks.proofs.Filling.{put-row}
-use Rattle.masks.proofs.Written.{Written, written-none, written-whole, written-room, written-more}
+use Rattle.masks.proofs.Filling.{row-from, rows-more}
+use Rattle.masks.proofs.Written.{Written, written-none, written-whole, written-room, run-next}
 
 abbrev pub chosen : (ℕ → ℕ) → ℕ → List ℤ → ℕ → ℤ
 chosen φ c r = rowed (λ i. true) φ c r
@@ -26,7 +26,7 @@ pub record Chosen (φ : ℕ → ℕ) (r : List ℤ) (m c : ℕ) (out₀ out : Li
 pub chosen-none : (φ : ℕ → ℕ) (r : List ℤ) (m c : ℕ) (out₀ : List ℤ) → Chosen φ r m c out₀ out₀ 0 0
 chosen-none φ r m c out₀ = record { within = omega arith; written = written-none (chosen φ c r) c out₀ }
 
-module _ (φ : ℕ → ℕ) (r : List ℤ) (m c : ℕ) {out₀ out : List ℤ} {to i : ℕ} (k : Chosen φ r m c out₀ out to i) (room : length out₀ ≡ m * c) where
+module _ {φ : ℕ → ℕ} {r : List ℤ} {m c : ℕ} {out₀ out : List ℤ} {to i : ℕ} (k : Chosen φ r m c out₀ out to i) (room : length out₀ ≡ m * c) where
   pub chosen-all : m ≤ i → out ≡ tab (m * c) (chosen φ c r)
   chosen-all h = written-whole (k .written) m (omega (arith, k .within)) room
 
@@ -40,8 +40,7 @@ module _ (φ : ℕ → ℕ) (r : List ℤ) (m c : ℕ) {out₀ out : List ℤ} {
     chosen-row from at inside last w = record {
       within = omega arith;
       written =
-          written-more (k .written) chosen-room
-          (put-row (λ j. true) φ c r i out out₀ last to (k .written .at) (k .written .filling) chosen-room (φ i) from refl refl at inside w);
+          rows-more (λ j. true) φ c r (run-next (k .written) chosen-room) (row-from refl refl at inside) last w;
     }
 
 -- One row, repeated. Where it is one element.
@@ -54,9 +53,9 @@ repeated-one r m c out₀ x e room w =
     ∙ ap (λ k. getD r (0 + k) (pos 0)) (mod-one j)
     ∙ sym w ∙ sym (getD-replicate (length out₀) j x x (omega arith)))
 
-pub repeated-row : (r : List ℤ) (m c : ℕ) {out₀ out : List ℤ} {to i : ℕ} (k : Chosen (λ j. 0) r m c out₀ out to i) → length out₀ ≡ m * c → i < m → length r ≡ c
+pub repeated-row : {r : List ℤ} {m c : ℕ} {out₀ out : List ℤ} {to i : ℕ} (k : Chosen (λ j. 0) r m c out₀ out to i) → length out₀ ≡ m * c → i < m → length r ≡ c
     → (last : List ℤ) → last ≡ copied r (take (to + c - to) (drop to out))
     → Chosen (λ j. 0) r m c out₀ (putMid to (to + c - to) out last) (to + c) (i + 1)
-repeated-row r m c {out = out} {to = to} k room h s last w =
+repeated-row {r} {m} {c} {out = out} {to = to} k room h s last w =
     let whole : take (0 + c - 0) r ≡ r = take-all (0 + c - 0) r (omega arith) in
-    chosen-row (λ j. 0) r m c k room h 0 (sym (zero-mul c)) (omega arith) last (w ∙ ap (λ x. copied x (take (to + c - to) (drop to out))) (sym whole))
+    chosen-row k room h 0 (sym (zero-mul c)) (omega arith) last (w ∙ ap (λ x. copied x (take (to + c - to) (drop to out))) (sym whole))

@@ -1,83 +1,69 @@
 -- Rows written after the rows before them.
-use mathlib.Core.Path.{_≡_, refl, sym, ap, _∙_}
+use mathlib.Core.Path.{_≡_, sym, ap, _∙_}
 use mathlib.Core.List.{List}
-use mathlib.Core.Bool.{Bool, true, false}
+use mathlib.Core.Bool.{Bool, true, false, cond}
 use Prim.Native.Nat.{ℕ, _+_, _*_, _-_, _/_, _%_, _≤_, _<_}
-use native.Mathlib.Nat.{mod-lt, div-add-mod'}
+use native.Mathlib.Nat.{add-zero, mul-one, div-one, mod-one, mod-lt, div-add-mod'}
 use native.Mathlib.Omega.{arith}
-use lib.ListN.{length, getD, take, drop, set, replicate}
+use lib.ListN.{length, getD, take, drop, replicate}
 use lib.Arith.{digits-div, digits-mod}
 use lib.IntN.{ℤ, pos}
 use borrow.Rule.Slice.PartMut.{putMid}
 use Rattle.shape.proofs.Places.{row-in}
 use Rattle.copying.specs.Runs.{copied}
-use Rattle.copying.proofs.Runs.{filled-one, put-copied, put-filled}
-use Rattle.copying.specs.Steps.{filled}
+use Rattle.copying.proofs.Runs.{put-copied, put-filled}
 use Rattle.masks.specs.Steps.Rows.{rowed}
+use Rattle.masks.proofs.Written.{Written, MoreRuns, written-run}
 
-module _ (t : ℕ → Bool) (φ : ℕ → ℕ) (c : ℕ) (r : List ℤ) (q : ℕ) where
-  pub row-at : (p x : ℕ) → t q ≡ true → φ q ≡ p → x < c → rowed t φ c r (q * c + x) ≡ getD r (p * c + x) (pos 0)
-  row-at p x e f h = rw (digits-div q h, digits-mod q h, e, f)
-
-  pub row-zero : (x : ℕ) → t q ≡ false → x < c → rowed t φ c r (q * c + x) ≡ pos 0
-  row-zero x e h = rw (digits-div q h, e)
-
-  -- Row q is row p of r.
-  pub put-row : (out out₀ last : List ℤ) (to : ℕ) → to ≡ q * c → out ≡ filled (rowed t φ c r) to out₀ → to + c ≤ length out₀
-      → (p from : ℕ) → t q ≡ true → φ q ≡ p → from ≡ p * c → from + c ≤ length r
-      → last ≡ copied (take (from + c - from) (drop from r)) (take (to + c - to) (drop to out))
-      → putMid to (to + c - to) out last ≡ filled (rowed t φ c r) (to + c) out₀
-  put-row out out₀ last to at o room p from e f at′ inside w =
-      put-copied (rowed t φ c r) to c (to + c) out out₀ last o refl room r from (from + c) (pos 0) refl inside
-      (λ x l. rw (at, at′) (row-at p x e f l)) w
-
--- n rows from row q on.
-module _ (t : ℕ → Bool) (φ : ℕ → ℕ) (c : ℕ) (r : List ℤ) (q n : ℕ) where
-  rows-at : (p x : ℕ) → ((j : ℕ) → j < n → t (q + j) ≡ true) → ((j : ℕ) → j < n → φ (q + j) ≡ p + j) → x < n * c
-      → rowed t φ c r (q * c + x) ≡ getD r (p * c + x) (pos 0)
-  rows-at p x e f h =
-      let row = row-in n c x h in
-      let here : q * c + x ≡ (q + x / c) * c + x % c = omega (arith, div-add-mod' x c) in
-      let there : (p + x / c) * c + x % c ≡ p * c + x = omega (arith, div-add-mod' x c) in
-      ap (rowed t φ c r) here
-      ∙ row-at t φ c r (q + x / c) (p + x / c) (x % c) (e (x / c) (row .1)) (f (x / c) (row .1)) (mod-lt x (row .0))
-      ∙ ap (λ y. getD r y (pos 0)) there
-
-  rows-zero : (x : ℕ) → ((j : ℕ) → j < n → t (q + j) ≡ false) → x < n * c → rowed t φ c r (q * c + x) ≡ pos 0
-  rows-zero x e h =
-      let row = row-in n c x h in
-      let here : q * c + x ≡ (q + x / c) * c + x % c = omega (arith, div-add-mod' x c) in
-      ap (rowed t φ c r) here ∙ row-zero t φ c r (q + x / c) (x % c) (e (x / c) (row .1)) (mod-lt x (row .0))
-
-  module _ (out out₀ last : List ℤ) (to e : ℕ) (at : to ≡ q * c) (o : out ≡ filled (rowed t φ c r) to out₀) (end : e ≡ to + n * c)
-      (room : e ≤ length out₀) where
-    -- They are rows of r from row p on.
-    pub put-rows : (p from stop : ℕ) → ((j : ℕ) → j < n → t (q + j) ≡ true) → ((j : ℕ) → j < n → φ (q + j) ≡ p + j)
-        → from ≡ p * c → stop ≡ from + n * c → stop ≤ length r
-        → last ≡ copied (take (stop - from) (drop from r)) (take (e - to) (drop to out))
-        → putMid to (e - to) out last ≡ filled (rowed t φ c r) (to + n * c) out₀
-    put-rows p from stop g f at′ ends inside w =
-        put-copied (rowed t φ c r) to (n * c) e out out₀ last o end room r from stop (pos 0) ends inside (λ x l. rw (at, at′) (rows-at p x g f l)) w
-
-    -- They are zeros.
-    pub put-zeros : ((j : ℕ) → j < n → t (q + j) ≡ false) → last ≡ replicate (length (take (e - to) (drop to out))) (pos 0)
-        → putMid to (e - to) out last ≡ filled (rowed t φ c r) (to + n * c) out₀
-    put-zeros g w = put-filled (rowed t φ c r) to (n * c) e out out₀ last o end room (pos 0) (λ x l. rw at (rows-zero x g l)) w
-
--- The same where a row is one element.
+-- Where a row is one element.
 module _ (t : ℕ → Bool) (φ : ℕ → ℕ) (r : List ℤ) (q : ℕ) where
   pub one-is : (p : ℕ) → t q ≡ true → φ q ≡ p → rowed t φ 1 r q ≡ getD r p (pos 0)
-  one-is p e f =
-      ap (rowed t φ 1 r) (let h : q ≡ q * 1 + 0 = omega arith in h)
-      ∙ row-at t φ 1 r q p 0 e f (omega arith)
-      ∙ ap (λ x. getD r x (pos 0)) (let h : p * 1 + 0 ≡ p = omega arith in h)
+  one-is p e f = rw (div-one q, mod-one q, e, f, mul-one p, add-zero p)
 
-  one-zero : t q ≡ false → rowed t φ 1 r q ≡ pos 0
-  one-zero e = ap (rowed t φ 1 r) (let h : q ≡ q * 1 + 0 = omega arith in h) ∙ row-zero t φ 1 r q 0 e (omega arith)
+  pub one-zero : t q ≡ false → rowed t φ 1 r q ≡ pos 0
+  one-zero e = rw (div-one q, e)
 
-  module _ (out out₀ : List ℤ) (o : out ≡ filled (rowed t φ 1 r) q out₀) (room : q < length out₀) (v : ℤ) where
-    pub put-one : (p : ℕ) → t q ≡ true → φ q ≡ p → v ≡ getD r p (pos 0) → set out q v ≡ filled (rowed t φ 1 r) (q + 1) out₀
-    put-one p e f w = ap (λ x. set x q v) o ∙ filled-one (rowed t φ 1 r) (pos 0) v q out₀ room (w ∙ sym (one-is p e f))
+-- The n rows from row q on are those of r from row p on: its part from .. stop.
+pub record RowsFrom (t : ℕ → Bool) (φ : ℕ → ℕ) (c : ℕ) (r : List ℤ) (q n p from stop : ℕ) : Type 0 where
+  pub takes : (j : ℕ) → j < n → t (q + j) ≡ true
+  pub rows : (j : ℕ) → j < n → φ (q + j) ≡ p + j
+  pub at : from ≡ p * c
+  pub ends : stop ≡ from + n * c
+  pub inside : stop ≤ length r
 
-    pub put-zero : t q ≡ false → v ≡ pos 0 → set out q v ≡ filled (rowed t φ 1 r) (q + 1) out₀
-    put-zero e w = ap (λ x. set x q v) o ∙ filled-one (rowed t φ 1 r) (pos 0) v q out₀ room (w ∙ sym (one-zero e))
+pub row-from : {t : ℕ → Bool} {φ : ℕ → ℕ} {c : ℕ} {r : List ℤ} {q p from : ℕ} → t q ≡ true → φ q ≡ p → from ≡ p * c → from + c ≤ length r
+    → RowsFrom t φ c r q 1 p from (from + c)
+row-from {t} {φ} {q = q} {p = p} e f at inside =
+    record { takes = λ j h. ap t (same q j h) ∙ e; rows = λ j h. ap φ (same q j h) ∙ f ∙ sym (same p j h); at = at; ends = omega arith; inside = inside }
+  where
+    same : (x j : ℕ) → j < 1 → x + j ≡ x
+    same x j h = omega arith
+
+-- They are written after the q rows before them.
+module _ (t : ℕ → Bool) (φ : ℕ → ℕ) (c : ℕ) (r : List ℤ) {out₀ out : List ℤ} {to q n e q′ : ℕ} (d : MoreRuns (rowed t φ c r) c out₀ out to q n e q′) where
+  -- Element x of them, by its row.
+  element : (x : ℕ) → x < n * c → rowed t φ c r (to + x) ≡ cond (t (q + x / c)) (getD r (φ (q + x / c) * c + x % c) (pos 0)) (pos 0)
+  element x h =
+      let in-row : to + x ≡ (q + x / c) * c + x % c = omega (arith, d .written .at, div-add-mod' x c) in
+      let low = mod-lt x (row-in n c x h .0) in
+      ap (rowed t φ c r) in-row ∙ rw (digits-div (q + x / c) low, digits-mod (q + x / c) low)
+
+  -- They are rows of r.
+  pub rows-more : {p from stop : ℕ} → RowsFrom t φ c r q n p from stop → (last : List ℤ)
+      → last ≡ copied (take (stop - from) (drop from r)) (take (e - to) (drop to out)) → Written (rowed t φ c r) c out₀ (putMid to (e - to) out last) e q′
+  rows-more {p} {from} {stop} s last v =
+      written-run d
+      (put-copied _ to (n * c) e out out₀ last (d .written .filling) (d .end) (d .room) r from stop (pos 0) (s .ends) (s .inside) alike v)
+    where
+      alike : (x : ℕ) → x < n * c → rowed t φ c r (to + x) ≡ getD r (from + x) (pos 0)
+      alike x h =
+          let row = row-in n c x h .1 in
+          let there : (p + x / c) * c + x % c ≡ from + x = omega (arith, s .at, div-add-mod' x c) in
+          element x h ∙ rw (s .takes (x / c) row, s .rows (x / c) row, there)
+
+  -- They are zeros.
+  pub zeros-more : ((j : ℕ) → j < n → t (q + j) ≡ false) → (last : List ℤ) → last ≡ replicate (length (take (e - to) (drop to out))) (pos 0)
+      → Written (rowed t φ c r) c out₀ (putMid to (e - to) out last) e q′
+  zeros-more z last v =
+      written-run d
+      (put-filled _ to (n * c) e out out₀ last (d .written .filling) (d .end) (d .room) (pos 0) (λ x h. element x h ∙ rw (z (x / c) (row-in n c x h .1))) v)

@@ -18,9 +18,9 @@ use Rattle.copying.specs.Steps.{filled}
 use Rattle.masks.specs.Steps.Actions.{oneAt}
 use Rattle.masks.specs.Steps.Rows.{keptRows, Stretch}
 use Rattle.masks.proofs.Ones.{before, before-none, before-few, before-all, before-most, before-one, before-other, one-at}
-use Rattle.masks.proofs.Filling.{put-rows, one-is}
+use Rattle.masks.proofs.Filling.{one-is, RowsFrom, rows-more}
 use Rattle.masks.proofs.Stretches.{ones-add, ones-pass, others-pass, rows-size}
-use Rattle.masks.proofs.Written.{Written, written-none, written-run}
+use Rattle.masks.proofs.Written.{Written, written-none, MoreRuns}
 
 pub record Kept (l r : List ℤ) (c : ℕ) (out₀ out : List ℤ) (to i : ℕ) : Type 0 where
   pub within : i ≤ length l
@@ -65,23 +65,27 @@ module _ {l r : List ℤ} {c : ℕ} {out₀ out : List ℤ} {to i : ℕ} (k : Ke
         let here : before next l * c ≡ (before i l + (next - first)) * c = ap (λ x. x * c) passed in
         omega (arith, k .written .at, size, most, here)
 
+    more : MoreRuns (keptRows (ones l) c r) c out₀ out to (before i l) (next - first) (to + (next * c - first * c)) (before next l)
+    more = record { written = k .written; end = ap (λ x. to + x) size; room = run-room; all = passed }
+
+    ones-from : next * c ≤ length r → RowsFrom (λ j. true) (λ j. getD (ones l) j 0) c r (before i l) (next - first) first (first * c) (next * c)
+    ones-from inside = record {
+      takes = λ j h. refl;
+      rows = λ j h.
+          ap (λ x. getD (ones l) x 0) (sym (ones-add b j (omega arith) ∙ ap (λ x. x + j) (others-pass a)))
+          ∙ one-at l (first + j) (omega (arith, b .within)) (b .alike (first + j) (omega arith) (omega arith));
+      at = refl;
+      ends = omega (arith, size, mul-le-mul-right {m = first} {n = next} c (b .starts));
+      inside = inside;
+    }
+
     pub kept-run : next * c ≤ length r → (last : List ℤ)
         → last ≡ copied (take (next * c - first * c) (drop (first * c) r)) (take (to + (next * c - first * c) - to) (drop to out))
         → Kept l r c out₀ (putMid to (to + (next * c - first * c) - to) out last) (to + (next * c - first * c)) next
     kept-run inside last w =
-        let end : to + (next * c - first * c) ≡ to + (next - first) * c = ap (λ x. to + x) size in
         record {
           within = b .within;
-          written =
-              rw passed
-              (written-run (k .written) _ (next - first) (to + (next * c - first * c)) end run-room
-              (put-rows (λ j. true) (λ j. getD (ones l) j 0) c r (before i l) (next - first) out out₀ last to _ (k .written .at)
-              (k .written .filling) end run-room first (first * c) (next * c)
-              (λ j h. refl)
-              (λ j h.
-              ap (λ x. getD (ones l) x 0) (sym (ones-add b j (omega arith) ∙ ap (λ x. x + j) (others-pass a)))
-              ∙ one-at l (first + j) (omega (arith, b .within)) (b .alike (first + j) (omega arith) (omega arith)))
-              refl (omega (arith, size, mul-le-mul-right {m = first} {n = next} c (b .starts))) inside w));
+          written = rows-more (λ j. true) (λ j. getD (ones l) j 0) c r more (ones-from inside) last w;
         }
 
 -- Every element is written, and the next over it if its position is no one: the place after those at ones may hold anything.

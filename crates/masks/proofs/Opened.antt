@@ -1,7 +1,7 @@
 -- The loop of expand over the mask of a block: the positions that were passed are filled.
-use mathlib.Core.Path.{_≡_, refl, sym, ap, _∙_, subst}
+use mathlib.Core.Path.{_≡_, sym, ap, _∙_}
 use mathlib.Core.List.{List}
-use mathlib.Core.Bool.{true, false}
+use mathlib.Core.Bool.{Bool, true, false}
 use Prim.Native.Nat.{ℕ, _+_, _*_, _-_, _≤_, _<_}
 use native.Mathlib.Nat.{mul-le-mul-right, zero-mul}
 use native.Mathlib.Omega.{arith}
@@ -11,13 +11,12 @@ use borrow.Rule.Slice.PartMut.{putMid}
 use Rattle.meaning.specs.Array.{tab}
 use Rattle.meaning.specs.Terms.{onesFrom, ones}
 use Rattle.copying.specs.Runs.{copied}
-use Rattle.copying.specs.Steps.{filled}
 use Rattle.masks.specs.Steps.Actions.{oneAt}
 use Rattle.masks.specs.Steps.Rows.{openedRows, Stretch}
 use Rattle.masks.proofs.Ones.{before, before-most, before-one, before-other, one-below}
 use Rattle.masks.proofs.Stretches.{ones-add, ones-pass, others-pass, rows-size}
-use Rattle.masks.proofs.Filling.{put-rows, put-zeros, put-one, put-zero}
-use Rattle.masks.proofs.Written.{run-inside, Written, written-none, written-whole, written-room, written-more, written-run}
+use Rattle.masks.proofs.Filling.{one-is, one-zero, RowsFrom, rows-more, zeros-more}
+use Rattle.masks.proofs.Written.{run-inside, Written, written-none, written-whole, written-room, written-one, MoreRuns}
 
 pub record Opened (l r : List ℤ) (c : ℕ) (out₀ out : List ℤ) (from to i : ℕ) : Type 0 where
   pub within : i ≤ length l
@@ -37,29 +36,25 @@ module _ {l r : List ℤ} {c : ℕ} {out₀ out : List ℤ} {from to i : ℕ} (k
     opened-room = written-room (k .written) (length l) h (omega arith)
 
     -- One row more, of r or of zeros.
-    pub opened-next : oneAt l i ≡ true → (next : List ℤ) → next ≡ filled (openedRows l c r) (to + c) out₀ → Opened l r c out₀ next (from + c) (to + c) (i + 1)
-    opened-next e next f =
-        record { within = omega arith; source = rw (before-one l i h e) (omega (arith, k .source)); written = written-more (k .written) opened-room f }
+    module _ {next : List ℤ} (w : Written (openedRows l c r) c out₀ next (to + c) (i + 1)) where
+      pub opened-next : oneAt l i ≡ true → Opened l r c out₀ next (from + c) (to + c) (i + 1)
+      opened-next e = record { within = omega arith; source = rw (before-one l i h e) (omega (arith, k .source)); written = w }
 
-    opened-past : oneAt l i ≡ false → (next : List ℤ) → next ≡ filled (openedRows l c r) (to + c) out₀ → Opened l r c out₀ next from (to + c) (i + 1)
-    opened-past e next f = record { within = omega arith; source = rw (before-other l i h e) (k .source); written = written-more (k .written) opened-room f }
+      opened-past : oneAt l i ≡ false → Opened l r c out₀ next from (to + c) (i + 1)
+      opened-past e = record { within = omega arith; source = rw (before-other l i h e) (k .source); written = w }
 
     pub opened-inside : oneAt l i ≡ true → length r ≡ length (ones l) * c → from + c ≤ length r
     opened-inside e all = run-inside c from (before i l) (length (ones l)) (length r) (k .source) (one-below l i h e) (omega arith)
 
 -- A stretch of positions: rows of zeros, or rows of r.
 module _ {l r : List ℤ} {c : ℕ} {out₀ out : List ℤ} {from i e : ℕ} (k : Opened l r c out₀ out from (i * c) i) (room : length out₀ ≡ length l * c) where
-  rows-end : i ≤ e → e * c ≡ i * c + (e - i) * c
-  rows-end h = omega (arith, rows-size i e c h, mul-le-mul-right {m = i} {n = e} c h)
-
-  rows-room : e ≤ length l → e * c ≤ length out₀
-  rows-room h = omega (arith, mul-le-mul-right {m = e} {n = length l} c h)
-
-  rows-more : {next : List ℤ} → i ≤ e → e ≤ length l → next ≡ filled (openedRows l c r) (i * c + (e - i) * c) out₀
-      → Written (openedRows l c r) c out₀ next (e * c) e
-  rows-more {next = next} h h′ f =
-      let all : i + (e - i) ≡ e = omega arith in
-      subst (λ x. Written (openedRows l c r) c out₀ next (e * c) x) all (written-run (k .written) next (e - i) (e * c) (rows-end h) (rows-room h′) f)
+  more : {b : Bool} → Stretch b l i e → MoreRuns (openedRows l c r) c out₀ out (i * c) i (e - i) (e * c) e
+  more s = record {
+    written = k .written;
+    end = omega (arith, rows-size i e c (s .starts), mul-le-mul-right {m = i} {n = e} c (s .starts));
+    room = omega (arith, mul-le-mul-right {m = e} {n = length l} c (s .within));
+    all = omega (arith, s .starts);
+  }
 
   pub opened-gap : Stretch false l i e → (last : List ℤ) → last ≡ replicate (length (take (e * c - i * c) (drop (i * c) out))) (pos 0)
       → Opened l r c out₀ (putMid (i * c) (e * c - i * c) out last) from (e * c) e
@@ -67,11 +62,18 @@ module _ {l r : List ℤ} {c : ℕ} {out₀ out : List ℤ} {from i e : ℕ} (k 
       record {
         within = s .within;
         source = k .source ∙ ap (λ x. x * c) (sym (others-pass s));
-        written =
-            rows-more (s .starts) (s .within)
-            (put-zeros (oneAt l) (λ j. before j l) c r i (e - i) out out₀ last (i * c) (e * c) refl (k .written .filling) (rows-end (s .starts))
-            (rows-room (s .within)) (λ j h. s .alike (i + j) (omega arith) (omega arith)) w);
+        written = zeros-more (oneAt l) (λ j. before j l) c r (more s) (λ j h. s .alike (i + j) (omega arith) (omega arith)) last w;
       }
+
+  ones-from : Stretch true l i e → from + (e * c - i * c) ≤ length r
+      → RowsFrom (oneAt l) (λ j. before j l) c r i (e - i) (before i l) from (from + (e * c - i * c))
+  ones-from s inside = record {
+    takes = λ j h. s .alike (i + j) (omega arith) (omega arith);
+    rows = λ j h. ones-add s j (omega arith);
+    at = k .source;
+    ends = ap (λ x. from + x) (rows-size i e c (s .starts));
+    inside = inside;
+  }
 
   pub opened-run : Stretch true l i e → from + (e * c - i * c) ≤ length r → (last : List ℤ)
       → last ≡ copied (take (from + (e * c - i * c) - from) (drop from r)) (take (e * c - i * c) (drop (i * c) out))
@@ -80,11 +82,7 @@ module _ {l r : List ℤ} {c : ℕ} {out₀ out : List ℤ} {from i e : ℕ} (k 
       record {
         within = s .within;
         source = rw (ones-pass s, rows-size i e c (s .starts)) (omega (arith, k .source));
-        written =
-            rows-more (s .starts) (s .within)
-            (put-rows (oneAt l) (λ j. before j l) c r i (e - i) out out₀ last (i * c) (e * c) refl (k .written .filling) (rows-end (s .starts))
-            (rows-room (s .within)) (before i l) from (from + (e * c - i * c)) (λ j h. s .alike (i + j) (omega arith) (omega arith))
-            (λ j h. ones-add s j (omega arith)) (k .source) (ap (λ x. from + x) (rows-size i e c (s .starts))) inside w);
+        written = rows-more (oneAt l) (λ j. before j l) c r (more s) (ones-from s inside) last w;
       }
 
 -- The rows of r for a stretch of ones after a gap.
@@ -99,7 +97,9 @@ opened-rows {l = l} {c = c} {i = i} {first = first} {next = next} k a b all =
 module _ {l r out₀ out : List ℤ} {from i : ℕ} (k : Opened l r 1 out₀ out from i i) (room : length out₀ ≡ length l * 1) (h : i < length l) (v : ℤ) where
   pub opened-one : oneAt l i ≡ true → v ≡ getD r from (pos 0) → Opened l r 1 out₀ (set out i v) (from + 1) (i + 1) (i + 1)
   opened-one e w =
-      opened-next k room h e _ (put-one (oneAt l) (λ j. before j l) r i out out₀ (k .written .filling) (omega arith) v from e (omega (arith, k .source)) w)
+      let here = one-is (oneAt l) (λ j. before j l) r i from e (omega (arith, k .source)) in
+      opened-next k room h (written-one (k .written) (omega arith) v (w ∙ sym here)) e
 
   pub opened-zero : oneAt l i ≡ false → v ≡ pos 0 → Opened l r 1 out₀ (set out i v) from (i + 1) (i + 1)
-  opened-zero e w = opened-past k room h e _ (put-zero (oneAt l) (λ j. before j l) r i out out₀ (k .written .filling) (omega arith) v e w)
+  opened-zero e w =
+      opened-past k room h (written-one (k .written) (omega arith) v (w ∙ sym (one-zero (oneAt l) (λ j. before j l) r i e))) e

@@ -21,37 +21,37 @@ use Rattle.masks.proofs.Actions.{taken-lt}
 use Rattle.masks.proofs.Written.{run-inside, Written, written-none, written-front, written-rest, written-room, written-more}
 
 -- The loop over the blocks: those that were passed stand in front.
-pub record Passed (a : Action) (l r : List ℤ) (outer n m c : ℕ) (out₀ out : List ℤ) (from to o : ℕ) : Type 0 where
+pub record BlocksPlaced (a : Action) (l r : List ℤ) (outer n m c : ℕ) (out₀ out : List ℤ) (from to o : ℕ) : Type 0 where
   pub within : o ≤ outer
   pub source-at : from ≡ o * (n * c)
   pub written : Written (placed a l n m c r) (m * c) out₀ out to o
 
-pub passed-none : (a : Action) (l r : List ℤ) (outer n m c : ℕ) (out₀ : List ℤ) → Passed a l r outer n m c out₀ out₀ 0 0 0
-passed-none a l r outer n m c out₀ = record { within = omega arith; source-at = sym (zero-mul (n * c)); written = written-none _ (m * c) out₀ }
+pub placed-none : (a : Action) (l r : List ℤ) (outer n m c : ℕ) (out₀ : List ℤ) → BlocksPlaced a l r outer n m c out₀ out₀ 0 0 0
+placed-none a l r outer n m c out₀ = record { within = omega arith; source-at = sym (zero-mul (n * c)); written = written-none _ (m * c) out₀ }
 
-module _ {a : Action} {l r : List ℤ} {outer n m c : ℕ} {out₀ out : List ℤ} {from to o : ℕ} (k : Passed a l r outer n m c out₀ out from to o) where
-  pub passed-all : outer ≤ o → out ≡ placedIn a l outer n m c r out₀
-  passed-all h = written-front (k .written) outer (omega (arith, k .within))
+module _ {a : Action} {l r : List ℤ} {outer n m c : ℕ} {out₀ out : List ℤ} {from to o : ℕ} (k : BlocksPlaced a l r outer n m c out₀ out from to o) where
+  pub placed-all : outer ≤ o → out ≡ placedIn a l outer n m c r out₀
+  placed-all h = written-front (k .written) outer (omega (arith, k .within))
 
   module _ (b : InBlocks a l outer n m c (length r) (length out₀)) (h : o < outer) where
-    pub passed-inside : from + n * c ≤ length r
-    passed-inside = run-inside (n * c) from o outer (length r) (k .source-at) h (b .source)
+    pub placed-inside : from + n * c ≤ length r
+    placed-inside = run-inside (n * c) from o outer (length r) (k .source-at) h (b .source)
 
-    pub passed-room : to + m * c ≤ length out₀
-    passed-room = written-room (k .written) outer h (b .room)
+    pub placed-room : to + m * c ≤ length out₀
+    placed-room = written-room (k .written) outer h (b .room)
 
-    pub passed-block : Block a l n m c (length (take (from + n * c - from) (drop from r))) (length (take (to + m * c - to) (drop to out)))
-    passed-block = record {
+    pub placed-block : Block a l n m c (length (take (from + n * c - from) (drop from r))) (length (take (to + m * c - to) (drop to out)))
+    placed-block = record {
       fitting = b .fitting;
       wide = b .wide;
-      source = part-long r from (n * c) passed-inside;
-      room = part-room out to (m * c) (length out₀) (k .written .long) passed-room;
+      source = part-long r from (n * c) placed-inside;
+      room = part-room out to (m * c) (length out₀) (k .written .long) placed-room;
     }
 
-    pub passed-notes : {at : List ℕ} → ByNotes a l at n c (outer * (m * c)) out₀
+    pub placed-notes : {at : List ℕ} → ByNotes a l at n c (outer * (m * c)) out₀
         → let part = take (to + m * c - to) (drop to out) in ByNotes a l at n c (length part) part
-    passed-notes by =
-        let long = part-room out to (m * c) (length out₀) (k .written .long) passed-room in
+    placed-notes by =
+        let long = part-room out to (m * c) (length out₀) (k .written .long) placed-room in
         let below = run-inside (m * c) to o outer (outer * (m * c)) (k .written .at) h (omega arith) in
         record {
           short = by .short;
@@ -63,13 +63,13 @@ module _ {a : Action} {l r : List ℤ} {outer n m c : ℕ} {out₀ out : List �
               ∙ by .blank e s (to + j) (omega arith);
         }
 
-    pub passed-more : (last : List ℤ) → last ≡ tab (m * c) (rowsOf a l n c (take (from + n * c - from) (drop from r)))
-        → Passed a l r outer n m c out₀ (putMid to (to + m * c - to) out last) (from + n * c) (to + m * c) (o + 1)
-    passed-more last w = record {
+    pub placed-more : (last : List ℤ) → last ≡ tab (m * c) (rowsOf a l n c (take (from + n * c - from) (drop from r)))
+        → BlocksPlaced a l r outer n m c out₀ (putMid to (to + m * c - to) out last) (from + n * c) (to + m * c) (o + 1)
+    placed-more last w = record {
       within = omega arith;
       source-at = omega (arith, k .source-at);
       written =
-          written-more (k .written) passed-room
+          written-more (k .written) placed-room
           (put-block (takesAt a l) (taken a l n) n m c r o (λ i q. taken-lt a l n i (b .fitting) (omega (arith, b .wide))) out out₀ last from to
           (k .written .filling) (k .written .at) (k .source-at) w);
     }
@@ -83,17 +83,17 @@ module _ {a : Action} {l : List ℤ} {outer n m c from to : ℕ} (b : InBlocks a
 
 -- A block alone.
 module _ {a : Action} {l : List ℤ} {outer n m c : ℕ} (r out : List ℤ) (b : InBlocks a l outer n m c (length r) (length out)) where
-  none : Passed a l r outer n m c out out 0 0 0
-  none = passed-none a l r outer n m c out
+  none : BlocksPlaced a l r outer n m c out out 0 0 0
+  none = placed-none a l r outer n m c out
 
   pub alone : Block a l n m c (length (take (n * c - 0) r)) (length (take (m * c - 0) out))
-  alone = rw (zero-add (n * c), zero-add (m * c)) at (passed-block none b (b .some))
+  alone = rw (zero-add (n * c), zero-add (m * c)) at (placed-block none b (b .some))
 
   pub alone-placed : outer ≡ 1 → (last : List ℤ) → last ≡ tab (m * c) (rowsOf a l n c (take (n * c - 0) r))
       → putMid 0 (m * c - 0) out last ≡ placedIn a l outer n m c r out
   alone-placed e last w =
-      let one = rw (zero-add (n * c), zero-add (m * c)) at (passed-more none b (b .some) last) in
-      passed-all (one w) (omega arith)
+      let one = rw (zero-add (n * c), zero-add (m * c)) at (placed-more none b (b .some) last) in
+      placed-all (one w) (omega arith)
 
 -- Blocks that are called with what they are: the action x, and rows of d elements.
 module _ {a x : Action} {c d : ℕ} (u : a ≡ x) (s : c ≡ d) where

@@ -14,13 +14,12 @@ use Rattle.meaning.specs.Array.{tab}
 use Rattle.meaning.specs.Terms.{ones}
 use Rattle.meaning.proofs.Tab.{getD-part}
 use Rattle.copying.specs.Runs.{copied}
-use Rattle.copying.specs.Steps.{filled}
 use Rattle.masks.specs.Steps.Actions.{oneAt}
 use Rattle.masks.specs.Steps.Rows.{openedRows, Zeros, Stretch}
 use Rattle.masks.proofs.Ones.{before, before-none, before-all, before-one, ones-le, one-at, one-below}
 use Rattle.masks.proofs.Stretches.{others-pass}
-use Rattle.masks.proofs.Written.{written-rest}
-use Rattle.masks.proofs.Filling.{put-row, put-one}
+use Rattle.masks.proofs.Written.{Written, written-rest, written-one, run-next}
+use Rattle.masks.proofs.Filling.{one-is, row-from, rows-more}
 use Rattle.masks.proofs.Opened.{Opened, opened-none, opened-all, opened-room, opened-next, opened-inside, opened-gap}
 
 -- One position more in front of a stretch of others.
@@ -148,18 +147,18 @@ module _ {l r : List ℤ} {c : ℕ} {zeros out : List ℤ} {from q : ℕ} (s : S
         row-room = omega (arith, row-zeros, s .front .written .long)
 
         -- The row is written there.
-        scattered-next : (more : List ℤ) → more ≡ filled (openedRows l c r) (p * c + c) zeros → Scattered l r c zeros more (from + c) (q + 1)
-        scattered-next more f =
+        scattered-next : {more : List ℤ} → Written (openedRows l c r) c zeros more (p * c + c) (p + 1) → Scattered l r c zeros more (from + c) (q + 1)
+        scattered-next w =
             let end : p * c + c ≡ (p + 1) * c = omega arith in
-            scattered-on (p + 1) (rw end at (opened-next here room one-in one-here more f))
+            scattered-on (p + 1) (rw end at (opened-next here room one-in w one-here))
             (before-one l p one-in one-here ∙ ap (λ x. x + 1) count-here) (s .blank)
 
         pub scattered-row : (last : List ℤ) → last ≡ copied (take (from + c - from) (drop from r)) (take (p * c + c - p * c) (drop (p * c) out))
             → Scattered l r c zeros (putMid (p * c) (p * c + c - p * c) out last) (from + c) (q + 1)
         scattered-row last w =
-            scattered-next _
-            (put-row (oneAt l) (λ j. before j l) c r p out zeros last (p * c) refl (here .written .filling) row-zeros q from one-here count-here
-            (rw count-here at (here .source)) row-inside w)
+            scattered-next
+            (rows-more (oneAt l) (λ j. before j l) c r (run-next (here .written) row-zeros)
+            (row-from one-here count-here (rw count-here at (here .source)) row-inside) last w)
 
 -- Where a row is one element.
 pub scattered-one : {l r zeros out : List ℤ} {q p : ℕ} (s : Scattered l r 1 zeros out q q) (all : length r ≡ length (ones l) * 1)
@@ -167,8 +166,6 @@ pub scattered-one : {l r zeros out : List ℤ} {q p : ℕ} (s : Scattered l r 1 
     → (v : ℤ) → v ≡ getD r q (pos 0) → Scattered l r 1 zeros (set out p v) (q + 1) (q + 1)
 scattered-one {l = l} {r = r} {zeros = zeros} {out = out} {q = q} {p = p} s all left noted v w =
     let single : p * 1 ≡ p = omega arith in
-    scattered-next s all left noted _
-    (rw single
-    (put-one (oneAt l) (λ j. before j l) r p out zeros (rw single at (here s all left noted .written .filling))
-    (omega (arith, row-zeros s all left noted)) v q (one-here s all left noted)
-    (count-here s all left noted) w))
+    let there = one-is (oneAt l) (λ j. before j l) r p q (one-here s all left noted) (count-here s all left noted) in
+    scattered-next s all left noted
+    (rw single (written-one (rw single at (here s all left noted .written)) (omega (arith, row-zeros s all left noted)) v (w ∙ sym there)))

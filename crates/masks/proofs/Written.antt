@@ -41,12 +41,23 @@ module _ {g : ℕ → ℤ} {size : ℕ} {out₀ out : List ℤ} {to q : ℕ} (w 
   pub written-more : {next : List ℤ} → to + size ≤ length out₀ → next ≡ filled g (to + size) out₀ → Written g size out₀ next (to + size) (q + 1)
   written-more room e = record { at = omega (arith, w .at); long = ap length e ∙ length-filled g (to + size) out₀ room; filling = e }
 
-  -- n runs more, all at once.
-  pub written-run : (next : List ℤ) (n e : ℕ) → e ≡ to + n * size → e ≤ length out₀ → next ≡ filled g (to + n * size) out₀
-      → Written g size out₀ next e (q + n)
-  written-run next n e end room f =
-      let there : next ≡ filled g e out₀ = f ∙ ap (λ x. filled g x out₀) (sym end) in
-      record { at = omega (arith, w .at); long = ap length there ∙ length-filled g e out₀ room; filling = there }
+-- Where n runs more go, all at once: to the part to .. e, up to run q′.
+pub record MoreRuns (g : ℕ → ℤ) (size : ℕ) (out₀ out : List ℤ) (to q n e q′ : ℕ) : Type 0 where
+  pub written : Written g size out₀ out to q
+  pub end : e ≡ to + n * size
+  pub room : e ≤ length out₀
+  pub all : q′ ≡ q + n
+
+pub run-next : {g : ℕ → ℤ} {size : ℕ} {out₀ out : List ℤ} {to q : ℕ} → Written g size out₀ out to q → to + size ≤ length out₀
+    → MoreRuns g size out₀ out to q 1 (to + size) (q + 1)
+run-next w room = record { written = w; end = omega arith; room = room; all = refl }
+
+pub written-run : {g : ℕ → ℤ} {size : ℕ} {out₀ out next : List ℤ} {to q n e q′ : ℕ} → MoreRuns g size out₀ out to q n e q′
+    → next ≡ filled g (to + n * size) out₀ → Written g size out₀ next e q′
+written-run {g} {size} {out₀} {e = e} d f =
+    let there = f ∙ ap (λ x. filled g x out₀) (sym (d .end)) in
+    let after = ap (λ x. x * size) (d .all) in
+    record { at = omega (arith, d .end, d .written .at, after); long = ap length there ∙ length-filled g e out₀ (d .room); filling = there }
 
 -- A run of one element.
 pub written-one : {g : ℕ → ℤ} {out₀ out : List ℤ} {to q : ℕ} (w : Written g 1 out₀ out to q) → to < length out₀ → (v : ℤ) → v ≡ g to

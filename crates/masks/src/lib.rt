@@ -12,7 +12,7 @@ ghost use Rattle.meaning.specs.Array.{arrayOf, goodForm, tab, build};
 ghost use Rattle.meaning.specs.Terms.{every, isBit, ones};
 ghost use Rattle.meaning.specs.Reply.{reply};
 ghost use Rattle.answer.specs.Answer.{lent, own, Replied};
-ghost use Rattle.masks.specs.Steps.Actions.{actionNumber, actionOf, masking, vectorShape, repeats, maskFits, maskTest};
+ghost use Rattle.masks.specs.Steps.Actions.{actionNumber, actionOf, masking, vectorShape, repeats, maskFits, maskRules};
 ghost use Rattle.masks.specs.Steps.Actions.{maskOf, width, maskElement, Masked};
 ghost use Rattle.masks.specs.Steps.Rows.{ByNotes, NotesPay, rowsOf, placedIn, Block, InBlocks};
 use answer::Answer;
@@ -124,7 +124,7 @@ fn repeats(action: Action, rank: usize) -> bool
 
 // LENGTH and DOMAIN, 0 where neither is met: compress asks LENGTH first, expand DOMAIN.
 fn mask_test(action: Action, repeated: bool, l: &[i32], n: usize) -> usize
-    ensures { λ t. ⌜ t ≡ maskTest action repeated (now (l .entry)) n ⌝ }
+    ensures { λ t. ⌜ t ≡ own (actionNumber action) (maskRules action repeated (now (l .entry)) n) ⌝ }
 {
     let fits = mask_fits(action, repeated, l, n);
     let bits = all_bits(l);

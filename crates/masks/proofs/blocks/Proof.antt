@@ -3,13 +3,14 @@ use Prim.Native.Nat.{_+_, _-_, _*_, _≤_}
 use lib.ListN.{length}
 use borrow.Author.Needs.{needs}
 use Rattle.masks.specs.Steps.Actions.{actionOf}
-use Rattle.masks.proofs.Placing.{Passed, passed-none, passed-all, passed-inside, passed-room, passed-block, passed-notes, passed-more, size-in, part-in}
+use Rattle.masks.proofs.Placing.{BlocksPlaced, placed-none, placed-all, placed-inside, placed-room, placed-block, placed-notes, placed-more}
+use Rattle.masks.proofs.Placing.{size-in, part-in}
 use Rattle.masks.proofs.blocks.Statement.{statement}
 use Rattle.masks.proofs.blocks.Tie as tie
 
 abbrev Inv-loop : tie.InvT-loop
 Inv-loop expands noted l at r outer n m inner out₀ size part from₀ to₀ o₀ out from to o =
-    Passed (actionOf expands) l r outer n m inner out₀ out from to o
+    BlocksPlaced (actionOf expands) l r outer n m inner out₀ out from to o
 
 abbrev μ-loop : tie.MeasureT-loop
 μ-loop expands noted l at r outer n m inner out₀ size part from₀ to₀ o₀ out from to o = outer - o
@@ -19,10 +20,10 @@ start c = c .before .before .before
 
 -- The block that is read, and the one that is written.
 inside : (c : tie.In-loop Inv-loop μ-loop) → let a = start c .args in c .before .loop .from + a .n * a .inner ≤ length (a .r .now)
-inside c = passed-inside (c .before .loop .inv) (start c .pre .0) (omega arith)
+inside c = placed-inside (c .before .loop .inv) (start c .pre .0) (omega arith)
 
 room : (c : tie.In-loop Inv-loop μ-loop) → let a = start c .args in c .before .loop .to + a .m * a .inner ≤ length (a .out .now)
-room c = passed-room (c .before .loop .inv) (start c .pre .0) (omega arith)
+room c = placed-room (c .before .loop .inv) (start c .pre .0) (omega arith)
 
 mul-size : tie.Need-mul-size Inv-loop μ-loop
 mul-size c = omega (arith, size-in (c .before .pre .0))
@@ -35,7 +36,7 @@ block-requires c κs =
     let at = c .before .before in
     let pre = start at .pre in
     let k = at .before .loop .inv in
-    (pre .0 .row, (passed-block k (pre .0) (omega arith), λ t. passed-notes k (pre .0) (omega arith) (pre .1 t)))
+    (pre .0 .row, (placed-block k (pre .0) (omega arith), λ t. placed-notes k (pre .0) (omega arith) (pre .1 t)))
 
 abbrev entered : tie.After-out Inv-loop μ-loop → tie.In-loop Inv-loop μ-loop
 entered c = c .before .before .before .before
@@ -43,7 +44,7 @@ entered c = c .before .before .before .before
 loop-again : tie.Need-loop-again Inv-loop μ-loop
 loop-again c =
     let at = entered c in
-    passed-more (at .before .loop .inv) (start at .pre .0) (omega arith) _ (c .before .block .ensures)
+    placed-more (at .before .loop .inv) (start at .pre .0) (omega arith) _ (c .before .block .ensures)
 
 pub blocks-spec : {M : Type 1} → statement M
 blocks-spec =
@@ -53,7 +54,7 @@ blocks-spec =
     μ-loop
     mul-size
     mul-part
-    (λ c. passed-none _ _ _ _ _ _ _ _)
+    (λ c. placed-none _ _ _ _ _ _ _ _)
     (λ c. omega (arith, inside c))
     (λ c. omega (arith, room c))
     (λ c. omega (arith, inside c))
@@ -69,4 +70,4 @@ blocks-spec =
     (λ c. search needs)
     loop-again
     (λ c. c .before .loop .inv .written .long)
-    (λ c. passed-all (c .before .loop .inv) (omega arith)))
+    (λ c. placed-all (c .before .loop .inv) (omega arith)))

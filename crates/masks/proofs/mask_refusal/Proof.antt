@@ -14,9 +14,9 @@ use Rattle.meaning.specs.Array.{Operand, arrayOf}
 use Rattle.meaning.specs.Terms.{isList, within, fromZero}
 use Rattle.answer.specs.Answer.{lent, own}
 use Rattle.answer.proofs.Lent.{Lent, lent-good, lent-part, list-yes, list-no}
-use Rattle.masks.specs.Steps.Actions.{actionNumber, masking, vectorShape, repeats, maskTest}
+use Rattle.masks.specs.Steps.Actions.{actionNumber, masking, vectorShape, repeats, maskRules}
 use Rattle.masks.proofs.Vectors.{read-good}
-use Rattle.masks.proofs.Calls.{inTurn, mask-own}
+use Rattle.masks.proofs.Calls.{asked, mask-own}
 use Rattle.masks.proofs.mask_refusal.Statement.{statement}
 use Rattle.masks.proofs.mask_refusal.Tie as tie
 
@@ -32,8 +32,8 @@ good st =
 asks : (st : tie.Start) {s : Shape} → s ≡ vectorShape (st .args .rs) → (b : List ℤ)
     → let a = st .args in
     own (actionNumber (a .action)) (masking (a .action) (a .g) (a .k) (arrayOf (left st)) (arrayOf (lent (a .rs) b)) .refusals)
-    ≡ inTurn (isList (arrayOf (left st))) (within (a .k -ℤ a .g) (s .rank))
-    (maskTest (a .action) (repeats (a .action) (a .rs .rank)) (arrayOf (left st) .elements) (getD (counted s) (fromZero (a .g) (a .k)) 0))
+    ≡ asked (a .action) (isList (arrayOf (left st))) (within (a .k -ℤ a .g) (s .rank))
+    (maskRules (a .action) (repeats (a .action) (a .rs .rank)) (arrayOf (left st) .elements) (getD (counted s) (fromZero (a .g) (a .k)) 0))
 asks st read b =
     let long : length (st .args .rs .lens) ≡ maxRank = search needs in
     mask-own (st .args .action) (st .args .g) (st .args .k) (left st) (st .args .rs) b read long (st .pre .1)
@@ -88,7 +88,7 @@ returns-3 c b =
     let n : getD (s .lens) (named t .before .axis .given .0 .0) 0 ≡ getD (counted s) (fromZero (a .g) (a .k)) 0 =
     sym (getD-take (s .rank) (s .lens) _ 0 (i .below)) ∙ ap (λ x. getD (counted s) x 0) (i .is) in
     (rw (t .before .repeats .ensures) at (c .mask-test .ensures))
-    ∙ ap₂ (maskTest (a .action) (repeats (a .action) (a .rs .rank))) mask n
+    ∙ ap₂ (λ l n. own (actionNumber (a .action)) (maskRules (a .action) (repeats (a .action) (a .rs .rank)) l n)) mask n
     ∙ sym (asks st (p .before .as-vector .ensures) b ∙ rw (list-yes (good st) (omega arith), i .inside))
 
 pub mask-refusal-spec : {M : Type 1} → statement M

@@ -2,14 +2,14 @@
 use Prim.Native.Nat.{ℕ, _≤_, _<_}
 use mathlib.Core.Path.{_≡_}
 use mathlib.Core.List.{List, [], _∷_}
-use mathlib.Core.Bool.{Bool, true, false, not, cond, _||_}
+use mathlib.Core.Bool.{Bool, true, false, cond, _||_}
 use lib.ListN.{length, getD, set, take, replicate}
 use lib.Dec.{eqb}
 use lib.IntN.{ℤ, pos}
 use Rattle.shape.specs.declared.Shape.{Shape}
 use Rattle.shape.specs.Shape.{maxCount, counted, count, shapeOf}
 use Rattle.meaning.specs.Array.{Array, goodForm}
-use Rattle.meaning.specs.Refusal.{number}
+use Rattle.meaning.specs.Refusal.{Rule, _unless_}
 use Rattle.meaning.specs.Refusal.Refusal.{LENGTH, DOMAIN}
 use Rattle.meaning.specs.Terms.{axis, along, every, isBit, eqZ, ones}
 use Rattle.meaning.specs.Primitives.{Meaning, compress, expand}
@@ -38,17 +38,13 @@ abbrev pub repeats : Action → ℕ → Bool
 repeats Compress rank = false
 repeats Expand rank = eqb rank 0
 
--- Whether the mask fits the axis, and what it meets that does or not, and is of bits or not.
+-- Whether the mask fits the axis, and what it can meet: which of the two wins, `precedence` says.
 unfoldable pub maskFits : Action → Bool → List ℤ → ℕ → Bool
 maskFits Compress repeated l n = eqb (length l) 1 || eqb n 1 || eqb (length l) n
 maskFits Expand repeated l n = repeated || eqb (length (ones l)) n
 
-unfoldable pub maskMeets : Action → Bool → Bool → ℕ
-maskMeets Compress fitting bits = cond (not fitting) (number LENGTH) (cond (not bits) (number DOMAIN) 0)
-maskMeets Expand fitting bits = cond (not bits) (number DOMAIN) (cond (not fitting) (number LENGTH) 0)
-
-abbrev pub maskTest : Action → Bool → List ℤ → ℕ → ℕ
-maskTest action repeated l n = maskMeets action (maskFits action repeated l n) (every isBit l)
+abbrev pub maskRules : Action → Bool → List ℤ → ℕ → List Rule
+maskRules action repeated l n = LENGTH unless maskFits action repeated l n ∷ DOMAIN unless every isBit l ∷ []
 
 -- In 27 one element serves the whole axis.
 unfoldable pub maskOf : Action → List ℤ → ℕ → List ℤ

@@ -24,9 +24,7 @@ noted : (c : tie.In-loop Inv-loop μ-loop)
 noted c = start (c .before) .pre .1 .inside (c .before .loop .q) (omega arith)
 
 room : (c : tie.In-loop Inv-loop μ-loop) → c .before .loop .to + start (c .before) .args .inner ≤ length (start (c .before) .args .out .now)
-room c =
-    let a = start (c .before) .args in
-    chosen-room (λ i. getD (a .at .now) i 0) (a .r .now) (a .m) (a .inner) (c .before .loop .inv) (start (c .before) .pre .1 .room) (omega arith)
+room c = chosen-room (c .before .loop .inv) (start (c .before) .pre .1 .room) (omega arith)
 
 -- Where a row is one element.
 line : (c : tie.Then1 Inv-loop μ-loop) → length (c .before .before .args .out .now) ≡ c .before .before .args .m * 1
@@ -51,16 +49,11 @@ loop-again : tie.Need-loop-again Inv-loop μ-loop
 loop-again c =
     let row = c .before .before .before in
     let lp = row .before .before in
-    let st = start (lp .before) in
-    let a = st .args in
-    chosen-row (λ i. getD (a .at .now) i 0) (a .r .now) (a .m) (a .inner) (lp .before .loop .inv) (st .pre .1 .room) (omega arith) _ refl
-    (omega (arith, noted lp)) _ (c .before .copy-run .ensures)
+    let at = lp .before in
+    chosen-row (at .loop .inv) (start at .pre .1 .room) (omega arith) _ refl (omega (arith, noted lp)) _ (c .before .copy-run .ensures)
 
 returns-2 : tie.Need-returns-2 Inv-loop μ-loop
-returns-2 c =
-    let st = start (c .before) in
-    let a = st .args in
-    chosen-all (λ i. getD (a .at .now) i 0) (a .r .now) (a .m) (a .inner) (c .before .loop .inv) (st .pre .1 .room) (omega arith)
+returns-2 c = chosen-all (c .before .loop .inv) (start (c .before) .pre .1 .room) (omega arith)
 
 pub kept-rows-spec : {M : Type 1} → statement M
 kept-rows-spec =

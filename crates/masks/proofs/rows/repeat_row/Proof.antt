@@ -17,10 +17,7 @@ abbrev μ-loop : tie.MeasureT-loop
 
 room : (c : tie.In-loop Inv-loop μ-loop)
     → let a = c .before .before .before .args in c .before .loop .to + a .inner ≤ length (a .out .now)
-room c =
-    let lp = c .before .loop in
-    let a = c .before .before .before .args in
-    chosen-room (λ j. 0) (a .r .now) (a .m) (a .inner) (lp .inv) (omega arith) (omega arith)
+room c = chosen-room (c .before .loop .inv) (omega arith) (omega arith)
 
 returns : tie.Need-returns Inv-loop μ-loop
 returns c =
@@ -30,34 +27,12 @@ returns c =
     ∙ repeated-one (st .args .r .now) (st .args .m) (st .args .inner) (st .args .out .now) _ (at .before .if1 .taken) (omega arith)
     (read32 (getD (st .args .r .now) 0 (pos 0)) (sfits-of (at .fill-run-arg .given)))
 
-loop-holds : tie.Need-loop-holds Inv-loop μ-loop
-loop-holds c = chosen-none _ _ _ _ _
-
-add-end : tie.Need-add-end Inv-loop μ-loop
-add-end c = omega (arith, room c)
-
-mul-copy-run : tie.Need-mul-copy-run Inv-loop μ-loop
-mul-copy-run c = omega (arith, room c)
-
-part-copy-run-end : tie.Need-part-copy-run-end Inv-loop μ-loop
-part-copy-run-end c = let lp = c .before .loop in omega (arith, room c, lp .inv .written .long)
-
 abbrev passed : tie.After-out2 Inv-loop μ-loop → tie.At-loop Inv-loop μ-loop
 passed c = c .before .before .before .before
 
 loop-again : tie.Need-loop-again Inv-loop μ-loop
 loop-again c =
-    let lp = passed c in
-    let a = lp .before .before .args in
-    repeated-row (a .r .now) (a .m) (a .inner) (lp .loop .inv) (omega arith) (omega arith) (omega arith) _ (c .before .copy-run .ensures)
-
-same-length-2 : tie.Need-same-length-2 Inv-loop μ-loop
-same-length-2 c = c .before .loop .inv .written .long
-
-returns-2 : tie.Need-returns-2 Inv-loop μ-loop
-returns-2 c =
-    let a = c .before .before .before .args in
-    chosen-all (λ j. 0) (a .r .now) (a .m) (a .inner) (c .before .loop .inv) (omega arith) (omega arith)
+    repeated-row (passed c .loop .inv) (omega arith) (omega arith) (omega arith) _ (c .before .copy-run .ensures)
 
 pub repeat-row-spec : {M : Type 1} → statement M
 repeat-row-spec =
@@ -69,15 +44,15 @@ repeat-row-spec =
     (λ c κs. search needs)
     (λ c. search needs)
     returns
-    loop-holds
-    add-end
-    mul-copy-run
+    (λ c. chosen-none _ _ _ _ _)
+    (λ c. omega (arith, room c))
+    (λ c. omega (arith, room c))
     (λ c. search needs)
     (λ c. search needs)
-    part-copy-run-end
+    (λ c. let lp = c .before .loop in omega (arith, room c, lp .inv .written .long))
     (λ c κs. search needs)
     (λ c. search needs)
     (λ c. search needs)
     loop-again
-    same-length-2
-    returns-2)
+    (λ c. c .before .loop .inv .written .long)
+    (λ c. chosen-all (c .before .loop .inv) (omega arith) (omega arith)))
