@@ -15,7 +15,7 @@ use Rattle.meaning.specs.Primitives.{sentTo, sentLengths, broughtBack, backward
 use Rattle.meaning.specs.Reply.{primitives, named, reply}
 use Rattle.meaning.proofs.Arrays.{build-lengths, form-whole}
 use Rattle.meaning.proofs.Sent.{length-back, length-shape, sent-has, all-occur}
-use Rattle.laws.specs.Words.{IsArray, IsOrigin, IsLong, given, Permutes, Sends, Transposition, by15, by26, callOf, leftOf, axesOf, sentOn}
+use Rattle.laws.specs.Words.{IsArray, IsOrigin, IsLong, given, Permutes, Sends, Transposition, by15, by26, primitiveOf, leftOperandOf, axesOf, sentOn}
 use Rattle.laws.specs.Laws.{TwoTranspositions, TranspositionKeeps}
 use Rattle.laws.proofs.Calls.{array-rule, Gives, gives, same-arrays, as-often, listed, lists-array}
 use Rattle.laws.proofs.Permuted.{permuted-count}
@@ -118,7 +118,7 @@ module _ (G K : ℤ) (l r : Operand) (out : List ℤ) (o : IsOrigin G) (h : IsAr
 
 -- A transposition that permutes all n axes gives the array transposed.
 transposition-gives : (G K : ℤ) (n : ℕ) (t : Transposition G n) (r : Operand) (out : List ℤ) → IsOrigin G → IsArray r → rank (arrayOf r) ≡ n
-    → IsLong (callOf t) G K (leftOf t) r out → Gives (reply (callOf t) G K (leftOf t) r out) (transposed (axesOf t) (arrayOf r))
+    → IsLong (primitiveOf t) G K (leftOperandOf t) r out → Gives (reply (primitiveOf t) G K (leftOperandOf t) r out) (transposed (axesOf t) (arrayOf r))
 transposition-gives G K n (by15 l) r out o h e room =
     subst (λ m. Gives (reply (pos 15) G K l r out) (transposed (backwards m) (arrayOf r))) e (reversed-axes G K l r out o h room)
 transposition-gives G K n (by26 l ts s p) r out o h e room = sent-axes G K l r out o h ts s (subst (λ m. Permutes m ts) (sym e) p) room
@@ -141,7 +141,7 @@ two-transpositions G K₁ K₂ K r l t u out₁ out₂ out o h s room₁ room₂
     let q = axes-permute u in
     let ts : List ℕ = axesOf t in
     let us : List ℕ = axesOf u in
-    let once : Operand = given (reply (callOf t) G K₁ (leftOf t) r out₁) in
+    let once : Operand = given (reply (primitiveOf t) G K₁ (leftOperandOf t) r out₁) in
     let first = transposition-gives G K₁ (rank a) t r out₁ o h refl room₁ in
     let same : rank (arrayOf once) ≡ rank a = ap rank (first .array) ∙ transposed-rank ts a (own p) (p .size) in
     let second = transposition-gives G K₂ (rank a) u once out₂ o (first .good) same room₂ in
