@@ -109,7 +109,8 @@ module _ (ts ns : List ℕ) (e : length ts ≡ length ns) where
     }
 
 -- What `transpose_into` gives.
-module _ {s : Sent} {shape : Shape} {total : ℕ} {rs : Shape} {r : List ℤ} {room : ℕ} (p : AxesPassed (s .to) rs) (m : Moves s shape total (lent rs r) room) where
+module _ {s : Sent} {shape : Shape} {total : ℕ} {rs : Shape} {r : List ℤ} {room : ℕ} (p : AxesPassed (s .to) rs)
+    (m : Moves s shape total (lent rs r) room) where
   abbrev ts : List ℕ
   ts = sentAxes s rs
 
