@@ -62,7 +62,7 @@ module _ (ts : List ℕ) (P : Permutes (length ts) ts) where
         let b : getD ns (w .0) 0 ≤ maxCount = small-at ns (w .0) (rule-small (length ns) ns h) (omega (arith, w .1)) in
         let q : getD (sentLengths ts ns) j 0 ≡ getD ns (w .0) 0 = ap (λ i. getD (sentLengths ts ns) i 0) (sym (w .2)) ∙ shape-at ts P ns e (w .0) (w .1) in
         omega arith))
-        (omega (arith, permuted-count (sentLengths ts ns) ns _ _ (broughtBack-one ts P ns e), rule-count (length ns) ns h))
+        (omega (arith, permuted-count (sentLengths ts ns) ns (broughtBack-one ts P ns e), rule-count (length ns) ns h))
 
 -- A permutation of r axes, by its own length.
 own : {r : ℕ} {ts : List ℕ} → Permutes r ts → Permutes (length ts) ts

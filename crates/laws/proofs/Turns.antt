@@ -17,6 +17,7 @@ use Rattle.laws.specs.Laws.{TwoRotations, TwoReversals, RotationKeeps, R
 use Rattle.laws.proofs.Calls.{array-rule, Gives, gives, same-arrays, same-array, as-often, listed, single-lists, lists-array}
 use Rattle.laws.proofs.Moves.{alongLines, moved, moved-lengths, moved-ext, moved-id, moved-moved}
 use Rattle.meaning.proofs.Modulo.{modulo-lt, modulo-sum, modulo-back, modulo-forth}
+use Rattle.laws.proofs.Sum.{OneToOne, Below}
 use Rattle.laws.proofs.Permuted.{moved-occurs}
 
 -- What 14 and 25 do to an array.
@@ -100,16 +101,18 @@ pub reversal-keeps : ReversalKeeps
 reversal-keeps G K l r out o h t room =
     let g = reverse-gives G K r out o h t l room in
     let n : ℕ = axis (arrayOf r) (fromZero G K) in
-    let back : (q : List ℕ) (i : ℕ) → i < n → (n - 1 - i < n) × (n - 1 - (n - 1 - i) ≡ i) = λ q i l. (omega arith, omega arith) in
-    (g .number, as-often r g (moved-occurs (arrayOf r) (fromZero G K) (λ q i. n - 1 - i) (λ q i. n - 1 - i) (form-whole r (h .form)) back back))
+    let back : OneToOne (Below n) (Below n) (λ i. n - 1 - i) (λ i. n - 1 - i) =
+    record { there = λ i l. omega arith; back = λ i l. omega arith; there-back = λ i l. omega arith; back-there = λ i l. omega arith } in
+    (g .number, as-often r g (moved-occurs (arrayOf r) (fromZero G K) _ _ (form-whole r (h .form)) (λ q. back)))
 
 pub rotation-keeps : RotationKeeps
 rotation-keeps G K z l r out o h t s room =
     let g = rotate-gives G K r out o h t l z s room in
-    let n : ℕ = axis (arrayOf r) (fromZero G K) in (
-      g .number,
-      as-often r g
-          (moved-occurs (arrayOf r) (fromZero G K) _ (λ q i. modulo (pos i +ℤ negℤ z) n) (form-whole r (h .form))
-          (λ q i l. (modulo-lt _ n (omega arith), modulo-back i n z l))
-          (λ q i l. (modulo-lt _ n (omega arith), modulo-forth i n z l))),
-    )
+    let n : ℕ = axis (arrayOf r) (fromZero G K) in
+    let back : OneToOne (Below n) (Below n) (λ i. modulo (pos i +ℤ z) n) (λ i. modulo (pos i +ℤ negℤ z) n) = record {
+      there = λ i l. modulo-lt _ n (omega arith);
+      back = λ i l. modulo-lt _ n (omega arith);
+      there-back = λ i l. modulo-back i n z l;
+      back-there = λ i l. modulo-forth i n z l;
+    } in
+    (g .number, as-often r g (moved-occurs (arrayOf r) (fromZero G K) _ _ (form-whole r (h .form)) (λ q. back)))
