@@ -79,11 +79,13 @@ module _ (G K : ℤ) (l r : Operand) (out : List ℤ) (o : IsOrigin G) (h : IsAr
   unfolding named primitives eqZ transpose transposed
   reversed-axes room =
       let p = permutes-backwards (rank (arrayOf r)) in
-      gives (pos 15) G K l r (arrayOf l) (arrayOf r) out refl refl room
-      (record {
-        left = refl;
-        right = h .form;
+      gives (record {
+        left-is = refl;
+        right-is = refl;
+        left-form = refl;
+        right-form = h .form;
         origin = o;
+        room = room;
         limit = sent-rule _ (own p) (arrayOf r .lengths) (p .size) (array-rule r h);
         own = tt;
       })
@@ -95,11 +97,13 @@ module _ (G K : ℤ) (l r : Operand) (out : List ℤ) (o : IsOrigin G) (h : IsAr
       let a : Array = arrayOf r in
       let xs : List ℤ = map (λ t. G +ℤ pos t) ts in
       subst (λ us. Gives (reply (pos 26) G K l r out) (transposed us a)) (axes-of G ts)
-      (gives (pos 26) G K l r (listed l xs) a out (lists-array l xs s) refl room
-      (record {
-        left = s .form;
-        right = h .form;
+      (gives (record {
+        left-is = lists-array l xs s;
+        right-is = refl;
+        left-form = s .form;
+        right-form = h .form;
         origin = o;
+        room = room;
         limit =
             subst (λ us. shapeRule (length (sentLengths us (a .lengths))) (sentLengths us (a .lengths)) ≡ true) (sym (axes-of G ts))
             (sent-rule ts (own p) (a .lengths) (p .size) (array-rule r h));
