@@ -1,15 +1,14 @@
 -- An array whose places are those of another in another order has the same elements, each as often.
-use mathlib.Core.Path.{_≡_, refl, sym, ap, ap₂, _∙_}
+use mathlib.Core.Path.{_≡_, refl, sym, ap, _∙_}
 use mathlib.Core.List.{List}
 use Prim.Native.Nat.{ℕ, zero, suc, _<_}
 use native.Mathlib.Numerals.{one-add}
 use native.Mathlib.Decide.{decLt}
 use native.Mathlib.Omega.{arith}
 use lib.ListN.{length, getD, set}
-use lib.Seq.{set-set, set-getD, getD-set-same}
+use lib.Seq.{set-getD}
 use lib.IntN.{ℤ, pos}
 use Rattle.shape.specs.Shape.{count, without}
-use Rattle.meaning.proofs.Without.{without-set}
 use Rattle.shape.specs.Place.{index, place}
 use Rattle.shape.proofs.Places.{In, index-lt, place-in, index-place, place-index}
 use Rattle.shape.proofs.Axis.{in-length, in-at}
@@ -18,7 +17,7 @@ use Rattle.meaning.specs.Terms.{rank, axis, gather}
 use Rattle.meaning.proofs.Tab.{tab-getD}
 use Rattle.meaning.proofs.Arrays.{Whole, build-ext, build-at}
 use Rattle.laws.specs.Words.{occurs}
-use Rattle.laws.proofs.Moves.{alongLines, moved, stays, along-out}
+use Rattle.laws.proofs.Moves.{onLine, line-line, alongLines, moved, stays, along-out}
 use Rattle.laws.proofs.Sum.{OneToOne, Below, sum, sum-permuted}
 use Rattle.laws.proofs.Occurs.{occurs-permuted}
 
@@ -65,19 +64,15 @@ pub moved-occurs : (a : Array) (k : ℕ) (f g : List ℕ → ℕ → ℕ) → Wh
 unfolding moved alongLines
 moved-occurs a k f g w o x = by (decLt k (rank a))
   where
-    one : k < rank a → OneToOne (In (a .lengths)) (In (a .lengths)) (λ r. set r k (f (without k r) (getD r k 0))) (λ r. set r k (g (without k r) (getD r k 0)))
+    one : k < rank a → OneToOne (In (a .lengths)) (In (a .lengths)) (onLine k f) (onLine k g)
     one l =
         let under : (r : List ℕ) → In (a .lengths) r → getD r k 0 < axis a k = λ r i. in-at (a .lengths) r k i l in
         let has : (r : List ℕ) → In (a .lengths) r → k < length r = λ r i. omega (arith, in-length (a .lengths) r i) in
         record {
           there = λ r i. stays a k (f (without k r) (getD r k 0)) r (o _ .there _ (under r i)) i;
           back = λ r i. stays a k (g (without k r) (getD r k 0)) r (o _ .back _ (under r i)) i;
-          there-back = λ r i.
-              set-set r k _ _ ∙ ap₂ (λ z y. set r k (g z y)) (without-set r k _) (getD-set-same r k _ 0 (has r i)) ∙ ap (set r k) (o _ .there-back _ (under r i))
-              ∙ set-getD r k 0;
-          back-there = λ r i.
-              set-set r k _ _ ∙ ap₂ (λ z y. set r k (f z y)) (without-set r k _) (getD-set-same r k _ 0 (has r i)) ∙ ap (set r k) (o _ .back-there _ (under r i))
-              ∙ set-getD r k 0;
+          there-back = λ r i. line-line k g f r (has r i) ∙ ap (set r k) (o _ .there-back _ (under r i)) ∙ set-getD r k 0;
+          back-there = λ r i. line-line k f g r (has r i) ∙ ap (set r k) (o _ .back-there _ (under r i)) ∙ set-getD r k 0;
         }
 
     by : Dec (k < rank a) → occurs x (moved a k f .elements) ≡ occurs x (a .elements)

@@ -17,7 +17,7 @@ use Rattle.meaning.proofs.Arrays.{build-lengths, form-whole}
 use Rattle.meaning.proofs.Sent.{length-back, length-shape, sent-has, all-occur}
 use Rattle.laws.specs.Words.{IsArray, IsOrigin, IsLong, given, Permutes, Sends, Transposition, by15, by26, primitiveOf, leftOperandOf, axesOf, sentOn}
 use Rattle.laws.specs.Laws.{TwoTranspositions, TranspositionKeeps}
-use Rattle.laws.proofs.Calls.{array-rule, Gives, gives, same-arrays, as-often, listed, lists-array}
+use Rattle.laws.proofs.Calls.{array-rule, Gives, gives, same-arrays, as-often, lists-array}
 use Rattle.laws.proofs.Permuted.{permuted-count}
 use Rattle.laws.proofs.Transposed.{transposed, axes-is, shape-at, broughtBack-one, transpose-occurs, permutes-broughtBack}
 use Rattle.laws.proofs.Transposed.{transposed-transposed, permutes-backwards}

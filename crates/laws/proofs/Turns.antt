@@ -2,7 +2,7 @@
 use mathlib.Core.Path.{_≡_, refl, sym, ap, _∙_}
 use mathlib.Core.List.{List, [], _∷_}
 use mathlib.Core.Bool.{not}
-use Prim.Native.Nat.{ℕ, _-_, _<_, max}
+use Prim.Native.Nat.{ℕ, _-_, max}
 use native.Mathlib.Omega.{arith}
 use lib.ListN.{length, getD}
 use lib.IntN.{ℤ, pos, negℤ, _+ℤ_, _-ℤ_, +ℤ-assoc, +ℤ-comm}
@@ -14,7 +14,7 @@ use Rattle.meaning.proofs.Arrays.{Whole, form-whole}
 use Rattle.meaning.proofs.Scalars.{vector-rank}
 use Rattle.laws.specs.Words.{IsArray, IsOrigin, IsTurnAxis, IsLong, given, IsSingle}
 use Rattle.laws.specs.Laws.{TwoRotations, TwoReversals, RotationKeeps, ReversalKeeps}
-use Rattle.laws.proofs.Calls.{array-rule, Gives, gives, same-arrays, same-array, as-often, listed, single-lists, lists-array}
+use Rattle.laws.proofs.Calls.{array-rule, Gives, gives, same-arrays, same-array, as-often, single-lists, lists-array}
 use Rattle.laws.proofs.Moves.{alongLines, moved, moved-lengths, moved-ext, moved-id, moved-moved}
 use Rattle.meaning.proofs.Modulo.{modulo-lt, modulo-sum, modulo-back, modulo-forth}
 use Rattle.laws.proofs.Sum.{OneToOne, Below}
