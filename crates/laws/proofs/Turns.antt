@@ -31,8 +31,9 @@ module _ (G K : ℤ) (r : Operand) (out : List ℤ) (o : IsOrigin G) (h : IsArra
   reverse-gives : (l : Operand) → IsLong (pos 14) G K l r out → Gives (reply (pos 14) G K l r out) (turned G K (arrayOf r))
   unfolding named primitives eqZ reverse along alongLines moved
   reverse-gives l room =
+      let rule = array-rule r h in
       gives
-      (record { left-is = refl; right-is = refl; left-form = refl; right-form = h .form; origin = o; room = room; limit = array-rule r h; own = (ap not t, tt) })
+      (record { left-is = refl; right-is = refl; left-form = refl; right-form = h .form; origin = o; room = room; limit = rule; own = (ap not t, tt) })
 
   rotate-gives : (l : Operand) (z : ℤ) → IsSingle l z → IsLong (pos 25) G K l r out → Gives (reply (pos 25) G K l r out) (rotated G K z (arrayOf r))
   unfolding named primitives eqZ rotate along alongLines moved
