@@ -10,7 +10,7 @@ use lib.Dec.{leb}
 use lib.IntN.{ℤ, pos}
 use Rattle.shape.specs.declared.Shape.{Shape}
 use Rattle.shape.specs.Shape.{maxCount, count, countOf, goodShape, shapeRule, shapeOf, madeOf, scalar}
-use Rattle.shape.proofs.Bools.{no-way, both}
+use Rattle.shape.proofs.Bools.{both}
 use Rattle.shape.proofs.Counts.{good-count, count-good, count-bad}
 use Rattle.shape.proofs.Made.{Stands, stands-rule, stands-count, stands-made}
 use Rattle.meaning.specs.Array.{Operand, goodForm, build}

@@ -1,13 +1,13 @@
 -- Calls that succeed, and calls that follow them, with the primitive open.
 use mathlib.Core.Path.{_≡_, sym, ap, ap₂, subst₂, _∙_}
 use mathlib.Core.List.{List, [], _∷_, _++_}
-use mathlib.Core.Bool.{true}
+use mathlib.Core.Bool.{true, _||_}
 use Prim.Native.Nat.{ℕ, _-_}
 use native.Mathlib.Omega.{arith}
 use borrow.Author.Tests.{le-leb, eqb-true}
 use lib.ListN.{length, getD, take, drop, replicate, length-append, length-replicate}
 use lib.Seq.{take-at, length-take-le}
-use lib.Dec.{eqb}
+use lib.Dec.{eqb, leb}
 use lib.IntN.{ℤ, pos}
 use Rattle.shape.specs.Shape.{maxRank, count, shapeRule, shapeOf}
 use Rattle.shape.proofs.Bools.{both}
@@ -18,8 +18,8 @@ use Rattle.meaning.specs.Terms.{rank, isList}
 use Rattle.meaning.specs.Primitives.{Meaning}
 use Rattle.meaning.specs.Reply.{Reply, primitives, named, meaningOf, settle, reply}
 use Rattle.meaning.proofs.Arrays.{build-whole, form-shape}
-use Rattle.meaning.proofs.Replies.{Passes, success}
-use Rattle.laws.specs.Words.{IsArray, IsLong, given, Succeeds, Same, Lists, IsSingle, occurs, AsOften}
+use Rattle.meaning.proofs.Replies.{NoneMet, Passes, success}
+use Rattle.laws.specs.Words.{IsArray, IsOrigin, IsLong, given, Succeeds, Same, Lists, IsSingle, occurs, AsOften}
 
 -- The result of a meaning.
 abbrev pub result : Meaning → Array
@@ -71,18 +71,25 @@ gives-own n G K L R out room f =
     let m : Meaning = meaningOf n G K L R in
     settled (reply n G K L R out) (m .lengths) (result m .elements) out (success n G K L R out f room) (build-whole (m .lengths) (m .element)) (f .limit)
 
--- A call whose operands hold the arrays A and B gives the primitive's result for them.
-pub gives : (n G K : ℤ) (L R : Operand) (A B : Array) (out : List ℤ) → arrayOf L ≡ A → arrayOf R ≡ B → IsLong n G K L R out
-    → Passes (named n primitives) G L R (named n primitives .meaning G K A B)
+-- Nothing refuses a call whose operands hold the arrays A and B.
+pub record Unrefused (n G K : ℤ) (L R : Operand) (out : List ℤ) (A B : Array) : Type 0 where
+  pub left-is : arrayOf L ≡ A
+  pub right-is : arrayOf R ≡ B
+  pub left-form : (leb (named n primitives .operands) 1 || goodForm L) ≡ true
+  pub right-form : goodForm R ≡ true
+  pub origin : IsOrigin G
+  pub room : IsLong n G K L R out
+  pub limit : let ns : List ℕ = named n primitives .meaning G K A B .lengths in shapeRule (length ns) ns ≡ true
+  pub own : NoneMet (named n primitives .meaning G K A B .refusals)
+
+-- It gives the primitive's result for them.
+pub gives : {n G K : ℤ} {L R : Operand} {out : List ℤ} {A B : Array} → Unrefused n G K L R out A B
     → Gives (reply n G K L R out) (result (named n primitives .meaning G K A B))
-gives n G K L R A B out a b room =
-    subst₂
-    (λ X Y.
-    Passes (named n primitives) G L R (named n primitives .meaning G K X Y)
-    → Gives (reply n G K L R out) (result (named n primitives .meaning G K X Y)))
-    a
-    b
-    (gives-own n G K L R out room)
+gives {n} {G} {K} {L} {R} {out} h =
+    let m : Array → Array → Meaning = named n primitives .meaning G K in
+    subst₂ (λ A B. Passes (named n primitives) G L R (m A B) → Gives (reply n G K L R out) (result (m A B))) (h .left-is) (h .right-is)
+    (gives-own n G K L R out (h .room))
+    (record { left = h .left-form; right = h .right-form; origin = h .origin; limit = h .limit; own = h .own })
 
 -- Two replies that give one array are the same.
 pub same-arrays : {y z : Reply} {a b : Array} → Gives y a → Gives z b → a ≡ b → Same (given y) (given z)

@@ -134,11 +134,13 @@ first-and-rest G K K₁ K₂ n l₁ l₂ r out₁ out₂ out o h t n≤ s₁ s�
     let fs : List ℤ = firsts ns k n in
     let ds : List ℤ = lesser ns k n in
     let first : Gives (reply (pos 23) G K₁ l₁ r out₁) (result (takes (listed l₁ fs) a)) =
-    gives (pos 23) G K₁ l₁ r (listed l₁ fs) a out₁ (lists-array l₁ fs s₁) refl room₁
-    (record {
-      left = s₁ .form;
-      right = h .form;
+    gives (record {
+      left-is = lists-array l₁ fs s₁;
+      right-is = refl;
+      left-form = s₁ .form;
+      right-form = h .form;
       origin = o;
+      room = room₁;
       limit = rule-by (sizes-firsts ns k n) (shorter ns k n n≤ good);
       own = (
         ap not (s₁ .list),
@@ -150,11 +152,13 @@ first-and-rest G K K₁ K₂ n l₁ l₂ r out₁ out₂ out o h t n≤ s₁ s�
       );
     }) in
     let rest : Gives (reply (pos 24) G K₂ l₂ r out₂) (result (drops (listed l₂ ds) a)) =
-    gives (pos 24) G K₂ l₂ r (listed l₂ ds) a out₂ (lists-array l₂ ds s₂) refl room₂
-    (record {
-      left = s₂ .form;
-      right = h .form;
+    gives (record {
+      left-is = lists-array l₂ ds s₂;
+      right-is = refl;
+      left-form = s₂ .form;
+      right-form = h .form;
       origin = o;
+      room = room₂;
       limit =
           rule-by (ap (λ b. droppedLengths ds (b .lengths)) (array-as (length ds) a some)
           ∙ lengths-lesser ns k n) (shorter ns k (axis a k - n) (omega arith) good);
@@ -171,12 +175,13 @@ first-and-rest G K K₁ K₂ n l₁ l₂ r out₁ out₂ out o h t n≤ s₁ s�
     let ry : rank y ≡ rank a = ap length (back-lengths a k n) ∙ length-set ns k (axis a k - n) in
     let whole : result (catenate G K x y) ≡ a = catenate-joined G K x y (omega arith) (rx ∙ sym ry) ∙ front-back a k n w l n≤ in
     let both : Gives (reply (pos 22) G K (given (reply (pos 23) G K₁ l₁ r out₁)) (given (reply (pos 24) G K₂ l₂ r out₂)) out) (result (catenate G K x y)) =
-    gives (pos 22) G K (given (reply (pos 23) G K₁ l₁ r out₁)) (given (reply (pos 24) G K₂ l₂ r out₂)) x y out
-    (first .array ∙ takes-front (arrayOf l₁ .lengths) a k n some n≤) (rest .array ∙ drops-back (arrayOf l₂ .lengths) a k n some) room
-    (record {
-      left = first .good .form;
-      right = rest .good .form;
+    gives (record {
+      left-is = first .array ∙ takes-front (arrayOf l₁ .lengths) a k n some n≤;
+      right-is = rest .array ∙ drops-back (arrayOf l₂ .lengths) a k n some;
+      left-form = first .good .form;
+      right-form = rest .good .form;
       origin = o;
+      room = room;
       limit = rule-by (sym (build-lengths (catenate G K x y .lengths) (catenate G K x y .element)) ∙ ap (λ c. c .lengths) whole) good;
       own = catenate-none G K x y (omega arith) (rx ∙ sym ry) (ap (within (K -ℤ G)) rx ∙ t)
           (ap (without k) (back-lengths a k n) ∙ without-set ns k (axis a k - n) ∙ sym (ap (without k) (front-lengths a k n) ∙ without-set ns k n));

@@ -15,9 +15,18 @@ use Rattle.meaning.specs.Terms.{rank, axis}
 use Rattle.meaning.proofs.Without.{without-set}
 use Rattle.meaning.proofs.Arrays.{Whole, build-lengths, at-build, build-ext, build-at}
 
--- Along axis k, position i of a line takes position f q i, where q names the line: it is the place without that axis.
+-- The place whose position i on axis k has become f q i, where q names its line: it is the place without that axis.
+abbrev pub onLine : ℕ → (List ℕ → ℕ → ℕ) → List ℕ → List ℕ
+onLine k f p = set p k (f (without k p) (getD p k 0))
+
+-- Its line is the same, so twice is once.
+pub line-line : (k : ℕ) (f g : List ℕ → ℕ → ℕ) (p : List ℕ) → k < length p → onLine k f (onLine k g p) ≡ onLine k (λ q i. f q (g q i)) p
+line-line k f g p h =
+    set-set p k _ _ ∙ ap₂ (λ q i. set p k (f q i)) (without-set p k _) (getD-set-same p k _ 0 h)
+
+-- Along the lines of axis k, position i takes position f q i of the array.
 unfoldable pub alongLines : Array → ℕ → (List ℕ → ℕ → ℕ) → List ℕ → ℤ
-alongLines a k f p = at a (set p k (f (without k p) (getD p k 0)))
+alongLines a k f p = at a (onLine k f p)
 
 unfoldable pub moved : Array → ℕ → (List ℕ → ℕ → ℕ) → Array
 moved a k f = build (a .lengths) (alongLines a k f)
@@ -66,7 +75,7 @@ along-along a k f g h p i (yes l) =
     let x : ℕ = g (without k p) (getD p k 0) in
     let lp : k < length p = omega (arith, in-length (a .lengths) p i) in
     at-moved a k f (set p k x) (stays a k x p (h (without k p) (getD p k 0) (in-at (a .lengths) p k i l)) i)
-    ∙ ap (at a) (set-set p k x _ ∙ ap₂ (λ q y. set p k (f q y)) (without-set p k x) (getD-set-same p k x 0 lp))
+    ∙ ap (at a) (line-line k f g p lp)
 along-along a k f g h p i (no l) =
     let out : set p k (g (without k p) (getD p k 0)) ≡ p = set-out p k _ (omega (arith, in-length (a .lengths) p i)) in
     ap (at (moved a k f)) out ∙ at-moved a k f p i ∙ along-out a k f p (omega arith) i ∙ sym (along-out a k (λ q j. f q (g q j)) p (omega arith) i)

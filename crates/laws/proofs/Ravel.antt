@@ -55,22 +55,26 @@ ravelled-reshaped G K₁ K₂ l₁ l r out₁ out o h s room₁ room =
     let w : Whole a = form-whole r (h .form) in
     let once : Operand = given (reply (pos 12) G K₁ l₁ r out₁) in
     let first : Gives (reply (pos 12) G K₁ l₁ r out₁) (result (ravel a)) =
-    gives (pos 12) G K₁ l₁ r (arrayOf l₁) a out₁ refl refl room₁
-    (record {
-      left = refl;
-      right = h .form;
+    gives (record {
+      left-is = refl;
+      right-is = refl;
+      left-form = refl;
+      right-form = h .form;
       origin = o;
+      room = room₁;
       limit = vector-rule (length (a .elements)) (rw w (rule-count _ _ (array-rule r h)));
       own = tt;
     }) in
     let line : Array = record { lengths = length (a .elements) ∷ []; elements = a .elements } in
     let held : arrayOf once ≡ line = first .array ∙ ravel-is a in
     let second : Gives (reply (pos 21) G K₂ l once out) (result (reshape (listed l (map pos (a .lengths))) line)) =
-    gives (pos 21) G K₂ l once (listed l (map pos (a .lengths))) line out (lists-array l _ s) held room
-    (record {
-      left = s .form;
-      right = first .good .form;
+    gives (record {
+      left-is = lists-array l _ s;
+      right-is = held;
+      left-form = s .form;
+      right-form = first .good .form;
       origin = o;
+      room = room;
       limit = rw (sizes-pos (a .lengths)) (array-rule r h);
       own = (ap not (s .list), (ap not (not-negative (a .lengths)), tt));
     }) in

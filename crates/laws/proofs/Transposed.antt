@@ -11,6 +11,7 @@ use lib.Dec.{eqb}
 use lib.ListN.{length, getD}
 use lib.Seq.{ext-getD}
 use lib.IntN.{ℤ}
+use Rattle.shape.proofs.Places.{In}
 use Rattle.shape.proofs.Axis.{in-length, in-at, in-from}
 use Rattle.meaning.specs.Array.{Array, at, tab, build}
 use Rattle.meaning.specs.Primitives.{sentTo, smallest, axesTo, sentLengths, broughtBack, backwards}
@@ -19,7 +20,8 @@ use Rattle.meaning.proofs.Sent.{getD-shape, broughtBack-in}
 use Rattle.meaning.proofs.Tab.{length-tab, getD-tab}
 use Rattle.meaning.proofs.Arrays.{Whole, build-lengths, at-build, build-ext}
 use Rattle.laws.specs.Words.{Permutes, occurs}
-use Rattle.laws.proofs.Permuted.{OneToOne, permuted-occurs}
+use Rattle.laws.proofs.Sum.{OneToOne}
+use Rattle.laws.proofs.Permuted.{permuted-occurs}
 
 -- R's axis i goes to result axis ts i.
 unfoldable pub transposed : List ℕ → Array → Array
@@ -122,7 +124,7 @@ module _ (ts : List ℕ) (P : Permutes (length ts) ts) where
         let d = sent-from j ts s (b .0) (b .1) in
         getD-shape ts s j (axes-lt ts i h) ∙ b .2 ∙ d .3 ∙ ap (λ l. getD s l 0) (P .once (d .0) i (d .1) h (d .2))
 
-    pub broughtBack-one : OneToOne (sentLengths ts s) s (broughtBack ts) (broughtBack (inverse ts))
+    pub broughtBack-one : OneToOne (In (sentLengths ts s)) (In s) (broughtBack ts) (broughtBack (inverse ts))
     broughtBack-one = record {
       there = λ q h. broughtBack-in ts s q e h;
       back = λ p h.
@@ -146,8 +148,7 @@ pub transpose-occurs : (ts : List ℕ) (a : Array) → Permutes (length ts) ts �
     → (x : ℤ) → occurs x (transposed ts a .elements) ≡ occurs x (a .elements)
 unfolding transposed
 transpose-occurs ts a P e w x =
-    permuted-occurs (sentLengths ts (a .lengths)) (a .lengths) (broughtBack ts) (broughtBack (inverse ts)) (broughtBack-one ts P (a .lengths) e) x
-    (a .elements) w
+    permuted-occurs (sentLengths ts (a .lengths)) (a .lengths) (broughtBack-one ts P (a .lengths) e) x (a .elements) w
 
 -- The axis to which us sends the axis to which ts sends i.
 pub permutes-broughtBack : (ts us : List ℕ) → Permutes (length ts) ts → Permutes (length us) us → length us ≡ length ts

@@ -15,9 +15,9 @@ use Rattle.meaning.specs.Primitives.{sentTo, sentLengths, broughtBack, backward
 use Rattle.meaning.specs.Reply.{primitives, named, reply}
 use Rattle.meaning.proofs.Arrays.{build-lengths, form-whole}
 use Rattle.meaning.proofs.Sent.{length-back, length-shape, sent-has, all-occur}
-use Rattle.laws.specs.Words.{IsArray, IsOrigin, IsLong, given, Permutes, Sends, Transposition, by15, by26, callOf, leftOf, axesOf, sentOn}
+use Rattle.laws.specs.Words.{IsArray, IsOrigin, IsLong, given, Permutes, Sends, Transposition, by15, by26, primitiveOf, leftOperandOf, axesOf, sentOn}
 use Rattle.laws.specs.Laws.{TwoTranspositions, TranspositionKeeps}
-use Rattle.laws.proofs.Calls.{array-rule, Gives, gives, same-arrays, as-often, listed, lists-array}
+use Rattle.laws.proofs.Calls.{array-rule, Gives, gives, same-arrays, as-often, lists-array}
 use Rattle.laws.proofs.Permuted.{permuted-count}
 use Rattle.laws.proofs.Transposed.{transposed, axes-is, shape-at, broughtBack-one, transpose-occurs, permutes-broughtBack}
 use Rattle.laws.proofs.Transposed.{transposed-transposed, permutes-backwards}
@@ -62,7 +62,7 @@ module _ (ts : List ℕ) (P : Permutes (length ts) ts) where
         let b : getD ns (w .0) 0 ≤ maxCount = small-at ns (w .0) (rule-small (length ns) ns h) (omega (arith, w .1)) in
         let q : getD (sentLengths ts ns) j 0 ≡ getD ns (w .0) 0 = ap (λ i. getD (sentLengths ts ns) i 0) (sym (w .2)) ∙ shape-at ts P ns e (w .0) (w .1) in
         omega arith))
-        (omega (arith, permuted-count (sentLengths ts ns) ns _ _ (broughtBack-one ts P ns e), rule-count (length ns) ns h))
+        (omega (arith, permuted-count (sentLengths ts ns) ns (broughtBack-one ts P ns e), rule-count (length ns) ns h))
 
 -- A permutation of r axes, by its own length.
 own : {r : ℕ} {ts : List ℕ} → Permutes r ts → Permutes (length ts) ts
@@ -79,11 +79,13 @@ module _ (G K : ℤ) (l r : Operand) (out : List ℤ) (o : IsOrigin G) (h : IsAr
   unfolding named primitives eqZ transpose transposed
   reversed-axes room =
       let p = permutes-backwards (rank (arrayOf r)) in
-      gives (pos 15) G K l r (arrayOf l) (arrayOf r) out refl refl room
-      (record {
-        left = refl;
-        right = h .form;
+      gives (record {
+        left-is = refl;
+        right-is = refl;
+        left-form = refl;
+        right-form = h .form;
         origin = o;
+        room = room;
         limit = sent-rule _ (own p) (arrayOf r .lengths) (p .size) (array-rule r h);
         own = tt;
       })
@@ -95,11 +97,13 @@ module _ (G K : ℤ) (l r : Operand) (out : List ℤ) (o : IsOrigin G) (h : IsAr
       let a : Array = arrayOf r in
       let xs : List ℤ = map (λ t. G +ℤ pos t) ts in
       subst (λ us. Gives (reply (pos 26) G K l r out) (transposed us a)) (axes-of G ts)
-      (gives (pos 26) G K l r (listed l xs) a out (lists-array l xs s) refl room
-      (record {
-        left = s .form;
-        right = h .form;
+      (gives (record {
+        left-is = lists-array l xs s;
+        right-is = refl;
+        left-form = s .form;
+        right-form = h .form;
         origin = o;
+        room = room;
         limit =
             subst (λ us. shapeRule (length (sentLengths us (a .lengths))) (sentLengths us (a .lengths)) ≡ true) (sym (axes-of G ts))
             (sent-rule ts (own p) (a .lengths) (p .size) (array-rule r h));
@@ -118,7 +122,7 @@ module _ (G K : ℤ) (l r : Operand) (out : List ℤ) (o : IsOrigin G) (h : IsAr
 
 -- A transposition that permutes all n axes gives the array transposed.
 transposition-gives : (G K : ℤ) (n : ℕ) (t : Transposition G n) (r : Operand) (out : List ℤ) → IsOrigin G → IsArray r → rank (arrayOf r) ≡ n
-    → IsLong (callOf t) G K (leftOf t) r out → Gives (reply (callOf t) G K (leftOf t) r out) (transposed (axesOf t) (arrayOf r))
+    → IsLong (primitiveOf t) G K (leftOperandOf t) r out → Gives (reply (primitiveOf t) G K (leftOperandOf t) r out) (transposed (axesOf t) (arrayOf r))
 transposition-gives G K n (by15 l) r out o h e room =
     subst (λ m. Gives (reply (pos 15) G K l r out) (transposed (backwards m) (arrayOf r))) e (reversed-axes G K l r out o h room)
 transposition-gives G K n (by26 l ts s p) r out o h e room = sent-axes G K l r out o h ts s (subst (λ m. Permutes m ts) (sym e) p) room
@@ -141,7 +145,7 @@ two-transpositions G K₁ K₂ K r l t u out₁ out₂ out o h s room₁ room₂
     let q = axes-permute u in
     let ts : List ℕ = axesOf t in
     let us : List ℕ = axesOf u in
-    let once : Operand = given (reply (callOf t) G K₁ (leftOf t) r out₁) in
+    let once : Operand = given (reply (primitiveOf t) G K₁ (leftOperandOf t) r out₁) in
     let first = transposition-gives G K₁ (rank a) t r out₁ o h refl room₁ in
     let same : rank (arrayOf once) ≡ rank a = ap rank (first .array) ∙ transposed-rank ts a (own p) (p .size) in
     let second = transposition-gives G K₂ (rank a) u once out₂ o (first .good) same room₂ in

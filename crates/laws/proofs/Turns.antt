@@ -2,7 +2,7 @@
 use mathlib.Core.Path.{_≡_, refl, sym, ap, _∙_}
 use mathlib.Core.List.{List, [], _∷_}
 use mathlib.Core.Bool.{not}
-use Prim.Native.Nat.{ℕ, _-_, _<_, max}
+use Prim.Native.Nat.{ℕ, _-_, max}
 use native.Mathlib.Omega.{arith}
 use lib.ListN.{length, getD}
 use lib.IntN.{ℤ, pos, negℤ, _+ℤ_, _-ℤ_, +ℤ-assoc, +ℤ-comm}
@@ -14,9 +14,10 @@ use Rattle.meaning.proofs.Arrays.{Whole, form-whole}
 use Rattle.meaning.proofs.Scalars.{vector-rank}
 use Rattle.laws.specs.Words.{IsArray, IsOrigin, IsTurnAxis, IsLong, given, IsSingle}
 use Rattle.laws.specs.Laws.{TwoRotations, TwoReversals, RotationKeeps, ReversalKeeps}
-use Rattle.laws.proofs.Calls.{array-rule, Gives, gives, same-arrays, same-array, as-often, listed, single-lists, lists-array}
+use Rattle.laws.proofs.Calls.{array-rule, Gives, gives, same-arrays, same-array, as-often, single-lists, lists-array}
 use Rattle.laws.proofs.Moves.{alongLines, moved, moved-lengths, moved-ext, moved-id, moved-moved}
 use Rattle.meaning.proofs.Modulo.{modulo-lt, modulo-sum, modulo-back, modulo-forth}
+use Rattle.laws.proofs.Sum.{OneToOne, Below}
 use Rattle.laws.proofs.Permuted.{moved-occurs}
 
 -- What 14 and 25 do to an array.
@@ -30,18 +31,21 @@ module _ (G K : ℤ) (r : Operand) (out : List ℤ) (o : IsOrigin G) (h : IsArra
   reverse-gives : (l : Operand) → IsLong (pos 14) G K l r out → Gives (reply (pos 14) G K l r out) (turned G K (arrayOf r))
   unfolding named primitives eqZ reverse along alongLines moved
   reverse-gives l room =
-      gives (pos 14) G K l r (arrayOf l) (arrayOf r) out refl refl room
-      (record { left = refl; right = h .form; origin = o; limit = array-rule r h; own = (ap not t, tt) })
+      let rule = array-rule r h in
+      gives
+      (record { left-is = refl; right-is = refl; left-form = refl; right-form = h .form; origin = o; room = room; limit = rule; own = (ap not t, tt) })
 
   rotate-gives : (l : Operand) (z : ℤ) → IsSingle l z → IsLong (pos 25) G K l r out → Gives (reply (pos 25) G K l r out) (rotated G K z (arrayOf r))
   unfolding named primitives eqZ rotate along alongLines moved
   rotate-gives l z one room =
       let s = single-lists l z one in
-      gives (pos 25) G K l r (listed l (z ∷ [])) (arrayOf r) out (lists-array l (z ∷ []) s) refl room
-      (record {
-        left = s .form;
-        right = h .form;
+      gives (record {
+        left-is = lists-array l (z ∷ []) s;
+        right-is = refl;
+        left-form = s .form;
+        right-form = h .form;
         origin = o;
+        room = room;
         limit = array-rule r h;
         own = (ap not (s .list), (ap not t, (refl, tt)));
       })
@@ -100,16 +104,18 @@ pub reversal-keeps : ReversalKeeps
 reversal-keeps G K l r out o h t room =
     let g = reverse-gives G K r out o h t l room in
     let n : ℕ = axis (arrayOf r) (fromZero G K) in
-    let back : (q : List ℕ) (i : ℕ) → i < n → (n - 1 - i < n) × (n - 1 - (n - 1 - i) ≡ i) = λ q i l. (omega arith, omega arith) in
-    (g .number, as-often r g (moved-occurs (arrayOf r) (fromZero G K) (λ q i. n - 1 - i) (λ q i. n - 1 - i) (form-whole r (h .form)) back back))
+    let back : OneToOne (Below n) (Below n) (λ i. n - 1 - i) (λ i. n - 1 - i) =
+    record { there = λ i l. omega arith; back = λ i l. omega arith; there-back = λ i l. omega arith; back-there = λ i l. omega arith } in
+    (g .number, as-often r g (moved-occurs (arrayOf r) (fromZero G K) _ _ (form-whole r (h .form)) (λ q. back)))
 
 pub rotation-keeps : RotationKeeps
 rotation-keeps G K z l r out o h t s room =
     let g = rotate-gives G K r out o h t l z s room in
-    let n : ℕ = axis (arrayOf r) (fromZero G K) in (
-      g .number,
-      as-often r g
-          (moved-occurs (arrayOf r) (fromZero G K) _ (λ q i. modulo (pos i +ℤ negℤ z) n) (form-whole r (h .form))
-          (λ q i l. (modulo-lt _ n (omega arith), modulo-back i n z l))
-          (λ q i l. (modulo-lt _ n (omega arith), modulo-forth i n z l))),
-    )
+    let n : ℕ = axis (arrayOf r) (fromZero G K) in
+    let back : OneToOne (Below n) (Below n) (λ i. modulo (pos i +ℤ z) n) (λ i. modulo (pos i +ℤ negℤ z) n) = record {
+      there = λ i l. modulo-lt _ n (omega arith);
+      back = λ i l. modulo-lt _ n (omega arith);
+      there-back = λ i l. modulo-back i n z l;
+      back-there = λ i l. modulo-forth i n z l;
+    } in
+    (g .number, as-often r g (moved-occurs (arrayOf r) (fromZero G K) _ _ (form-whole r (h .form)) (λ q. back)))

@@ -8,7 +8,7 @@ use Rattle.meaning.specs.Array.{Operand, arrayOf}
 use Rattle.meaning.specs.Terms.{rank, axis, fromZero}
 use Rattle.meaning.specs.Reply.{Reply, reply}
 use Rattle.laws.specs.Words.{IsArray, IsOrigin, IsAxis, IsTurnAxis, IsLong, given, Succeeds, Same, Lists, IsSingle}
-use Rattle.laws.specs.Words.{Sends, Transposition, callOf, leftOf, axesOf, sentOn, AsOften}
+use Rattle.laws.specs.Words.{Sends, Transposition, primitiveOf, leftOperandOf, axesOf, sentOn, AsOften}
 
 -- 1. Two rotations along an axis are the one by the sum. (Where the sum fits 32 signed bits an operand can hold it.)
 abbrev pub TwoRotations : Type 0
@@ -48,11 +48,11 @@ TwoTranspositions =
     → IsOrigin G
     → IsArray r
     → Sends G l (sentOn (axesOf t) (axesOf u))
-    → let first : Reply = reply (callOf t) G K₁ (leftOf t) r out₁ in
-    let second : Reply = reply (callOf u) G K₂ (leftOf u) (given first) out₂ in
+    → let first : Reply = reply (primitiveOf t) G K₁ (leftOperandOf t) r out₁ in
+    let second : Reply = reply (primitiveOf u) G K₂ (leftOperandOf u) (given first) out₂ in
     let one : Reply = reply (pos 26) G K l r out in
-    IsLong (callOf t) G K₁ (leftOf t) r out₁
-    → IsLong (callOf u) G K₂ (leftOf u) (given first) out₂
+    IsLong (primitiveOf t) G K₁ (leftOperandOf t) r out₁
+    → IsLong (primitiveOf u) G K₂ (leftOperandOf u) (given first) out₂
     → IsLong (pos 26) G K l r out
     → Succeeds first × Succeeds second × Succeeds one × Same (given second) (given one)
 
@@ -113,5 +113,5 @@ TranspositionKeeps =
     (G K : ℤ) (r : Operand) (t : Transposition G (rank (arrayOf r))) (out : List ℤ)
     → IsOrigin G
     → IsArray r
-    → IsLong (callOf t) G K (leftOf t) r out
-    → Succeeds (reply (callOf t) G K (leftOf t) r out) × AsOften (given (reply (callOf t) G K (leftOf t) r out)) r
+    → IsLong (primitiveOf t) G K (leftOperandOf t) r out
+    → Succeeds (reply (primitiveOf t) G K (leftOperandOf t) r out) × AsOften (given (reply (primitiveOf t) G K (leftOperandOf t) r out)) r

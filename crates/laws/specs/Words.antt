@@ -76,14 +76,14 @@ pub data Transposition (G : ℤ) (r : ℕ) : Type 0 where
 
 module _ {G : ℤ} {r : ℕ} where
   -- The call's number.
-  abbrev pub callOf : Transposition G r → ℤ
-  callOf (by15 l) = pos 15
-  callOf (by26 l ts s p) = pos 26
+  abbrev pub primitiveOf : Transposition G r → ℤ
+  primitiveOf (by15 l) = pos 15
+  primitiveOf (by26 l ts s p) = pos 26
 
   -- Its L.
-  abbrev pub leftOf : Transposition G r → Operand
-  leftOf (by15 l) = l
-  leftOf (by26 l ts s p) = l
+  abbrev pub leftOperandOf : Transposition G r → Operand
+  leftOperandOf (by15 l) = l
+  leftOperandOf (by26 l ts s p) = l
 
   -- Where it sends each axis; 15 sends axis i to rank - 1 - i.
   abbrev pub axesOf : Transposition G r → List ℕ

@@ -56,6 +56,7 @@ pub fn member(g: i32, ls: Shape, l: &[i32], rs: Shape, r: &[i32], out: &mut [i32
 }
 
 // What is written for each element of r, looked for in l: whether l has it, or its first position counted from `first`.
+// The choice is a bool all the way down: an enum in its place took a tenth longer.
 fn put_each(bits: bool, first: usize, l: &[i32], r: &[i32], out: &mut [i32])
     requires { ⌜ Looks first (now l) (now r) (length (now out)) ⌝ }
     ensures { λ _. ⌜ AllEntered bits first (now (l .entry)) (now (r .entry)) (now (out .entry)) (now (out .exit)) ⌝ }

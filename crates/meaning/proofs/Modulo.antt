@@ -23,7 +23,7 @@ modulo-pos m n = refl
 pub modulo-small : (m n : ℕ) → m < n → modulo (pos m) n ≡ m
 modulo-small m n h = modulo-pos m n ∙ mod-eq-of-lt h
 
--- What `amount` answers, for n above 0.
+-- What `signed::modulo` answers, for n above 0.
 pub amount-is : (z : ℤ) (n : ℕ) → 0 < n → cond (eqb n 0) 0 (modulo z n) ≡ modulo z n
 amount-is z n h = rw (ne-eqb n 0 (λ e. omega arith))
 

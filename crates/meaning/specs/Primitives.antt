@@ -4,8 +4,7 @@
 use Prim.Native.Nat.{ℕ, suc, _+_, _-_, _%_, min, max}
 use mathlib.Core.List.{List, [], _∷_, map}
 use mathlib.Core.Bool.{Bool, false, not, cond, _&&_, _||_}
-use lib.ListN.{length, getD, set, replicate}
-use lib.ListN.{take as front}
+use lib.ListN.{length, getD, set, take, replicate}
 use lib.Dec.{eqb, ltb}
 use lib.IntN.{ℤ, pos, natAbs, _+ℤ_, _-ℤ_}
 use Rattle.shape.specs.Place.{index, inside}
@@ -270,7 +269,7 @@ expand G K L R =
       lengths = set (r .lengths) k (length mask);
       element = λ p.
           cond (eqZ (getD mask (getD p k 0) (pos 0)) (pos 1))
-          (along r k (λ i. cond (isScalar R) 0 (length (ones (front i mask)))) p)
+          (along r k (λ i. cond (isScalar R) 0 (length (ones (take i mask)))) p)
           (pos 0);
     }
 

@@ -76,7 +76,7 @@ module _ (p : Place) (s : Shape) where
   successor-outside e = rw (e, and-false (goodShape s), and-false (not (p .end)))
 
 -- The place is not marked and lies in the shape, which is good.
-pub record Stands (p : Place) (s : Shape) : Type 0 where
+pub record LiesIn (p : Place) (s : Shape) : Type 0 where
   pub all-positions : length (p .positions) ≡ maxRank
   pub all-lens : length (s .lens) ≡ maxRank
   pub unmarked : p .end ≡ false
@@ -94,7 +94,7 @@ pub record Carry (p : Place) (s : Shape) (q : List ℕ) (i : ℕ) : Type 0 where
   pub cleared : q ≡ take i (p .positions) ++ replicate (maxRank - i) 0
   pub last : Last (drop i (counted s)) (drop i (take (s .rank) (p .positions)))
 
-module _ (p : Place) (s : Shape) (h : Stands p s) where
+module _ (p : Place) (s : Shape) (h : LiesIn p s) where
   lies-in : In (counted s) (take (s .rank) (p .positions))
   lies-in = inside-in (counted s) (take (s .rank) (p .positions)) (h .lies)
 

@@ -3,7 +3,7 @@ ghost use mathlib.Core.Path.{_≡_};
 ghost use mathlib.Core.Bool.{true, false};
 ghost use mathlib.Core.List.{[], _∷_, _++_};
 ghost use Prim.Native.Nat.{suc, _*_, _-_, _≤_, _<_, min};
-ghost use lib.ListN.{take, set, replicate};
+ghost use lib.ListN.{take, replicate};
 ghost use lib.Seq.{slice};
 ghost use Rattle.shape.specs.Shape.{maxRank, maxCount, counted, goodShape, countOf, shapeOf, madeOf, withLength, withoutAxis, scalar, count};
 ghost use Rattle.shape.specs.Shape.{held, aroundOf};
@@ -244,7 +244,7 @@ impl Place {
         if Shape::MAX_COUNT < s.count() {
             return Place::at_end();
         }
-        if within(self, s) {
+        if inside(self, s) {
             stepped(self, s)
         } else {
             Place::at_end()
@@ -253,7 +253,7 @@ impl Place {
 }
 
 // Whether each position that counts is below its axis's length.
-fn within(p: Place, s: Shape) -> bool
+fn inside(p: Place, s: Shape) -> bool
     requires { ⌜ s .rank ≤ maxRank ⌝ }
     ensures { λ b. ⌜ b ≡ inside (counted s) (take (s .rank) (p .positions)) ⌝ }
 {

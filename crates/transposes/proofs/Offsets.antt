@@ -22,7 +22,7 @@ use Rattle.answer.specs.Answer.{lent}
 use Rattle.transposes.specs.declared.Sent.{Sent}
 use Rattle.transposes.specs.Steps.Strides.{dot, strides, sentStrides, walked, Walk}
 use Rattle.transposes.specs.Steps.Sent.{sentAxes, sentElements, Moves}
-use Rattle.transposes.proofs.Passing.{Passed, length-sent}
+use Rattle.transposes.proofs.Passing.{AxesPassed, length-sent}
 
 index-dot : (ns p : List ℕ) → length p ≡ length ns → index ns p ≡ dot p (strides ns)
 unfolding index dot strides
@@ -109,7 +109,8 @@ module _ (ts ns : List ℕ) (e : length ts ≡ length ns) where
     }
 
 -- What `transpose_into` gives.
-module _ {s : Sent} {shape : Shape} {total : ℕ} {rs : Shape} {r : List ℤ} {room : ℕ} (p : Passed (s .to) rs) (m : Moves s shape total (lent rs r) room) where
+module _ {s : Sent} {shape : Shape} {total : ℕ} {rs : Shape} {r : List ℤ} {room : ℕ} (p : AxesPassed (s .to) rs)
+    (m : Moves s shape total (lent rs r) room) where
   abbrev ts : List ℕ
   ts = sentAxes s rs
 

@@ -23,7 +23,7 @@ use Rattle.transposes.specs.Steps.Strides.{strides, sentStrides}
 use Rattle.transposes.proofs.Choosing.{replicate-at}
 
 -- What both passes know: R's axes as the code holds them.
-pub record Passed (to : List ℕ) (rs : Shape) : Type 0 where
+pub record AxesPassed (to : List ℕ) (rs : Shape) : Type 0 where
   pub high : rs .rank ≤ maxRank
   pub to-long : rs .rank ≤ length to
   pub lens-long : rs .rank ≤ length (rs .lens)
@@ -31,7 +31,7 @@ pub record Passed (to : List ℕ) (rs : Shape) : Type 0 where
   pub rank-is : length (counted rs) ≡ rs .rank
   pub below : (j : ℕ) → j < rs .rank → getD to j 0 < maxRank
 
-pub passed : {s : Sent} {rs : Shape} → length (s .to) ≡ maxRank → length (rs .lens) ≡ maxRank → Transposes s rs → Passed (s .to) rs
+pub passed : {s : Sent} {rs : Shape} → length (s .to) ≡ maxRank → length (rs .lens) ≡ maxRank → Transposes s rs → AxesPassed (s .to) rs
 passed {s} {rs} a b k =
     let h : rs .rank ≤ maxRank = good-rank rs (k .good) in
     let n : length (sentAxes s rs) ≡ rs .rank = length-take-le (rs .rank) (s .to) (omega arith) in
@@ -48,7 +48,7 @@ passed {s} {rs} a b k =
 before : (l : List ℕ) (rank i : ℕ) → 0 < i → i ≤ rank → rank ≤ length l → drop (i - 1) (take rank l) ≡ getD l (i - 1) 0 ∷ drop i (take rank l)
 before l rank i h k n = let e : suc (i - 1) ≡ i = omega arith in rw e at (slice-cons (i - 1) rank l 0 (omega arith) n)
 
-module _ {to : List ℕ} {rs : Shape} (p : Passed to rs) (i : ℕ) (some : 0 < i) (few : i ≤ length (counted rs)) where
+module _ {to : List ℕ} {rs : Shape} (p : AxesPassed to rs) (i : ℕ) (some : 0 < i) (few : i ≤ length (counted rs)) where
   to-next : drop (i - 1) (take (rs .rank) to) ≡ getD to (i - 1) 0 ∷ drop i (take (rs .rank) to)
   to-next = before to (rs .rank) i some (omega (arith, p .rank-is)) (p .to-long)
 
@@ -76,7 +76,7 @@ pub record Shortest (ts ns lens : List ℕ) (i : ℕ) : Type 0 where
   pub long : length lens ≡ maxRank
   pub found : (j : ℕ) → j < maxRank → getD lens j 0 ≡ least (sentTo j (drop i ts) (drop i ns))
 
-pub shortest-none : {to : List ℕ} {rs : Shape} → Passed to rs → Shortest (take (rs .rank) to) (counted rs) (replicate maxRank maxCount) (rs .rank)
+pub shortest-none : {to : List ℕ} {rs : Shape} → AxesPassed to rs → Shortest (take (rs .rank) to) (counted rs) (replicate maxRank maxCount) (rs .rank)
 unfolding least sentTo
 shortest-none {to} {rs} p = record {
   few = omega (arith, p .rank-is);
@@ -85,7 +85,7 @@ shortest-none {to} {rs} p = record {
       getD-replicate maxRank j maxCount 0 l ∙ sym (ap (λ x. least (sentTo j x (drop (rs .rank) (counted rs)))) (slice-empty (rs .rank) to));
 }
 
-module _ {to : List ℕ} {rs : Shape} (p : Passed to rs) {lens : List ℕ} {i : ℕ} (f : Shortest (take (rs .rank) to) (counted rs) lens i) (some : 0 < i) where
+module _ {to : List ℕ} {rs : Shape} (p : AxesPassed to rs) {lens : List ℕ} {i : ℕ} (f : Shortest (take (rs .rank) to) (counted rs) lens i) (some : 0 < i) where
   abbrev t : ℕ
   t = getD to (i - 1) 0
 
@@ -154,7 +154,7 @@ module _ (ts ns : List ℕ) (e : length ts ≡ length ns) (s : small ns ≡ true
       ∙ least-smallest (sentTo j ts ns) (sent-some j l′) (sent-small j)
       ∙ sym (getD-shape ts ns j l′))
 
-pub shape-made : {s : Sent} {rs : Shape} {lens : List ℕ} → Passed (s .to) rs → Transposes s rs → Shortest (sentAxes s rs) (counted rs) lens 0
+pub shape-made : {s : Sent} {rs : Shape} {lens : List ℕ} → AxesPassed (s .to) rs → Transposes s rs → Shortest (sentAxes s rs) (counted rs) lens 0
     → madeOf (s .axes) lens ≡ shapeOf (sentLengths (sentAxes s rs) (counted rs))
 shape-made {s} {rs} {lens} p k f =
     let few : axesTo (sentAxes s rs) ≤ maxRank = omega (arith, k .few, p .high) in
@@ -194,7 +194,7 @@ pub record Summed (to : List ℕ) (rs : Shape) (sums : List ℕ) (step i : ℕ) 
   pub step-is : step ≡ count (drop i (counted rs))
   pub sums-is : sums ≡ sentStrides maxRank (drop i (take (rs .rank) to)) (strides (drop i (counted rs)))
 
-pub summed-none : {to : List ℕ} {rs : Shape} → Passed to rs → Summed to rs (replicate maxRank 0) 1 (rs .rank)
+pub summed-none : {to : List ℕ} {rs : Shape} → AxesPassed to rs → Summed to rs (replicate maxRank 0) 1 (rs .rank)
 unfolding count sentStrides
 summed-none {to} {rs} p = record {
   few = omega (arith, p .rank-is);
@@ -202,7 +202,7 @@ summed-none {to} {rs} p = record {
   sums-is = sym (ap (λ l. sentStrides maxRank l (strides (drop (rs .rank) (counted rs)))) (slice-empty (rs .rank) to));
 }
 
-module _ {to : List ℕ} {rs : Shape} (p : Passed to rs) {sums : List ℕ} {step i : ℕ} (f : Summed to rs sums step i) (some : 0 < i) where
+module _ {to : List ℕ} {rs : Shape} (p : AxesPassed to rs) {sums : List ℕ} {step i : ℕ} (f : Summed to rs sums step i) (some : 0 < i) where
   step-next : step * getD (rs .lens) (i - 1) 0 ≡ count (drop (i - 1) (counted rs))
   unfolding count
   step-next =

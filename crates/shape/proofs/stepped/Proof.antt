@@ -7,7 +7,7 @@ use mir.Val.{Fits}
 use borrow.Author.Needs.{needs}
 use lib.ListN.{getD}
 use Rattle.shape.proofs.Counts.{good-rank}
-use Rattle.shape.proofs.Successor.{Stands, Carry, carry-start, carry-below, carry-on, carry-stop, carry-end}
+use Rattle.shape.proofs.Successor.{LiesIn, Carry, carry-start, carry-below, carry-on, carry-stop, carry-end}
 use Rattle.shape.proofs.stepped.Statement.{statement}
 use Rattle.shape.proofs.stepped.Tie as tie
 
@@ -17,8 +17,8 @@ Inv-loop p s rank q₀ i₀ q i = Carry p s q i
 abbrev μ-loop : tie.MeasureT-loop
 μ-loop p s rank q₀ i₀ q i = i
 
-stands : (c : tie.Start Inv-loop μ-loop) → Stands (c .args .t1) (c .args .t2)
-stands c = record { all-positions = search needs; all-lens = search needs; unmarked = c .pre .0; good = c .pre .1 .0; lies = c .pre .1 .1 }
+lying : (c : tie.Start Inv-loop μ-loop) → LiesIn (c .args .t1) (c .args .t2)
+lying c = record { all-positions = search needs; all-lens = search needs; unmarked = c .pre .0; good = c .pre .1 .0; lies = c .pre .1 .1 }
 
 cleared-requires : tie.Need-cleared-requires Inv-loop μ-loop
 cleared-requires c κs = omega (arith, good-rank (c .before .args .t2) (c .before .pre .1 .0))
@@ -26,35 +26,35 @@ cleared-requires c κs = omega (arith, good-rank (c .before .args .t2) (c .befor
 loop-holds : tie.Need-loop-holds Inv-loop μ-loop
 loop-holds c =
     let st = c .before .before in
-    carry-start (st .args .t1) (st .args .t2) (stands st) (c .cleared .result) (c .cleared .ensures)
+    carry-start (st .args .t1) (st .args .t2) (lying st) (c .cleared .result) (c .cleared .ensures)
 
 add-next : tie.Need-add-next Inv-loop μ-loop
 add-next c =
     let st = c .before .before .before .before .before in
     let lp = c .before .before .loop in
     let f : Fits w64 (getD (st .args .t2 .lens) (lp .i - 1) 0) = search needs in
-    omega (arith, carry-below (st .args .t1) (st .args .t2) (stands st) (lp .q) (lp .i) (lp .i - 1) (omega arith) (lp .inv))
+    omega (arith, carry-below (st .args .t1) (st .args .t2) (lying st) (lp .q) (lp .i) (lp .i - 1) (omega arith) (lp .inv))
 
 returns : tie.Need-returns Inv-loop μ-loop
 returns c =
     let n = c .before .before in
     let lp = n .before .before .loop in
     let st = n .before .before .before .before .before in
-    sym (carry-stop (st .args .t1) (st .args .t2) (stands st) (lp .q) (lp .i) (lp .i - 1) (omega arith) (lp .inv) (omega arith))
+    sym (carry-stop (st .args .t1) (st .args .t2) (lying st) (lp .q) (lp .i) (lp .i - 1) (omega arith) (lp .inv) (omega arith))
 
 loop-again : tie.Need-loop-again Inv-loop μ-loop
 loop-again c =
     let n = c .before .before in
     let lp = n .before .before .loop in
     let st = n .before .before .before .before .before in
-    carry-on (st .args .t1) (st .args .t2) (stands st) (lp .q) (lp .i) (lp .i - 1) (omega arith) (lp .inv) (omega arith)
+    carry-on (st .args .t1) (st .args .t2) (lying st) (lp .q) (lp .i) (lp .i - 1) (omega arith) (lp .inv) (omega arith)
 
 returns-2 : tie.Need-returns-2 Inv-loop μ-loop
 returns-2 c =
     let st = c .before .before .before .before .before in
     let lp = c .before .before .loop in
     let e : lp .i ≡ 0 = omega arith in
-    c .at-end .ensures ∙ sym (carry-end (st .args .t1) (st .args .t2) (stands st) (lp .q) (rw e at (lp .inv)))
+    c .at-end .ensures ∙ sym (carry-end (st .args .t1) (st .args .t2) (lying st) (lp .q) (rw e at (lp .inv)))
 
 pub stepped-spec : {M : Type 1} → statement M
 stepped-spec =

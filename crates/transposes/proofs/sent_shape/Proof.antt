@@ -5,7 +5,7 @@ use lib.ListN.{length, getD}
 use borrow.Author.Needs.{needs}
 use Rattle.shape.specs.Shape.{maxRank, counted}
 use Rattle.transposes.specs.Steps.Sent.{sentAxes}
-use Rattle.transposes.proofs.Passing.{Passed, passed, axis-lt, Shortest, shortest-none, shorter, not-shorter, shape-made}
+use Rattle.transposes.proofs.Passing.{AxesPassed, passed, axis-lt, Shortest, shortest-none, shorter, not-shorter, shape-made}
 use Rattle.transposes.proofs.sent_shape.Statement.{statement}
 use Rattle.transposes.proofs.sent_shape.Tie as tie
 
@@ -15,7 +15,7 @@ Inv-loop sent rs to lens₀ i₀ lens i = Shortest (sentAxes sent rs) (counted r
 abbrev μ-loop : tie.MeasureT-loop
 μ-loop sent rs to lens₀ i₀ lens i = i
 
-known : (c : tie.Start Inv-loop μ-loop) → Passed (c .args .sent .to) (c .args .t2)
+known : (c : tie.Start Inv-loop μ-loop) → AxesPassed (c .args .sent .to) (c .args .t2)
 known c =
     let a : length (c .args .sent .to) ≡ maxRank = search needs in
     let b : length (c .args .t2 .lens) ≡ maxRank = search needs in

@@ -4,7 +4,7 @@ use native.Mathlib.Omega.{arith}
 use lib.ListN.{length, getD}
 use borrow.Author.Needs.{needs}
 use Rattle.shape.specs.Shape.{maxRank, maxCount}
-use Rattle.transposes.proofs.Passing.{Passed, passed, axis-lt, Summed, summed-none, summed-next, step-small, sums-small}
+use Rattle.transposes.proofs.Passing.{AxesPassed, passed, axis-lt, Summed, summed-none, summed-next, step-small, sums-small}
 use Rattle.transposes.proofs.strides.Statement.{statement}
 use Rattle.transposes.proofs.strides.Tie as tie
 
@@ -14,7 +14,7 @@ Inv-loop rs to sums₀ step₀ i₀ sums step i = Summed to rs sums step i
 abbrev μ-loop : tie.MeasureT-loop
 μ-loop rs to sums₀ step₀ i₀ sums step i = i
 
-known : (c : tie.Start Inv-loop μ-loop) → Passed (c .args .sent .to) (c .args .t2)
+known : (c : tie.Start Inv-loop μ-loop) → AxesPassed (c .args .sent .to) (c .args .t2)
 known c =
     let a : length (c .args .sent .to) ≡ maxRank = search needs in
     let b : length (c .args .t2 .lens) ≡ maxRank = search needs in

@@ -5,12 +5,12 @@ use lib.ListN.{length}
 use lib.Seq.{length-take-le}
 use borrow.Author.Needs.{needs}
 use Rattle.shape.specs.Shape.{maxRank}
-use Rattle.transposes.proofs.Passing.{Passed, passed}
+use Rattle.transposes.proofs.Passing.{AxesPassed, passed}
 use Rattle.transposes.proofs.Offsets.{axes-high, into-some, into-none, into-walk, into-all}
 use Rattle.transposes.proofs.transpose_into.Statement.{statement}
 use Rattle.transposes.proofs.transpose_into.Tie as tie
 
-known : (c : tie.Start) → Passed (c .args .sent .to) (c .args .rs)
+known : (c : tie.Start) → AxesPassed (c .args .sent .to) (c .args .rs)
 known c =
     let a : length (c .args .sent .to) ≡ maxRank = search needs in
     let b : length (c .args .rs .lens) ≡ maxRank = search needs in

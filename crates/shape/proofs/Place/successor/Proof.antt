@@ -14,19 +14,19 @@ returns-2 c =
     let a = c .before .before .before .before .args in
     c .at-end2 .ensures ∙ sym (successor-bad (a .self) (a .s) (bad-count (a .s) (omega arith)))
 
-within-requires : tie.Need-within-requires
-within-requires c κs = let s = c .before .before .before .args .s in good-rank s (good-count s (omega arith))
+inside-requires : tie.Need-inside-requires
+inside-requires c κs = let s = c .before .before .before .args .s in good-rank s (good-count s (omega arith))
 
 stepped-requires : tie.Need-stepped-requires
 stepped-requires c κs = (
   c .before .before .before .before .if1 .left,
-  (good-count (c .before .before .before .before .before .args .s) (omega arith), sym (c .before .within .ensures) ∙ c .if3 .taken),
+  (good-count (c .before .before .before .before .before .args .s) (omega arith), sym (c .before .inside .ensures) ∙ c .if3 .taken),
 )
 
 returns-4 : tie.Need-returns-4
 returns-4 c =
     let a = c .before .before .before .before .before .before .args in
-    c .at-end3 .ensures ∙ sym (successor-outside (a .self) (a .s) (sym (c .before .before .within .ensures) ∙ c .before .if3 .left))
+    c .at-end3 .ensures ∙ sym (successor-outside (a .self) (a .s) (sym (c .before .before .inside .ensures) ∙ c .before .if3 .left))
 
 pub successor-spec : {M : Type 1} → statement M
 successor-spec =
@@ -37,7 +37,7 @@ successor-spec =
     (λ c κs. search needs)
     (λ c κs. search needs)
     returns-2
-    within-requires
+    inside-requires
     stepped-requires
     (λ c κs. search needs)
     (λ c. search needs)

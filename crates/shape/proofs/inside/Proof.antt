@@ -7,8 +7,8 @@ use borrow.Author.Needs.{needs}
 use lib.ListN.{length, getD}
 use Rattle.shape.specs.Shape.{maxRank}
 use Rattle.shape.proofs.Successor.{inside-each, inside-not}
-use Rattle.shape.proofs.within.Statement.{statement}
-use Rattle.shape.proofs.within.Tie as tie
+use Rattle.shape.proofs.inside.Statement.{statement}
+use Rattle.shape.proofs.inside.Tie as tie
 
 abbrev Inv-loop : tie.InvT-loop
 Inv-loop p s i₀ i = (i ≤ s .rank) × ((k : ℕ) → k < i → getD (p .positions) k 0 < getD (s .lens) k 0)
@@ -35,8 +35,8 @@ returns-2 c =
     let lp : length (a .t1 .positions) ≡ maxRank = search needs in
     sym (inside-each (a .t2 .lens) (a .t1 .positions) (a .t2 .rank) (omega arith) (omega arith) (rw e at (c .before .loop .inv .1)))
 
-pub within-spec : {M : Type 1} → statement M
-within-spec =
+pub inside-spec : {M : Type 1} → statement M
+inside-spec =
     tie.close
     (tie.spec
     Inv-loop
