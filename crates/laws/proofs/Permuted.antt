@@ -18,7 +18,7 @@ use Rattle.meaning.proofs.Tab.{tab-getD}
 use Rattle.meaning.proofs.Arrays.{Whole, build-ext, build-at}
 use Rattle.laws.specs.Words.{occurs}
 use Rattle.laws.proofs.Moves.{onLine, line-line, alongLines, moved, stays, along-out}
-use Rattle.laws.proofs.Sum.{OneToOne, Below, sum, sum-permuted}
+use Rattle.laws.proofs.Sum.{OneToOne, Below, numbers-add, sum, sum-permuted}
 use Rattle.laws.proofs.Occurs.{occurs-permuted}
 
 ones : (n : ℕ) → sum n (λ i. 1) ≡ n
@@ -55,7 +55,7 @@ module _ (t s : List ℕ) {σ τ : List ℕ → List ℕ} (h : OneToOne (In t) (
 
   -- So the counts agree.
   pub permuted-count : count t ≡ count s
-  permuted-count = sym (ones (count t)) ∙ sum-permuted indices (λ i. 1) ∙ ones (count s)
+  permuted-count = sym (ones (count t)) ∙ sum-permuted numbers-add indices (λ i. 1) ∙ ones (count s)
 
 -- A move that another undoes keeps each number as often.
 pub moved-occurs : (a : Array) (k : ℕ) (f g : List ℕ → ℕ → ℕ) → Whole a
