@@ -1,6 +1,6 @@
 use Prim.Native.Nat.{_+_, _*_, _-_, _≤_, _<_}
 use native.Mathlib.Omega.{arith}
-use mathlib.Core.Path.{_≡_, refl}
+use mathlib.Core.Path.{_≡_}
 use lib.ListN.{length, getD}
 use borrow.Author.Needs.{needs}
 use borrow.Author.Tests.{eqb-true}
@@ -75,7 +75,7 @@ long : (c : tie.At-loop Inv-loop μ-loop) → length (c .loop .out) ≡ length (
 long c =
     let z = placed (c .before) in
     let st = cleared z in
-    cut-long (st .args .r .now) (known st) (z .clear-rows .ensures) (c .loop .i) (c .loop .out) (c .loop .inv .0) (c .loop .inv .1)
+    cut-long (st .args .r .now) (known st) (z .clear-rows .ensures) (c .loop .inv .0) (c .loop .inv .1)
 
 loop-holds : tie.Need-loop-holds Inv-loop μ-loop
 loop-holds c =
@@ -90,8 +90,8 @@ loop-again c =
     let z = entered i in
     let st = cleared z in (
       omega arith,
-      rows-step (st .args .r .now) (known st) (st .pre .0) (λ e. eqb-true _ _ e) (z .clear-rows .ensures) (lp .i) _ _ _ _ _ _ (turn i .0) (lp .inv .1)
-          refl refl refl refl (c .before .copy-run .ensures),
+      rows-step (st .args .r .now) (known st) (st .pre .0) (λ e. eqb-true _ _ e) (z .clear-rows .ensures) (turn i .0) (lp .inv .1)
+          (c .before .copy-run .ensures),
     )
 
 returns : tie.Need-returns Inv-loop μ-loop
@@ -100,7 +100,7 @@ returns c =
     let z = placed (c .before .before) in
     let st = cleared z in
     let all : lp .i ≡ getD (st .args .table .now) 2 0 = omega arith in
-    cut-end (st .args .r .now) (known st) (z .clear-rows .ensures) (lp .i) _ all (lp .inv .1)
+    cut-end (st .args .r .now) (known st) (z .clear-rows .ensures) all (lp .inv .1)
 
 pub cut-rows-spec : {M : Type 1} → statement M
 cut-rows-spec =
