@@ -13,7 +13,8 @@ use Rattle.copying.proofs.Runs.{put-copied}
 use Rattle.copying.proofs.Parts.{filled-on}
 use Rattle.copying.specs.Steps.{filled}
 use Rattle.cuts.specs.Steps.{cutAt, Blank}
-use Rattle.cuts.proofs.Cutting.{Fits, window-fits, lead, from, len, step, block, origin, start, stop, cut-before, cut-after, cut-inside, cut-run, cut-room}
+use Rattle.cuts.proofs.Cutting.{Fits, window-fits, lead, from, len, step, block, origin, start, stop}
+use Rattle.cuts.proofs.Cutting.{cut-before, cut-after, cut-inside, cut-run, cut-room}
 
 module _ {t : List ℕ} (r : List ℤ) {at m : ℕ} (f : Fits t at (length r) m) (ten : length t ≡ 10) where
   -- The zeros before a run in its row, its length, and where the first of them stands in both buffers.

@@ -123,7 +123,8 @@ module _ {r out₀ out₁ out : List ℤ} {outer size from to before after o at 
           let high = after-seam r o (bounds shifts .cut-in) a in
           let more : filled turned at out₁ ≡ filled turned target out₁ =
           filled-on turned at after out₁ (omega (arith, lie .space))
-          (λ i v. low (at + i) (at + i + (from + before)) (omega arith) (omega arith) refl ∙ sym (m .run (at + i) _ (omega arith) (omega arith) (omega arith))) in
+          (λ i v. low (at + i) (at + i + (from + before)) (omega arith) (omega arith) refl
+          ∙ sym (m .run (at + i) _ (omega arith) (omega arith) (omega arith))) in
           put-copied turned target part _ out out₁ last (f .done ∙ more) refl (omega (arith, lie .space)) r (at + before) _ (pos 0) refl
           (omega (arith, lie .source)) (λ i v. high (target + i) (at + before + i) (omega arith) (omega arith) (omega arith)) q
           ∙ ap (λ k. filled turned k out₁) (omega arith)
@@ -137,7 +138,8 @@ module _ {r out₀ out₁ out : List ℤ} {outer size from to before after o at 
           put-copied turned target part _ out out₁ last (f .done ∙ ap (λ k. filled turned k out₁) here) refl (omega (arith, lie .space)) r (at + before) _
           (pos 0) refl (omega (arith, lie .source)) (λ i v. low (target + i) (at + before + i) (omega arith) (omega arith) (omega arith)) q
           ∙ filled-on turned (target + part) (size - part) out₁ (omega (arith, lie .space))
-          (λ i v. high (target + part + i) (at + i) (omega arith) (omega arith) (omega arith) ∙ sym (m .run _ (at + i) (omega arith) (omega arith) (omega arith)))
+          (λ i v. high (target + part + i) (at + i) (omega arith) (omega arith) (omega arith)
+          ∙ sym (m .run _ (at + i) (omega arith) (omega arith) (omega arith)))
           ∙ ap (λ k. filled turned k out₁) (omega arith)
 
 -- After the blocks the buffer is as it was.
