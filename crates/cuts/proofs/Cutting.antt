@@ -3,19 +3,19 @@ use Prim.Native.Nat.{ℕ, _+_, _*_, _-_, _/_, _%_, _≤_, _<_}
 use native.Mathlib.Nat.{mod-lt, le-div-iff-mul-le, mul-le-mul-right, div-add-mod'}
 use native.Mathlib.Omega.{arith}
 use mathlib.Core.Path.{_≡_, refl, sym, ap, ap₂, _∙_}
-use mathlib.Core.List.{List, [], _∷_, _++_}
+use mathlib.Core.List.{List, [], _∷_}
 use mathlib.Core.Bool.{Bool, cond, and-false, _&&_}
 use borrow.Author.Tests.{le-leb, lt-leb, lt-ltb, le-ltb}
 use lib.Arith.{digits-div, digits-mod}
 use lib.Dec.{leb, ltb}
-use lib.ListN.{length, getD, take, drop, take-append-drop, length-drop, drop-of-length-le}
-use lib.Seq.{take-all, getD-take, length-take-le}
+use lib.ListN.{length, getD, take, drop, length-drop, drop-of-length-le}
+use lib.Seq.{take-all}
 use lib.IntN.{ℤ, pos}
 use Rattle.shape.proofs.Places.{row-in, row-fits}
 use Rattle.meaning.specs.Array.{tab}
 use Rattle.meaning.proofs.Tab.{length-tab, getD-tab}
 use Rattle.copying.specs.Runs.{copied}
-use Rattle.copying.proofs.Runs.{length-filled, filled-whole, tab-is, put-list, put-copied}
+use Rattle.copying.proofs.Runs.{filled-none, length-filled, filled-whole, put-list, put-copied}
 use Rattle.copying.proofs.Parts.{filled-on, part-room}
 use Rattle.copying.specs.Steps.{filled}
 use borrow.Rule.Slice.PartMut.{putMid}
@@ -152,25 +152,22 @@ module _ {t : List ℕ} (r : List ℤ) {at m : ℕ} (f : Fits t at (length r) m)
 
     zeros-first : out₀ ≡ filled g (start t) out₀
     zeros-first =
-        sym (take-append-drop (start t) out₀)
-        ∙ ap (λ x. x ++ drop (start t) out₀)
-        (tab-is (take (start t) out₀) (pos 0) (start t) g (length-take-le (start t) out₀ (omega (arith, f .room, z .long)))
-        (λ i l. cut-before t r at i (f .five) l ∙ sym (getD-take (start t) out₀ i (pos 0) l ∙ z .before i l)))
+        filled-none g out₀
+        ∙ filled-on g 0 (start t) out₀ (omega (arith, f .room, z .long))
+        (λ i l. cut-before t r at (0 + i) (f .five) (omega arith) ∙ sym (z .before (0 + i) (omega arith)))
+        ∙ ap (λ n. filled g n out₀) (omega arith)
 
     zeros-last : filled g (stop t) out₀ ≡ tab m g
     zeros-last =
         let room : stop t ≤ m = omega (arith, f .room) in
-        let all : stop t + (m - stop t) ≡ m = omega arith in
         filled-on g (stop t) (m - stop t) out₀ (omega (arith, z .long))
         (λ i l. cut-after t r at (stop t + i) (f .five) (f .some) (omega arith) ∙ sym (z .after (stop t + i) (omega arith) (omega arith)))
         ∙ filled-whole g (stop t + (m - stop t)) out₀ (omega (arith, z .long))
-        ∙ ap (λ k. tab k g) all
+        ∙ ap (λ k. tab k g) (omega arith)
 
     -- Before position 0 and after the last.
     pub cut-begin : out₀ ≡ filled g (start t + 0 * block t) out₀
-    cut-begin =
-        let same : start t ≡ start t + 0 * block t = omega arith in
-        zeros-first ∙ ap (λ n. filled g n out₀) same
+    cut-begin = zeros-first ∙ ap (λ n. filled g n out₀) (omega arith)
 
     pub cut-end : {i : ℕ} {out : List ℤ} → i ≡ len t → out ≡ filled g (start t + i * block t) out₀ → out ≡ tab m g
     cut-end e o = o ∙ ap (λ n. filled g (start t + n * block t) out₀) e ∙ zeros-last
@@ -210,7 +207,6 @@ module _ {t : List ℕ} (r : List ℤ) {at m : ℕ} (f : Fits t at (length r) m)
       cut-step {last} q =
           let inner : last ≡ tab (block t) (cutAt (drop 5 t) r (origin t at + i * step t)) =
           q ∙ ap₂ (λ x y. tab x (cutAt y r (origin t at + i * step t))) part-wide (later-is t) in
-          let next : here + block t ≡ start t + (i + 1) * block t = omega arith in
           put-list g (pos 0) here (block t) _ out out₀ last o refl (ap length inner ∙ length-tab (block t) _)
           (λ k s. cut-inside t r at i k (f .five) h s ∙ sym (ap (λ ys. getD ys k (pos 0)) inner ∙ getD-tab (block t) _ k (pos 0) s))
-          ∙ ap (λ x. filled g x out₀) next
+          ∙ ap (λ x. filled g x out₀) (omega arith)

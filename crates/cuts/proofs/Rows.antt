@@ -17,25 +17,18 @@ use Rattle.cuts.proofs.Cutting.{Fits, window-fits, lead, from, len, ste
 use Rattle.cuts.proofs.Cutting.{cut-before, cut-after, cut-inside, cut-run, cut-room}
 
 module _ {t : List ℕ} (r : List ℤ) {at m : ℕ} (f : Fits t at (length r) m) (ten : length t ≡ 10) where
-  -- The zeros before a run in its row, its length, and where the first of them stands in both buffers.
-  abbrev pub skip : ℕ
+  -- The zeros before a run in its row, its length, and where the run of row i stands in both buffers.
+  abbrev skip : ℕ
   skip = getD t 5 0 * getD t 9 0
 
-  abbrev pub width : ℕ
+  abbrev width : ℕ
   width = getD t 7 0 * getD t 9 0
 
-  abbrev pub front : ℕ
-  front = start t + getD t 5 0 * getD t 9 0
-
-  abbrev pub first : ℕ
-  first = origin t at + getD t 6 0 * getD t 9 0
-
-  -- Where the run of row i stands in both.
   abbrev source : ℕ → ℕ
-  source i = first + i * step t
+  source i = origin t at + getD t 6 0 * getD t 9 0 + i * step t
 
   abbrev target : ℕ → ℕ
-  target i = front + i * block t
+  target i = start t + skip + i * block t
 
   inner : (i : ℕ) → i < len t → Fits (drop 5 t) (at + (from t + i) * step t) (length r) (block t)
   inner i h = window-fits _ _ _ _ (f .rest (omega (arith, ten)) i h)
@@ -109,12 +102,10 @@ module _ {t : List ℕ} (r : List ℤ) {at m : ℕ} (f : Fits t at (length r) m)
         let room = cut-room r f i h .0 in
         let fit = row-room in
         let rest : ℕ = block t - (skip + width) in
-        let at-front : start t + i * block t + skip ≡ target i = omega arith in
         let before : filled g (start t + i * block t) out₀ ≡ filled g (target i) out₀ =
         filled-on g (start t + i * block t) skip out₀ (omega (arith, z .long))
         (λ k l. row-before i k h l ∙ sym (blank-row (start t + i * block t + k) (omega arith) (λ e. omega arith)))
-        ∙ ap (λ n. filled g n out₀) at-front in
-        let next : target i + width + rest ≡ start t + (i + 1) * block t = omega arith in
+        ∙ ap (λ n. filled g n out₀) (omega arith) in
         let place : (k : ℕ) → target i + width + k ≡ start t + i * block t + (skip + width + k) = λ k. omega arith in
         put-copied g (target i) width _ out out₀ _ (o ∙ before) refl (omega (arith, z .long)) r (source i) _ (pos 0) refl (row-reads i h)
         (λ k l. row-run i k h l) q
@@ -123,4 +114,4 @@ module _ {t : List ℕ} (r : List ℤ) {at m : ℕ} (f : Fits t at (length r) m)
         ap g (place k)
         ∙ row-after i (skip + width + k) h (omega arith) (omega arith)
         ∙ sym (blank-row (target i + width + k) (omega arith) (λ e. omega arith)))
-        ∙ ap (λ n. filled g n out₀) next
+        ∙ ap (λ n. filled g n out₀) (omega arith)

@@ -37,9 +37,7 @@ abbrev tabled : tie.After-table → tie.After-cut-axes
 tabled c = c .before .before .before
 
 cut-requires : tie.Need-cut-requires
-cut-requires c κs =
-    let t = c .before .before in
-    fill-fits (known (tabled t)) _ (t .before .table-of .ensures) (omega arith)
+cut-requires c κs = let t = c .before .before in fill-fits (known (tabled t)) _ (t .before .table-of .ensures) (omega arith)
 
 returns-4 : tie.Need-returns-4
 returns-4 c =
