@@ -1,5 +1,5 @@
 -- A result's elements by the windows up to the last axis that is not taken whole.
-use Prim.Native.Nat.{ℕ, zero, suc, _*_, _-_, _≤_, _<_}
+use Prim.Native.Nat.{ℕ, suc, _+_, _*_, _-_, _≤_, _<_}
 use native.Mathlib.Nat.{sub-zero, zero-add}
 use native.Mathlib.Omega.{arith}
 use mathlib.Core.Path.{_≡_, refl, sym, ap, ap₂, _∙_}
@@ -74,14 +74,12 @@ module _ {kind : CutKind} {rank : ℕ} {lens result : List ℕ} {l r out : List 
     front = ap (λ k. take k table) (sub-zero (u * 5)) ∙ sym (take-take (u * 5) (rank * 5) table (omega (arith, f .below))) ∙ ap (take (u * 5)) t
 
     pub fill-fits : 0 < u → Fitting (take (u * 5 - 0) table) 0 (length r) (length out)
-    fill-fits b = by u b (omega (arith, f .below, length-take-le rank lens (omega (arith, p .high, f .long)))) tail-is front
-      where
-        by : (v : ℕ) → 0 < v → v ≤ length ns → drop v ns ≡ drop v (cutLengths kind zs ns) → take (u * 5 - 0) table ≡ take (v * 5) (tableOf kind zs ns)
-            → Fitting (take (u * 5 - 0) table) 0 (length r) (length out)
-        by zero v w x y = absurd (omega arith)
-        by (suc v) z w x y =
-            let n = front-some in
-            rw (y, p .result) (table-fits kind v zs ns 0 same w (n .result) (n .some) (omega (arith, p .source)) x)
+    fill-fits b =
+        let e : suc (u - 1) ≡ u = omega arith in
+        let w : u ≤ length ns = omega (arith, f .below, length-take-le rank lens (omega (arith, p .high, f .long))) in
+        let room : 0 + count ns ≤ length r = omega (arith, p .source) in
+        let n = front-some in
+        rw (front, p .result) (rw e at (table-fits kind (u - 1) zs ns 0 same (omega arith) (n .result) (n .some) room (rw e tail-is)))
 
     pub fill-cut : {last : List ℤ} → last ≡ tab (length out) (cutAt (take (u * 5 - 0) table) r 0) → last ≡ tab (length out) (cutAt (tableOf kind zs ns) r 0)
     fill-cut q =
