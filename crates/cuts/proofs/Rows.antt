@@ -16,6 +16,12 @@ use Rattle.cuts.specs.Steps.{cutAt, Blank}
 use Rattle.cuts.proofs.Cutting.{Fits, window-fits, lead, from, len, step, block, origin, start, stop}
 use Rattle.cuts.proofs.Cutting.{cut-before, cut-after, cut-inside, cut-run, cut-room}
 
+-- The run of row i lies in the row, and both in their buffers.
+abbrev pub Lies : List ℕ → ℕ → ℕ → ℕ → ℕ → Type 0
+Lies t at n m i =
+    (getD t 5 0 * getD t 9 0 + getD t 7 0 * getD t 9 0 ≤ block t)
+    × ((origin t at + getD t 6 0 * getD t 9 0 + i * step t + getD t 7 0 * getD t 9 0 ≤ n) × (start t + i * block t + block t ≤ m))
+
 module _ {t : List ℕ} (r : List ℤ) {at m : ℕ} (f : Fits t at (length r) m) (ten : length t ≡ 10) where
   -- The zeros before a run in its row, its length, and where the run of row i stands in both buffers.
   abbrev skip : ℕ
@@ -54,14 +60,16 @@ module _ {t : List ℕ} (r : List ℤ) {at m : ℕ} (f : Fits t at (length r) m)
   from-wide : from (drop 5 t) * step (drop 5 t) ≡ getD t 6 0 * getD t 9 0
   from-wide = ap₂ (λ x y. x * y) (second 1) (second 3 ∙ even)
 
-  pub row-room : skip + width ≤ block t
+  row-room : skip + width ≤ block t
   row-room = omega (arith, inner 0 (f .more) .room, zeros-wide, run-wide)
 
-  -- Row i lies in r.
-  pub row-reads : (i : ℕ) → i < len t → source i + width ≤ length r
+  row-reads : (i : ℕ) → i < len t → source i + width ≤ length r
   row-reads i h = omega (arith, inner i h .inner, from-wide, run-reads)
 
-  -- What it holds.
+  pub row-lies : (i : ℕ) → i < len t → Lies t at (length r) m i
+  row-lies i h = (row-room, (row-reads i h, cut-room r f i h .0))
+
+  -- What row i holds.
   row-run : (i k : ℕ) → i < len t → k < width → cutAt t r at (target i + k) ≡ getD r (source i + k) (pos 0)
   row-run i k h l =
       let there : target i + k ≡ lead t * block t + i * block t + (lead (drop 5 t) * block (drop 5 t) + k) = omega (arith, zeros-wide) in
