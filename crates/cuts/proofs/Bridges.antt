@@ -87,18 +87,16 @@ taken-cut (z ∷ zs) [] xs at j l h = absurd (omega arith)
 taken-cut (z ∷ zs) (n ∷ ns) xs at j l h =
     let c : ℕ = count (cutLengths Take zs ns) in
     let r = row-in (natAbs z) c j h in
-    by-test z n zs ns xs at (j / c) (place (cutLengths Take zs ns) (j % c)) _ (r .1)
-    (λ b. taken-cut zs ns xs b (j % c) (omega arith) (mod-lt j (r .0))) (seen Take z n (j / c)) refl
+    by (j / c) _ _ (r .1) (taken-cut zs ns xs _ (j % c) (omega arith) (mod-lt j (r .0))) (seen Take z n (j / c)) refl
   where
-    by-test : (z : ℤ) (n : ℕ) (zs : List ℤ) (ns : List ℕ) (xs : List ℤ) (at i : ℕ) (p : List ℕ) (rest : ℕ → ℤ) → i < natAbs z
-        → ((b : ℕ) → atOr ns xs b (takenPlace zs ns p) ≡ rest b) → (t : Bool) → seen Take z n i ≡ t
-        → atOr (n ∷ ns) xs at (takenFrom z n i ∷ takenPlace zs ns p) ≡ cond t (rest (at + seenAt Take z n i * count ns)) (pos 0)
-    by-test z n zs ns xs at i p rest h more true s =
-        let w = taken-in z n i h s in
+    by : (i : ℕ) (p : List ℕ) (rest : ℤ) → i < natAbs z → atOr ns xs (at + seenAt Take z n i * count ns) (takenPlace zs ns p) ≡ rest
+        → (b : Bool) → seen Take z n i ≡ b → atOr (n ∷ ns) xs at (takenFrom z n i ∷ takenPlace zs ns p) ≡ cond b rest (pos 0)
+    by i p rest k more true s =
+        let w = taken-in z n i k s in
         let to : (x : ℕ) → at + (seenAt Take z n i * count ns + x) ≡ at + seenAt Take z n i * count ns + x = λ x. omega arith in
-        rw (w .0, lt-ltb (seenAt Take z n i) n (w .1), to) (more (at + seenAt Take z n i * count ns))
-    by-test z n zs ns xs at i p rest h more false s =
-        rw (outside (not (negative (takenFrom z n i))) _ (ltb (natAbs (takenFrom z n i)) n) _ (taken-out z n i h s))
+        rw (w .0, lt-ltb (seenAt Take z n i) n (w .1), to) more
+    by i p rest k more false s =
+        rw (outside (not (negative (takenFrom z n i))) _ (ltb (natAbs (takenFrom z n i)) n) _ (taken-out z n i k s))
 
 pub dropped-cut : (zs : List ℤ) (ns : List ℕ) (xs : List ℤ) (at j : ℕ) → length zs ≡ length ns → j < count (cutLengths Drop zs ns)
     → getD xs (at + index ns (droppedPlace zs (place (cutLengths Drop zs ns) j))) (pos 0) ≡ cutAt (tableOf Drop zs ns) xs at j

@@ -56,44 +56,57 @@ lengths-drop kind (suc k) [] (n ∷ ns) l = absurd (omega arith)
 lengths-drop kind (suc k) (z ∷ zs) [] l = absurd (omega arith)
 lengths-drop kind (suc k) (z ∷ zs) (n ∷ ns) l = lengths-drop kind k zs ns (omega arith)
 
--- The lengths of the result's shape, as they are found axis by axis: the first i of n, and zeros.
-abbrev pub lengthsTo : CutKind → ℕ → List ℕ → List ℤ → ℕ → List ℕ
-lengthsTo kind n lens l i = take i (cutLengths kind (take n l) (take n lens)) ++ replicate (maxRank - i) 0
+-- What the loop has found of the result's lengths when it comes to axis i: the first i of n, and zeros.
+pub record Lengths (kind : CutKind) (rank : ℕ) (lens : List ℕ) (l : List ℤ) (n : ℕ) (xs : List ℕ) (i : ℕ) : Type 0 where
+  pub enough : rank ≤ length l
+  pub long : length lens ≡ maxRank
+  pub all : n ≡ min rank maxRank
+  pub some : i ≤ n
+  pub done : xs ≡ take i (cutLengths kind (take n l) (take n lens)) ++ replicate (maxRank - i) 0
 
-module _ (kind : CutKind) (r : ℕ) (lens : List ℕ) (l : List ℤ) (a : r ≤ length l) (long : length lens ≡ maxRank) (n : ℕ) (q : n ≡ min r maxRank) where
+module _ {kind : CutKind} {rank : ℕ} {lens : List ℕ} {l : List ℤ} {n : ℕ} {xs : List ℕ} {i : ℕ} (b : Lengths kind rank lens l n xs i) where
   abbrev ms : List ℕ
   ms = cutLengths kind (take n l) (take n lens)
 
   zs-long : length (take n l) ≡ n
-  zs-long = length-take-le n l (omega arith)
+  zs-long = length-take-le n l (omega (arith, b .all, b .enough))
 
   ns-long : length (take n lens) ≡ n
-  ns-long = length-take-le n lens (omega arith)
+  ns-long = length-take-le n lens (omega (arith, b .all, b .long))
 
   ms-long : length ms ≡ n
   ms-long = lengths-long kind (take n l) (take n lens) (zs-long ∙ sym ns-long) ∙ ns-long
 
-  pub lengths-more : (i v : ℕ) (xs : List ℕ) → i < n → xs ≡ lengthsTo kind n lens l i → v ≡ cutLength kind (getD l i (pos 0)) (getD lens i 0)
-      → set xs i v ≡ lengthsTo kind n lens l (i + 1)
-  lengths-more i v xs h e f =
+  pub lengths-more : (v : ℕ) → i < n → v ≡ cutLength kind (getD l i (pos 0)) (getD lens i 0) → Lengths kind rank lens l n (set xs i v) (i + 1)
+  lengths-more v h f =
       let here : getD ms i 0 ≡ v =
       lengths-at kind (take n l) (take n lens) i (rw zs-long h) (rw ns-long h)
       ∙ ap₂ (cutLength kind) (getD-take n l i (pos 0) h) (getD-take n lens i 0 h)
       ∙ sym f in
-      rw (e, ← here) (padded-more ms maxRank i (omega (arith, ms-long)) (omega arith))
+      record {
+        enough = b .enough;
+        long = b .long;
+        all = b .all;
+        some = omega arith;
+        done = rw (b .done, ← here) (padded-more ms maxRank i (omega (arith, ms-long)) (omega (arith, b .all)));
+      }
 
-  pub lengths-all : (i : ℕ) (xs : List ℕ) → i ≡ n → xs ≡ lengthsTo kind n lens l i → CutShape kind r lens l (record { rank = r; lens = xs })
-  lengths-all i xs e f =
+  pub lengths-all : n ≤ i → CutShape kind rank lens l (record { rank = rank; lens = xs })
+  lengths-all h =
+      let e : i ≡ n = omega (arith, b .some) in
       let whole : _≡_ {A = Shape} (record { rank = n; lens = xs }) (shapeOf ms) =
-      ap₂ (λ x y. record { rank = x; lens = y }) (sym ms-long) (f ∙ rw (e, take-all n ms (omega (arith, ms-long)), ms-long)) in
-      record { rank-is = refl; made = λ h. let same : n ≡ r = omega arith in rw same at whole }
+      ap₂ (λ x y. record { rank = x; lens = y }) (sym ms-long) (b .done ∙ rw (e, take-all n ms (omega (arith, ms-long)), ms-long)) in
+      record { rank-is = refl; made = λ h. let same : n ≡ rank = omega (arith, b .all) in rw same at whole }
 
 -- Two lists of lengths that are the same from one axis on are so from the axis before it, if that is the same.
-pub same-more : (lens result : List ℕ) (rank k i : ℕ) → i ≡ suc k → k < rank → rank ≤ length lens → rank ≤ length result
-    → drop i (take rank lens) ≡ drop i (take rank result) → getD lens k 0 ≡ getD result k 0 → drop k (take rank lens) ≡ drop k (take rank result)
-same-more lens result rank k i e h a b s q =
-    let s′ : drop (suc k) (take rank lens) ≡ drop (suc k) (take rank result) = rw e at s in
-    slice-cons k rank lens 0 h a ∙ ap₂ (λ x xs. x ∷ xs) q s′ ∙ sym (slice-cons k rank result 0 h b)
+pub same-more : (lens result : List ℕ) {rank i : ℕ} → 0 < i → i ≤ rank → rank ≤ length lens → rank ≤ length result
+    → drop i (take rank lens) ≡ drop i (take rank result) → getD lens (i - 1) 0 ≡ getD result (i - 1) 0
+    → drop (i - 1) (take rank lens) ≡ drop (i - 1) (take rank result)
+same-more lens result {rank} {i} p h a b s q =
+    let k : ℕ = i - 1 in
+    let e : suc k ≡ i = omega arith in
+    let s′ : drop (suc k) (take rank lens) ≡ drop (suc k) (take rank result) = rw e s in
+    slice-cons k rank lens 0 (omega arith) a ∙ ap₂ (λ x xs. x ∷ xs) q s′ ∙ sym (slice-cons k rank result 0 (omega arith) b)
 
 -- A part of a front.
 drop-take : {A : Type 0} (p n : ℕ) (xs : List A) → drop p (take n xs) ≡ take (n - p) (drop p xs)

@@ -3,20 +3,20 @@ use Prim.Native.Nat.{ℕ, _+_, _*_, _-_, _/_, _%_, _≤_, _<_}
 use native.Mathlib.Nat.{mod-lt, le-div-iff-mul-le, mul-le-mul-right, div-add-mod'}
 use native.Mathlib.Omega.{arith}
 use mathlib.Core.Path.{_≡_, refl, sym, ap, ap₂, _∙_}
-use mathlib.Core.List.{List, [], _∷_, _++_, append-assoc}
+use mathlib.Core.List.{List, [], _∷_}
 use mathlib.Core.Bool.{Bool, cond, and-false, _&&_}
 use borrow.Author.Tests.{le-leb, lt-leb, lt-ltb, le-ltb}
 use lib.Arith.{digits-div, digits-mod}
 use lib.Dec.{leb, ltb}
-use lib.ListN.{length, getD, take, drop, take-append-drop, length-drop, drop-of-length-le}
-use lib.Seq.{take-all, getD-take, getD-drop, length-take-le, drop-drop}
+use lib.ListN.{length, getD, take, drop, length-drop, drop-of-length-le}
+use lib.Seq.{take-all}
 use lib.IntN.{ℤ, pos}
 use Rattle.shape.proofs.Places.{row-in, row-fits}
 use Rattle.meaning.specs.Array.{tab}
-use Rattle.meaning.proofs.Tab.{length-tab, getD-tab, tab-add}
+use Rattle.meaning.proofs.Tab.{length-tab, getD-tab}
 use Rattle.copying.specs.Runs.{copied}
-use Rattle.copying.proofs.Runs.{length-filled, filled-whole, tab-is, put-list, put-copied, part-length}
-use Rattle.copying.proofs.Parts.{filled-on}
+use Rattle.copying.proofs.Runs.{filled-none, length-filled, filled-whole, put-list, put-copied}
+use Rattle.copying.proofs.Parts.{filled-on, part-room}
 use Rattle.copying.specs.Steps.{filled}
 use borrow.Rule.Slice.PartMut.{putMid}
 use Rattle.cuts.specs.Steps.{cutAt, Fitting, Blank}
@@ -37,12 +37,25 @@ step t = getD t 3 0
 abbrev pub block : List ℕ → ℕ
 block t = getD t 4 0
 
--- Where it begins and ends in the result.
+-- Where it begins in an operand that is looked at from `at` on, and where it begins and ends in the result.
+abbrev pub origin : List ℕ → ℕ → ℕ
+origin t at = at + from t * step t
+
 abbrev pub start : List ℕ → ℕ
 start t = lead t * block t
 
 abbrev pub stop : List ℕ → ℕ
 stop t = lead t * block t + len t * block t
+
+-- The windows after it, as they are handed on.
+abbrev pub later : List ℕ → List ℕ
+later t = take (length t - 5) (drop 5 t)
+
+later-is : (t : List ℕ) → later t ≡ drop 5 t
+later-is t = take-all (length t - 5) (drop 5 t) (rw length-drop (omega arith))
+
+pub later-long : (t : List ℕ) → length (later t) ≡ length t - 5
+later-long t = ap length (later-is t) ∙ length-drop 5 t
 
 pub record Fits (t : List ℕ) (at n m : ℕ) : Type 0 where
   pub five : 5 ≤ length t
@@ -55,7 +68,7 @@ pub record Fits (t : List ℕ) (at n m : ℕ) : Type 0 where
 
 -- Position i of the window lies in both buffers.
 abbrev pub Reaches : List ℕ → ℕ → ℕ → ℕ → ℕ → Type 0
-Reaches t at n m i = (lead t * block t + i * block t + block t ≤ m) × (at + from t * step t + i * step t ≤ n)
+Reaches t at n m i = (start t + i * block t + block t ≤ m) × (origin t at + i * step t ≤ n)
 
 pub window-fits : (t : List ℕ) (at n m : ℕ) → Fitting t at n m → Fits t at n m
 window-fits [] at n m h = absurd h
@@ -127,77 +140,73 @@ module _ {t : List ℕ} (r : List ℤ) {at m : ℕ} (f : Fits t at (length r) m)
     omega (arith, f .inner, mul-le-mul-right {m = i} {n = len t} (step t) (omega arith)),
   )
 
-  -- The later windows fit its part.
-  pub cut-rest : 5 < length t → (i : ℕ) → i < len t → (t′ : List ℕ) (to k : ℕ) → t′ ≡ drop 5 t → to ≡ at + from t * step t + i * step t → k ≡ block t
-      → Fitting t′ to (length r) k
-  cut-rest l i h t′ to k et e ek =
-      let there : to ≡ at + (from t + i) * step t = omega arith in
-      rw (et, there, ek) (f .rest l i h)
-
   module _ {whole : Bool} {out₀ : List ℤ} (z : Blank whole (start t) (stop t) m out₀) where
     abbrev g : ℕ → ℤ
     g = cutAt t r at
 
-    pub cut-long : (i : ℕ) (out : List ℤ) → i ≤ len t → out ≡ filled g (start t + i * block t) out₀ → length out ≡ m
-    cut-long i out h o =
+    pub cut-long : {i : ℕ} {out : List ℤ} → i ≤ len t → out ≡ filled g (start t + i * block t) out₀ → length out ≡ m
+    cut-long {i} h o =
         ap length o
         ∙ length-filled g (start t + i * block t) out₀ (omega (arith, f .room, z .long, mul-le-mul-right {m = i} {n = len t} (block t) h))
         ∙ z .long
 
     zeros-first : out₀ ≡ filled g (start t) out₀
     zeros-first =
-        sym (take-append-drop (start t) out₀)
-        ∙ ap (λ x. x ++ drop (start t) out₀)
-        (tab-is (take (start t) out₀) (pos 0) (start t) g (length-take-le (start t) out₀ (omega (arith, f .room, z .long)))
-        (λ i l. cut-before t r at i (f .five) l ∙ sym (getD-take (start t) out₀ i (pos 0) l ∙ z .before i l)))
+        filled-none g out₀
+        ∙ filled-on g 0 (start t) out₀ (omega (arith, f .room, z .long))
+        (λ i l. cut-before t r at (0 + i) (f .five) (omega arith) ∙ sym (z .before (0 + i) (omega arith)))
+        ∙ ap (λ n. filled g n out₀) (omega arith)
 
     zeros-last : filled g (stop t) out₀ ≡ tab m g
     zeros-last =
         let room : stop t ≤ m = omega (arith, f .room) in
-        let all : stop t + (m - stop t) ≡ m = omega arith in
         filled-on g (stop t) (m - stop t) out₀ (omega (arith, z .long))
         (λ i l. cut-after t r at (stop t + i) (f .five) (f .some) (omega arith) ∙ sym (z .after (stop t + i) (omega arith) (omega arith)))
         ∙ filled-whole g (stop t + (m - stop t)) out₀ (omega (arith, z .long))
-        ∙ ap (λ k. tab k g) all
+        ∙ ap (λ k. tab k g) (omega arith)
 
     -- Before position 0 and after the last.
     pub cut-begin : out₀ ≡ filled g (start t + 0 * block t) out₀
-    cut-begin =
-        let same : start t ≡ start t + 0 * block t = omega arith in
-        zeros-first ∙ ap (λ n. filled g n out₀) same
+    cut-begin = zeros-first ∙ ap (λ n. filled g n out₀) (omega arith)
 
-    pub cut-end : (i : ℕ) (out : List ℤ) → i ≡ len t → out ≡ filled g (start t + i * block t) out₀ → out ≡ tab m g
-    cut-end i out e o = o ∙ ap (λ n. filled g (start t + n * block t) out₀) e ∙ zeros-last
+    pub cut-end : {i : ℕ} {out : List ℤ} → i ≡ len t → out ≡ filled g (start t + i * block t) out₀ → out ≡ tab m g
+    cut-end e o = o ∙ ap (λ n. filled g (start t + n * block t) out₀) e ∙ zeros-last
 
     -- The last window.
-    pub cut-last : length t ≡ 5 → (first to : ℕ) (last : List ℤ) → first ≡ at + from t * step t → to ≡ first + len t * step t
-        → last ≡ copied (take (to - first) (drop first r)) (take (stop t - start t) (drop (start t) out₀))
+    pub cut-last : {last : List ℤ} → length t ≡ 5
+        → last ≡ copied (take (origin t at + len t * step t - origin t at) (drop (origin t at) r)) (take (stop t - start t) (drop (start t) out₀))
         → putMid (start t) (stop t - start t) out₀ last ≡ tab m g
-    cut-last l first to last e k q =
+    cut-last l q =
         let same : step t ≡ block t = f .last l in
         let wide : len t * step t ≡ len t * block t = ap (λ x. len t * x) same in
         let room : stop t ≤ length out₀ = omega (arith, f .room, z .long) in
-        put-copied g (start t) (len t * block t) (stop t) out₀ out₀ last zeros-first refl room r first to (pos 0) (omega arith) (omega (arith, f .inner))
-        (λ i h. cut-run t r at i l (f .some) same h ∙ ap (λ x. getD r (x + i) (pos 0)) (sym e))
+        put-copied g (start t) (len t * block t) (stop t) out₀ out₀ _ zeros-first refl room r (origin t at) _ (pos 0) (omega arith) (omega (arith, f .inner))
+        (λ i h. cut-run t r at i l (f .some) same h)
         q
         ∙ zeros-last
 
     -- A window before it: the part of position i.
-    pub cut-step : 5 < length t → (i a b to : ℕ) (t′ : List ℕ) (out last : List ℤ) → i < len t → out ≡ filled g (start t + i * block t) out₀
-        → a ≡ start t + i * block t → b ≡ a + block t → t′ ≡ drop 5 t → to ≡ at + from t * step t + i * step t
-        → last ≡ tab (length (take (b - a) (drop a out))) (cutAt t′ r to)
-        → putMid a (b - a) out last ≡ filled g (start t + (i + 1) * block t) out₀
-    cut-step l i a b to t′ out last h o ea eb et e q =
-        let o′ : out ≡ filled g a out₀ = o ∙ ap (λ x. filled g x out₀) (sym ea) in
-        let room : b ≤ length out₀ = omega (arith, f .room, z .long, row-fits i (len t) (block t) (omega arith)) in
-        let part : length (take (b - a) (drop a out)) ≡ block t = part-length out (tab a g) out₀ a b o′ (length-tab a g) (omega arith) room ∙ omega arith in
-        let inner : last ≡ tab (block t) (cutAt (drop 5 t) r (at + from t * step t + i * step t)) =
-        q ∙ ap₂ (λ x y. tab x (cutAt t′ r y)) part e ∙ ap (λ x. tab (block t) (cutAt x r (at + from t * step t + i * step t))) et in
-        let next : a + block t ≡ start t + (i + 1) * block t = omega arith in
-        put-list g (pos 0) a (block t) b out out₀ last o′ eb (ap length inner ∙ length-tab (block t) _)
-        (λ k s. ap (λ x. g (x + k)) ea ∙ cut-inside t r at i k (f .five) h s ∙ sym (ap (λ ys. getD ys k (pos 0)) inner ∙ getD-tab (block t) _ k (pos 0) s))
-        ∙ ap (λ x. filled g x out₀) next
+    module _ {i : ℕ} {out : List ℤ} (more : 5 < length t) (h : i < len t) (o : out ≡ filled g (start t + i * block t) out₀) where
+      abbrev here : ℕ
+      here = start t + i * block t
 
--- What stands after the first window.
-pub after-first : (t : List ℕ) → take (length t - 5) (drop 5 t) ≡ drop 5 t
-after-first t = take-all (length t - 5) (drop 5 t) (rw length-drop (omega arith))
+      abbrev part : List ℤ
+      part = take (here + block t - here) (drop here out)
+
+      part-wide : length part ≡ block t
+      part-wide = part-room out here (block t) m (cut-long (omega arith) o) (cut-room i h .0)
+
+      -- The later windows fit it.
+      pub cut-rest : Fitting (later t) (origin t at + i * step t) (length r) (length part)
+      cut-rest =
+          let there : origin t at + i * step t ≡ at + (from t + i) * step t = omega arith in
+          rw (later-is t, there, part-wide) (f .rest more i h)
+
+      pub cut-step : {last : List ℤ} → last ≡ tab (length part) (cutAt (later t) r (origin t at + i * step t))
+          → putMid here (here + block t - here) out last ≡ filled g (start t + (i + 1) * block t) out₀
+      cut-step {last} q =
+          let inner : last ≡ tab (block t) (cutAt (drop 5 t) r (origin t at + i * step t)) =
+          q ∙ ap₂ (λ x y. tab x (cutAt y r (origin t at + i * step t))) part-wide (later-is t) in
+          put-list g (pos 0) here (block t) _ out out₀ last o refl (ap length inner ∙ length-tab (block t) _)
+          (λ k s. cut-inside t r at i k (f .five) h s ∙ sym (ap (λ ys. getD ys k (pos 0)) inner ∙ getD-tab (block t) _ k (pos 0) s))
+          ∙ ap (λ x. filled g x out₀) (omega arith)

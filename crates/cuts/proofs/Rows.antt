@@ -13,21 +13,28 @@ use Rattle.copying.proofs.Runs.{put-copied}
 use Rattle.copying.proofs.Parts.{filled-on}
 use Rattle.copying.specs.Steps.{filled}
 use Rattle.cuts.specs.Steps.{cutAt, Blank}
-use Rattle.cuts.proofs.Cutting.{Fits, window-fits, lead, from, len, step, block, start, stop, cut-before, cut-after, cut-inside, cut-run, cut-room}
+use Rattle.cuts.proofs.Cutting.{Fits, window-fits, lead, from, len, step, block, origin, start, stop}
+use Rattle.cuts.proofs.Cutting.{cut-before, cut-after, cut-inside, cut-run, cut-room}
+
+-- The run of row i lies in the row, and both in their buffers.
+abbrev pub Lies : List ℕ → ℕ → ℕ → ℕ → ℕ → Type 0
+Lies t at n m i =
+    (getD t 5 0 * getD t 9 0 + getD t 7 0 * getD t 9 0 ≤ block t)
+    × ((origin t at + getD t 6 0 * getD t 9 0 + i * step t + getD t 7 0 * getD t 9 0 ≤ n) × (start t + i * block t + block t ≤ m))
 
 module _ {t : List ℕ} (r : List ℤ) {at m : ℕ} (f : Fits t at (length r) m) (ten : length t ≡ 10) where
-  -- The zeros before a run in its row, its length, and where the first of them stands in both buffers.
-  abbrev pub skip : ℕ
+  -- The zeros before a run in its row, its length, and where the run of row i stands in both buffers.
+  abbrev skip : ℕ
   skip = getD t 5 0 * getD t 9 0
 
-  abbrev pub width : ℕ
+  abbrev width : ℕ
   width = getD t 7 0 * getD t 9 0
 
-  abbrev pub front : ℕ
-  front = lead t * block t + getD t 5 0 * getD t 9 0
+  abbrev source : ℕ → ℕ
+  source i = origin t at + getD t 6 0 * getD t 9 0 + i * step t
 
-  abbrev pub first : ℕ
-  first = at + from t * step t + getD t 6 0 * getD t 9 0
+  abbrev target : ℕ → ℕ
+  target i = start t + skip + i * block t
 
   inner : (i : ℕ) → i < len t → Fits (drop 5 t) (at + (from t + i) * step t) (length r) (block t)
   inner i h = window-fits _ _ _ _ (f .rest (omega (arith, ten)) i h)
@@ -53,19 +60,21 @@ module _ {t : List ℕ} (r : List ℤ) {at m : ℕ} (f : Fits t at (length r) m)
   from-wide : from (drop 5 t) * step (drop 5 t) ≡ getD t 6 0 * getD t 9 0
   from-wide = ap₂ (λ x y. x * y) (second 1) (second 3 ∙ even)
 
-  pub row-room : skip + width ≤ block t
+  row-room : skip + width ≤ block t
   row-room = omega (arith, inner 0 (f .more) .room, zeros-wide, run-wide)
 
-  -- Row i lies in r.
-  pub row-reads : (i : ℕ) → i < len t → first + i * step t + width ≤ length r
+  row-reads : (i : ℕ) → i < len t → source i + width ≤ length r
   row-reads i h = omega (arith, inner i h .inner, from-wide, run-reads)
 
-  -- What it holds.
-  row-run : (i k : ℕ) → i < len t → k < width → cutAt t r at (front + i * block t + k) ≡ getD r (first + i * step t + k) (pos 0)
+  pub row-lies : (i : ℕ) → i < len t → Lies t at (length r) m i
+  row-lies i h = (row-room, (row-reads i h, cut-room r f i h .0))
+
+  -- What row i holds.
+  row-run : (i k : ℕ) → i < len t → k < width → cutAt t r at (target i + k) ≡ getD r (source i + k) (pos 0)
   row-run i k h l =
-      let there : front + i * block t + k ≡ lead t * block t + i * block t + (lead (drop 5 t) * block (drop 5 t) + k) = omega (arith, zeros-wide) in
-      let b : ℕ = at + from t * step t + i * step t in
-      let read : b + from (drop 5 t) * step (drop 5 t) + k ≡ first + i * step t + k = omega (arith, from-wide) in
+      let there : target i + k ≡ lead t * block t + i * block t + (lead (drop 5 t) * block (drop 5 t) + k) = omega (arith, zeros-wide) in
+      let b : ℕ = origin t at + i * step t in
+      let read : origin (drop 5 t) b + k ≡ source i + k = omega (arith, from-wide) in
       ap (cutAt t r at) there
       ∙ cut-inside t r at i (lead (drop 5 t) * block (drop 5 t) + k) (f .five) h (omega (arith, row-room, zeros-wide))
       ∙ cut-run (drop 5 t) r b k five (inner i h .some) (inner i h .last five) (omega (arith, run-wide))
@@ -94,29 +103,23 @@ module _ {t : List ℕ} (r : List ℤ) {at m : ℕ} (f : Fits t at (length r) m)
         by false e = z .between e j h
 
     -- The run of row i.
-    pub rows-step : (i a b c d : ℕ) (out last : List ℤ) → i < len t → out ≡ filled g (start t + i * block t) out₀
-        → a ≡ first + i * step t → b ≡ a + width → c ≡ front + i * block t → d ≡ c + width
-        → last ≡ copied (take (b - a) (drop a r)) (take (d - c) (drop c out))
-        → putMid c (d - c) out last ≡ filled g (start t + (i + 1) * block t) out₀
-    rows-step i a b c d out last h o ea eb ec ed q =
+    pub rows-step : {i : ℕ} {out last : List ℤ} → i < len t → out ≡ filled g (start t + i * block t) out₀
+        → last ≡ copied (take (source i + width - source i) (drop (source i) r)) (take (target i + width - target i) (drop (target i) out))
+        → putMid (target i) (target i + width - target i) out last ≡ filled g (start t + (i + 1) * block t) out₀
+    rows-step {i} {out} h o q =
         let room = cut-room r f i h .0 in
         let fit = row-room in
         let rest : ℕ = block t - (skip + width) in
-        let at-front : start t + i * block t + skip ≡ c = omega arith in
-        let before : filled g (start t + i * block t) out₀ ≡ filled g c out₀ =
+        let before : filled g (start t + i * block t) out₀ ≡ filled g (target i) out₀ =
         filled-on g (start t + i * block t) skip out₀ (omega (arith, z .long))
         (λ k l. row-before i k h l ∙ sym (blank-row (start t + i * block t + k) (omega arith) (λ e. omega arith)))
-        ∙ ap (λ n. filled g n out₀) at-front in
-        let run : putMid c (d - c) out last ≡ filled g (c + width) out₀ =
-        put-copied g c width d out out₀ last (o ∙ before) ed (omega (arith, z .long)) r a b (pos 0) eb (omega (arith, row-reads i h))
-        (λ k l. ap (λ x. g (x + k)) ec ∙ row-run i k h l ∙ ap (λ x. getD r (x + k) (pos 0)) (sym ea))
-        q in
-        let next : c + width + rest ≡ start t + (i + 1) * block t = omega arith in
-        let place : (k : ℕ) → c + width + k ≡ start t + i * block t + (skip + width + k) = λ k. omega arith in
-        run
-        ∙ filled-on g (c + width) rest out₀ (omega (arith, z .long))
+        ∙ ap (λ n. filled g n out₀) (omega arith) in
+        let place : (k : ℕ) → target i + width + k ≡ start t + i * block t + (skip + width + k) = λ k. omega arith in
+        put-copied g (target i) width _ out out₀ _ (o ∙ before) refl (omega (arith, z .long)) r (source i) _ (pos 0) refl (row-reads i h)
+        (λ k l. row-run i k h l) q
+        ∙ filled-on g (target i + width) rest out₀ (omega (arith, z .long))
         (λ k l.
         ap g (place k)
         ∙ row-after i (skip + width + k) h (omega arith) (omega arith)
-        ∙ sym (blank-row (c + width + k) (omega arith) (λ e. omega arith)))
-        ∙ ap (λ n. filled g n out₀) next
+        ∙ sym (blank-row (target i + width + k) (omega arith) (λ e. omega arith)))
+        ∙ ap (λ n. filled g n out₀) (omega arith)

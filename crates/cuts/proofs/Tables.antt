@@ -1,4 +1,4 @@
--- The table of windows, with its flag open.
+-- The table of windows, of either kind.
 use Prim.Native.Nat.{ℕ, zero, suc, _+_, _*_, _-_, _/_, _%_, _≤_, _<_, min}
 use native.Mathlib.Nat.{mod-lt, div-add-mod', mul-le-mul-right}
 use native.Mathlib.Omega.{arith}
@@ -87,14 +87,14 @@ module _ (kind : CutKind) where
       (cut-front u zs ns xs (at + (cond (keepsEnd kind z) (n - m) 0 + (i - lead)) * count ns) (j % count ms) (omega arith) e
       (mod-lt j (row-in m (count ms) j h .0))))
 
-  pub table-fits : (u : ℕ) (zs : List ℤ) (ns : List ℕ) (at N : ℕ) → length zs ≡ length ns → suc u ≤ length ns → 0 < count (cutLengths kind zs ns)
+  pub table-fits : {N : ℕ} (u : ℕ) (zs : List ℤ) (ns : List ℕ) (at : ℕ) → length zs ≡ length ns → suc u ≤ length ns → 0 < count (cutLengths kind zs ns)
       → 0 < count ns → at + count ns ≤ N → drop (suc u) ns ≡ drop (suc u) (cutLengths kind zs ns)
       → Fitting (take (suc u * 5) (tableOf kind zs ns)) at N (count (cutLengths kind zs ns))
   unfolding tableOf cutLengths count
-  table-fits u [] [] at N l k p o h e = absurd (omega arith)
-  table-fits u [] (n ∷ ns) at N l k p o h e = absurd (omega arith)
-  table-fits u (z ∷ zs) [] at N l k p o h e = absurd (omega arith)
-  table-fits zero (z ∷ zs) (n ∷ ns) at N l k p o h e =
+  table-fits u [] [] at l k p o h e = absurd (omega arith)
+  table-fits u [] (n ∷ ns) at l k p o h e = absurd (omega arith)
+  table-fits u (z ∷ zs) [] at l k p o h e = absurd (omega arith)
+  table-fits zero (z ∷ zs) (n ∷ ns) at l k p o h e =
       let m : ℕ = cutLength kind z n in
       let w = window-room (keepsEnd kind z) m n in
       let f = factor m (count (cutLengths kind zs ns)) _ refl p in
@@ -105,7 +105,7 @@ module _ (kind : CutKind) where
           (omega (arith, mul-le-mul-right (count ns) (w .1)), ((λ q. ap count e), ((λ q. absurd (omega (arith, q))), taken-some))),
         ),
       )
-  table-fits (suc u) (z ∷ zs) (n ∷ ns) at N l k p o h e =
+  table-fits (suc u) (z ∷ zs) (n ∷ ns) at l k p o h e =
       let m : ℕ = cutLength kind z n in
       let w = window-room (keepsEnd kind z) m n in
       let from : ℕ = cond (keepsEnd kind z) (n - m) 0 in
@@ -122,7 +122,7 @@ module _ (kind : CutKind) where
               (λ q. absurd (none zs ns (omega arith) (omega arith) q)),
               (
                 (λ q i s.
-                    table-fits u zs ns (at + (from + i) * count ns) N (omega arith) (omega arith) (f .1) (g .1)
+                    table-fits u zs ns (at + (from + i) * count ns) (omega arith) (omega arith) (f .1) (g .1)
                     (omega (arith, row-fits (from + i) n (count ns) (omega (arith, w .1))))
                     e),
                 taken-some,

@@ -6,38 +6,25 @@ use Prim.Native.Nat.{ℕ, _+_, _*_, _-_, _/_, _%_, _≤_, _<_}
 use native.Mathlib.Nat.{mod-eq-of-lt, mod-lt, add-mod-right, div-add-mod'}
 use native.Mathlib.Omega.{arith}
 use lib.Arith.{digits-lt, digits-div, digits-mod}
-use borrow.Rule.Slice.PartMut.{putMid, midOf, postOf, put-same, mid-len, same-len-mid, drop-put}
+use borrow.Rule.Slice.PartMut.{putMid, midOf, postOf, same-len-mid, drop-put}
 use lib.ListN.{length, getD, take, drop, List·getD-append}
-use lib.Seq.{drop-at, drop-drop, getD-take, getD-drop, getD-append-add, length-take-le}
+use lib.Seq.{drop-drop, getD-append-add, length-take-le}
 use lib.Dec.{eqb}
 use lib.IntN.{ℤ, pos}
 use Rattle.meaning.specs.Terms.{modulo}
 use Rattle.meaning.specs.Array.{tab}
-use Rattle.meaning.proofs.Tab.{length-tab, tab-ext, getD-part}
+use Rattle.meaning.proofs.Tab.{tab-ext, getD-part}
 use Rattle.copying.specs.Runs.{copied}
-use Rattle.copying.proofs.Runs.{length-filled, copied-whole, put-list, put-copied}
+use Rattle.copying.proofs.Runs.{copied-whole, put-copied}
 use Rattle.copying.specs.Steps.{filled, source}
 use Rattle.copying.proofs.Blocks.{source-in}
 use Rattle.turns.specs.declared.Turn.the-variants.{By}
-use Rattle.turns.specs.Steps.{turnPosition, turnedAt, cutBlocks, Shifts}
+use Rattle.turns.specs.Steps.{Lie, turnPosition, turnedAt, cutBlocks, Shifts}
 use Rattle.turns.specs.Steps.Shifts.{down, up}
 use Rattle.shape.proofs.Places.{row-fits, row-in}
-use Rattle.copying.proofs.Parts.{part-long, part-filled}
+use Rattle.copying.proofs.Parts.{filled-on, part-long, part-filled}
 use Rattle.copying.proofs.Blockwise.{Blockwise}
 use Rattle.turns.proofs.Rows.{row-cut}
-
--- A buffer that is filled up to n, and whose elements from there to e are already right.
-filled-more : (g : ℕ → ℤ) (n e : ℕ) (out out₀ : List ℤ) → out ≡ filled g n out₀ → n ≤ e → e ≤ length out₀
-    → ((j : ℕ) → n ≤ j → j < e → g j ≡ getD out₀ j (pos 0)) → out ≡ filled g e out₀
-filled-more g n e out out₀ o h room same =
-    let end : n + (e - n) ≡ e = omega arith in
-    let long : length out ≡ length out₀ = ap length o ∙ length-filled g n out₀ (omega arith) in
-    let rest : drop n out ≡ drop n out₀ = ap (drop n) o ∙ drop-at (tab n g) (drop n out₀) n (length-tab n g) in
-    sym (put-same n (e - n) out)
-    ∙ put-list g (pos 0) n (e - n) e out out₀ (midOf n (e - n) out) o (sym end) (mid-len n e out (omega arith))
-    (λ i l. same (n + i) (omega arith) (omega arith)
-    ∙ sym (getD-take (e - n) (drop n out) i (pos 0) l ∙ ap (λ ys. getD ys i (pos 0)) rest ∙ getD-drop n out₀ i (pos 0)))
-    ∙ ap (λ k. filled g k out₀) end
 
 -- What the run over all blocks leaves: the elements of r from `from` on stand at `to .. end`, and those after the blocks as they were.
 pub record Moved (r out₀ out₁ : List ℤ) (from to end total : ℕ) : Type 0 where
@@ -45,39 +32,44 @@ pub record Moved (r out₀ out₁ : List ℤ) (from to end total : ℕ) : Type 0
   pub after : drop total out₁ ≡ drop total out₀
   pub run : (j k : ℕ) → to ≤ j → j < end → j + from ≡ k + to → getD out₁ j (pos 0) ≡ getD r k (pos 0)
 
-module _ (r out₀ last : List ℤ) (from stop to end total : ℕ) (inside : stop ≤ length r) (h : to ≤ end) (e : end ≤ total) (room : total ≤ length out₀)
-    (same : stop - from ≡ end - to) where
-  pub first-run : last ≡ copied (take (stop - from) (drop from r)) (take (end - to) (drop to out₀))
-      → Moved r out₀ (putMid to (end - to) out₀ last) from to end total
-  first-run q =
-      let out₁ : List ℤ = putMid to (end - to) out₀ last in
-      let part : length (midOf to (end - to) out₀) ≡ end - to = mid-len to end out₀ (omega arith) in
-      let whole : last ≡ take (stop - from) (drop from r) = q ∙ copied-whole _ _ (mid-len from stop r inside ∙ same ∙ sym part) in
-      let many : length last ≡ end - to = ap length whole ∙ mid-len from stop r inside ∙ same in
-      let start : length (take to out₀) ≡ to = length-take-le to out₀ (omega arith) in
-      let t : end + (total - end) ≡ total = omega arith in
-      record {
-        long = same-len-mid to (end - to) out₀ last (many ∙ sym part);
-        after =
-            ap (λ k. drop k out₁) (sym t) ∙ sym (drop-drop (total - end) end out₁) ∙ ap (drop (total - end)) (drop-put to end out₀ last h (omega arith) many)
-            ∙ drop-drop (total - end) end out₀ ∙ ap (λ k. drop k out₀) t;
-        run = λ j k a b f.
-            let i : j ≡ length (take to out₀) + (j - to) = omega arith in
-            let s : from + (j - to) ≡ k = omega arith in
-            ap (λ x. getD out₁ x (pos 0)) i
-            ∙ getD-append-add (take to out₀) (last ++ postOf to (end - to) out₀) (j - to) (pos 0)
-            ∙ List·getD-append last (postOf to (end - to) out₀) (pos 0) (j - to) (omega arith)
-            ∙ ap (λ ys. getD ys (j - to) (pos 0)) whole
-            ∙ getD-part r from (stop - from) (j - to) (pos 0) (omega arith)
-            ∙ ap (λ x. getD r x (pos 0)) s;
-      }
+pub first-run : {r out₀ last : List ℤ} {from to total : ℕ} (n : ℕ) → from + n ≤ length r → to + n ≤ total → total ≤ length out₀
+    → last ≡ copied (take (from + n - from) (drop from r)) (take (to + n - to) (drop to out₀))
+    → Moved r out₀ (putMid to (to + n - to) out₀ last) from to (to + n) total
+first-run {r} {out₀} {last} {from} {to} {total} n inside e room q =
+    let end : ℕ = to + n in
+    let out₁ : List ℤ = putMid to (end - to) out₀ last in
+    let wide : end - to ≡ n = omega arith in
+    let source : length (take (from + n - from) (drop from r)) ≡ n = part-long r from n inside in
+    let part : length (midOf to (end - to) out₀) ≡ n = part-long out₀ to n (omega arith) in
+    let whole : last ≡ take (from + n - from) (drop from r) = q ∙ copied-whole _ _ (source ∙ sym part) in
+    let many : length last ≡ n = ap length whole ∙ source in
+    let start : length (take to out₀) ≡ to = length-take-le to out₀ (omega arith) in
+    let t : end + (total - end) ≡ total = omega arith in
+    record {
+      long = same-len-mid to (end - to) out₀ last (many ∙ sym part);
+      after =
+          ap (λ k. drop k out₁) (sym t)
+          ∙ sym (drop-drop (total - end) end out₁)
+          ∙ ap (drop (total - end)) (drop-put to end out₀ last (omega arith) (omega arith) (many ∙ sym wide))
+          ∙ drop-drop (total - end) end out₀
+          ∙ ap (λ k. drop k out₀) t;
+      run = λ j k a b f.
+          let i : j ≡ length (take to out₀) + (j - to) = omega arith in
+          let s : from + (j - to) ≡ k = omega arith in
+          ap (λ x. getD out₁ x (pos 0)) i
+          ∙ getD-append-add (take to out₀) (last ++ postOf to (end - to) out₀) (j - to) (pos 0)
+          ∙ List·getD-append last (postOf to (end - to) out₀) (pos 0) (j - to) (omega arith)
+          ∙ ap (λ ys. getD ys (j - to) (pos 0)) whole
+          ∙ getD-part r from (from + n - from) (j - to) (pos 0) (omega arith)
+          ∙ ap (λ x. getD r x (pos 0)) s;
+    }
 
 -- Element i of block o.
 in-block : (r : List ℤ) (size cut o i : ℕ) → i < size → cutBlocks r size cut (o * size + i) ≡ getD r (o * size + (i + cut) % size) (pos 0)
 in-block r size cut o i l = rw (digits-div o l, digits-mod o l)
 
 -- Element j of the block at `at` comes from the same block: from k.
-module _ (r : List ℤ) (size cut o at j k : ℕ) (h : cut ≤ size) (a : at ≡ o * size) where
+module _ (r : List ℤ) (o : ℕ) {size cut at : ℕ} (h : cut ≤ size) (a : at ≡ o * size) (j k : ℕ) where
   from-place : at ≤ j → j < at + size → (j - at + cut) % size ≡ k - at → at ≤ k → cutBlocks r size cut j ≡ getD r k (pos 0)
   from-place l b e m =
       let s : j ≡ o * size + (j - at) = omega arith in
@@ -105,45 +97,50 @@ bounds (down e f h) = record { source-in = omega arith; target-in = omega arith;
 bounds (up e f h) = record { source-in = omega arith; target-in = omega arith; cut-in = omega arith }
 
 -- A block more: its part is written, and its other part stands already.
-module _ (r : List ℤ) (outer size from to before after : ℕ) (shifts : Shifts size from to before after) (fits : outer * size ≤ length r) (out₀ out₁ : List ℤ)
-    (room : outer * size ≤ length out₀) (m : Moved r out₀ out₁ from to (to + (outer * size - (from + to))) (outer * size))
-    (o at : ℕ) (out last : List ℤ) (l : o < outer) (f : Blockwise outer size (cutBlocks r size (from + before)) out₁ out at o) where
-  abbrev cut : ℕ
-  cut = from + before
-
+module _ {r out₀ out₁ out : List ℤ} {outer size from to before after o at : ℕ} (shifts : Shifts size from to before after)
+    (lie : Lie outer size (length r) (length out₀)) (m : Moved r out₀ out₁ from to (to + (outer * size - (from + to))) (outer * size))
+    (l : o < outer) (f : Blockwise outer size (cutBlocks r size (from + before)) out₁ out at o) where
   abbrev turned : ℕ → ℤ
-  turned = cutBlocks r size cut
+  turned = cutBlocks r size (from + before)
 
   abbrev target : ℕ
   target = at + after
 
-  pub shift-step : last ≡ copied (take (at + before + (from + to) - (at + before)) (drop (at + before) r))
-      (take (target + (from + to) - target) (drop target out))
-      → putMid target (target + (from + to) - target) out last ≡ filled turned (at + size) out₁
-  shift-step q = by shifts
+  abbrev part : ℕ
+  part = from + to
+
+  pub shift-step : {last : List ℤ}
+      → last ≡ copied (take (at + before + part - (at + before)) (drop (at + before) r)) (take (target + part - target) (drop target out))
+      → putMid target (target + part - target) out last ≡ filled turned (at + size) out₁
+  shift-step {last} q = by shifts
     where
-      by : Shifts size from to before after → putMid target (target + (from + to) - target) out last ≡ filled turned (at + size) out₁
+      by : Shifts size from to before after → putMid target (target + part - target) out last ≡ filled turned (at + size) out₁
       by (down e z h) =
           let b = row-fits o outer size l in
           let a = f .at-is in
-          let more : out ≡ filled turned target out₁ =
-          filled-more turned at target out out₁ (f .done) (omega arith) (omega (arith, m .long))
-          (λ j u v. before-seam r size cut o at j (j + cut) (omega arith) a u (omega arith) refl
-          ∙ sym (m .run j (j + cut) (omega arith) (omega arith) (omega arith))) in
-          put-copied turned target (from + to) _ out out₁ last more refl (omega (arith, m .long)) r (at + before) _ (pos 0) refl (omega arith)
-          (λ i v. after-seam r size cut o at (target + i) (at + before + i) (omega arith) a (omega arith) (omega arith) (omega arith)) q
+          let kept = m .long in
+          let low = before-seam r o (bounds shifts .cut-in) a in
+          let high = after-seam r o (bounds shifts .cut-in) a in
+          let more : filled turned at out₁ ≡ filled turned target out₁ =
+          filled-on turned at after out₁ (omega (arith, lie .space))
+          (λ i v. low (at + i) (at + i + (from + before)) (omega arith) (omega arith) refl
+          ∙ sym (m .run (at + i) _ (omega arith) (omega arith) (omega arith))) in
+          put-copied turned target part _ out out₁ last (f .done ∙ more) refl (omega (arith, lie .space)) r (at + before) _ (pos 0) refl
+          (omega (arith, lie .source)) (λ i v. high (target + i) (at + before + i) (omega arith) (omega arith) (omega arith)) q
           ∙ ap (λ k. filled turned k out₁) (omega arith)
       by (up e z h) =
           let b = row-fits o outer size l in
           let a = f .at-is in
-          let here : target ≡ at = omega arith in
-          filled-more turned (target + (from + to)) (at + size) _ out₁
-          (put-copied turned target (from + to) _ out out₁ last (f .done
-          ∙ ap (λ k. filled turned k out₁) (sym here)) refl (omega (arith, m .long)) r (at + before) _ (pos 0)
-          refl (omega arith) (λ i v. before-seam r size cut o at (target + i) (at + before + i) (omega arith) a (omega arith) (omega arith) (omega arith)) q)
-          (omega arith) (omega (arith, m .long))
-          (λ j u v. after-seam r size cut o at j (j - to) (omega arith) a (omega arith) (omega arith) (omega arith)
-          ∙ sym (m .run j (j - to) (omega arith) (omega arith) (omega arith)))
+          let kept = m .long in
+          let low = before-seam r o (bounds shifts .cut-in) a in
+          let high = after-seam r o (bounds shifts .cut-in) a in
+          let here : at ≡ target = omega arith in
+          put-copied turned target part _ out out₁ last (f .done ∙ ap (λ k. filled turned k out₁) here) refl (omega (arith, lie .space)) r (at + before) _
+          (pos 0) refl (omega (arith, lie .source)) (λ i v. low (target + i) (at + before + i) (omega arith) (omega arith) (omega arith)) q
+          ∙ filled-on turned (target + part) (size - part) out₁ (omega (arith, lie .space))
+          (λ i v. high (target + part + i) (at + i) (omega arith) (omega arith) (omega arith)
+          ∙ sym (m .run _ (at + i) (omega arith) (omega arith) (omega arith)))
+          ∙ ap (λ k. filled turned k out₁) (omega arith)
 
 -- After the blocks the buffer is as it was.
 pub moved-all : {r : List ℤ} (outer size : ℕ) {from to end : ℕ} {out out₀ out₁ : List ℤ} (g : ℕ → ℤ) → Moved r out₀ out₁ from to end (outer * size)
@@ -151,23 +148,26 @@ pub moved-all : {r : List ℤ} (outer size : ℕ) {from to end : ℕ} {out out�
 moved-all outer size g m f = f ∙ ap (λ ys. tab (outer * size) g ++ ys) (m .after)
 
 -- A group of blocks more, the first of them block o: they are the blocks of the part of r from there on.
-module _ (r : List ℤ) (size cut o some at : ℕ) (a : at ≡ o * size) where
-  group-at : (i : ℕ) → i < some * size → cutBlocks r size cut (at + i) ≡ cutBlocks (take (at + some * size - at) (drop at r)) size cut i
+module _ (r : List ℤ) (cut some : ℕ) {out₀ out : List ℤ} {outer size o at : ℕ} (f : Blockwise outer size (cutBlocks r size cut) out₀ out at o) where
+  abbrev group : List ℤ
+  group = take (at + some * size - at) (drop at r)
+
+  group-at : (i : ℕ) → i < some * size → cutBlocks r size cut (at + i) ≡ cutBlocks group size cut i
   group-at i h =
       let w = row-in some size i h in
       let x : ℕ = (i % size + cut) % size in
-      let e : at + i ≡ (o + i / size) * size + i % size = omega (arith, div-add-mod' i size) in
-      let s : (o + i / size) * size + x ≡ at + (i / size * size + x) = omega arith in
+      let e : at + i ≡ (o + i / size) * size + i % size = omega (arith, f .at-is, div-add-mod' i size) in
+      let s : (o + i / size) * size + x ≡ at + (i / size * size + x) = omega (arith, f .at-is) in
       ap (cutBlocks r size cut) e
       ∙ in-block r size cut (o + i / size) (i % size) (mod-lt i (w .0))
       ∙ ap (λ k. getD r k (pos 0)) s
       ∙ sym (getD-part r at (at + some * size - at) (i / size * size + x) (pos 0) (omega (arith, digits-lt (w .1) (mod-lt (i % size + cut) (w .0)))))
 
-  pub group-step : (out out₀ last : List ℤ) → out ≡ filled (cutBlocks r size cut) at out₀ → at + some * size ≤ length out
-      → last ≡ filled (cutBlocks (take (at + some * size - at) (drop at r)) size cut) (some * size) (take (at + some * size - at) (drop at out))
+  pub group-step : {last : List ℤ} → at + some * size ≤ length out
+      → last ≡ filled (cutBlocks group size cut) (some * size) (take (at + some * size - at) (drop at out))
       → putMid at (at + some * size - at) out last ≡ filled (cutBlocks r size cut) (at + some * size) out₀
-  group-step out out₀ last f room q =
-      part-filled (cutBlocks r size cut) _ at (some * size) (at + some * size) out out₀ last _ f refl (part-long out at (some * size) room) q group-at
+  group-step room q =
+      part-filled (cutBlocks r size cut) _ at (some * size) (at + some * size) out out₀ _ _ (f .done) refl (part-long out at (some * size) room) q group-at
 
 -- Blocks of n rows, each cut at some rows, are turned by the amount.
 module _ (r : List ℤ) (outer c : ℕ) (z : ℤ) (n rows : ℕ) (some : 0 < n) (e : rows ≡ cond (eqb n 0) 0 (modulo z n)) where

@@ -1,15 +1,14 @@
 use Prim.Native.Nat.{ℕ, _+_, _*_, _-_, _<_, _≤_}
 use native.Mathlib.Omega.{arith}
-use mathlib.Core.Path.{_≡_, refl, sym, ap, _∙_}
-use lib.ListN.{length, getD, take, drop, length-drop}
+use mathlib.Core.Path.{_≡_, sym, ap, _∙_}
+use lib.ListN.{length, getD}
 use lib.Arith.{lt-of-le-ne}
-use borrow.Rule.Slice.PartMut.{mid-len}
 use denote.Ref.{now}
 use borrow.Author.Needs.{needs}
 use Rattle.meaning.proofs.Tab.{length-tab}
 use Rattle.copying.specs.Steps.{filled}
 use Rattle.cuts.specs.Steps.{cutAt}
-use Rattle.cuts.proofs.Cutting.{Fits, Reaches, window-fits, cut-room, cut-rest, cut-long, after-first, cut-begin, cut-end, cut-last, cut-step}
+use Rattle.cuts.proofs.Cutting.{Fits, Reaches, window-fits, later-long, cut-room, cut-rest, cut-long, cut-begin, cut-end, cut-last, cut-step}
 use borrow.Fn.Kinds.{In}
 use borrow.Fn.PlainCycle.{Measures, is, falls, and}
 use Rattle.cuts.proofs.cut.Reads as cut
@@ -90,7 +89,7 @@ module _ (t : ℕ) where
       → length (c .loop .out) ≡ length (placed (c .before .before) .args .out .now)
   long c =
       let k = c .before .before in
-      cut-long _ (known (placed k)) (k .before .before .clear-outside .ensures) (c .loop .i) (c .loop .out) (c .loop .inv .0) (c .loop .inv .1)
+      cut-long _ (known (placed k)) (k .before .before .clear-outside .ensures) (c .loop .inv .0) (c .loop .inv .1)
 
   more : (c : cut-lts.Else2 (claims t) (cut-at t) cut.Post cut-Inv-loop cut-μ-loop) → 5 < length (placed (c .before) .args .table .now)
   more c = lt-of-le-ne (known (placed (c .before)) .five) (λ e. c .if2 .left (sym e))
@@ -99,30 +98,25 @@ module _ (t : ℕ) where
   returns-2 c =
       let l = c .before .before .before in
       let k = l .before .before in
-      cut-last _ (known (placed k)) (k .before .before .clear-outside .ensures) (l .before .if2 .taken) _ _ _ refl refl (c .before .copy-run .ensures)
+      cut-last _ (known (placed k)) (k .before .before .clear-outside .ensures) (l .before .if2 .taken) (c .before .copy-run .ensures)
 
   cut-requires : cut-lts.Need-cut-requires (claims t) (cut-at t) cut.Post cut-Inv-loop cut-μ-loop
   cut-requires c κs =
       let i = c .before .before in
-      let lp = i .before .loop in
-      let s = placed (entered i) in
-      let tab = s .args .table .now in
-      let a = getD tab 0 0 * getD tab 4 0 + lp .i * getD tab 4 0 in
-      let part : length (take (a + getD tab 4 0 - a) (drop a (lp .out))) ≡ getD tab 4 0 =
-      mid-len a (a + getD tab 4 0) (lp .out) (omega (arith, turn i .0, long (i .before))) ∙ omega arith in (
-        omega (arith, s .pre .0, ap length (after-first tab), length-drop 5 tab, more (i .before .before)),
-        cut-rest (s .args .r .now) (known s) (more (i .before .before)) (lp .i) (omega arith) _ _ _ (after-first tab) refl part,
+      let k = entered i in
+      let s = placed k in
+      let m = more (i .before .before) in (
+        omega (arith, s .pre .0, later-long (s .args .table .now), m),
+        cut-rest (s .args .r .now) (known s) (k .before .before .clear-outside .ensures) m (omega arith) (i .before .loop .inv .1),
       )
 
   loop-again : cut-lts.Need-loop-again (claims t) (cut-at t) cut.Post cut-Inv-loop cut-μ-loop
   loop-again c =
       let i = called (c .before) in
-      let lp = i .before .loop in
-      let k = entered i in
-      let s = placed k in (
+      let k = entered i in (
         omega arith,
-        cut-step _ (known s) (k .before .before .clear-outside .ensures) (more (i .before .before)) (lp .i) _ _ _ _ _ _ (omega arith) (lp .inv .1)
-            refl refl (after-first (s .args .table .now)) refl (c .before .cut .ensures),
+        cut-step _ (known (placed k)) (k .before .before .clear-outside .ensures) (more (i .before .before)) (omega arith) (i .before .loop .inv .1)
+            (c .before .cut .ensures),
       )
 
   returns-3 : cut-lts.Need-returns-3 (claims t) (cut-at t) cut.Post cut-Inv-loop cut-μ-loop
@@ -131,7 +125,7 @@ module _ (t : ℕ) where
       let k = c .before .before .before in
       let s = placed k in
       let all : lp .i ≡ getD (s .args .table .now) 2 0 = omega arith in
-      cut-end _ (known s) (k .before .before .clear-outside .ensures) (lp .i) _ all (lp .inv .1)
+      cut-end _ (known s) (k .before .before .clear-outside .ensures) all (lp .inv .1)
 
 pub +cut-spec : {M : Type 1} → statement M
 +cut-spec = close μ-cut λ t. cut-lts.spec (claims t)

@@ -25,8 +25,7 @@ loop-again c =
     let a : length (st .args .t2) ≡ maxRank = search needs in
     let b : length (st .args .t3) ≡ maxRank = search needs in (
       omega arith,
-      same-more (st .args .t2) (st .args .t3) (st .args .rank) (lp .axes - 1) (lp .axes) (omega arith) (omega arith) (omega arith) (omega arith)
-          (lp .inv .1) (c .if1 .left),
+      same-more (st .args .t2) (st .args .t3) (omega arith) (lp .inv .0) (omega arith) (omega arith) (lp .inv .1) (c .if1 .left),
     )
 
 pub cut-axes-spec : {M : Type 1} → statement M

@@ -1,13 +1,13 @@
-use Prim.Native.Nat.{_+_, _*_, _-_, _≤_, _<_}
+use Prim.Native.Nat.{_+_, _*_, _-_, _≤_}
 use native.Mathlib.Omega.{arith}
-use mathlib.Core.Path.{_≡_, refl}
+use mathlib.Core.Path.{_≡_}
 use lib.ListN.{length, getD}
 use borrow.Author.Needs.{needs}
 use borrow.Author.Tests.{eqb-true}
 use Rattle.copying.specs.Steps.{filled}
 use Rattle.cuts.specs.Steps.{cutAt}
-use Rattle.cuts.proofs.Cutting.{Fits, window-fits, cut-room, cut-long, cut-begin, cut-end}
-use Rattle.cuts.proofs.Rows.{row-room, row-reads, rows-step}
+use Rattle.cuts.proofs.Cutting.{Fits, window-fits, cut-long, cut-begin, cut-end}
+use Rattle.cuts.proofs.Rows.{Lies, row-lies, rows-step}
 use Rattle.cuts.proofs.cut_rows.Statement.{statement}
 use Rattle.cuts.proofs.cut_rows.Tie as tie
 
@@ -43,39 +43,19 @@ known : (c : tie.Start Inv-loop μ-loop) → Fits (c .args .table .now) (c .args
 known c = window-fits _ _ _ _ (c .pre .1)
 
 -- A row lies in both buffers: the first, and that of a turn.
-room : (c : tie.Start Inv-loop μ-loop)
-    → let t = c .args .table .now in
-    (getD t 5 0 * getD t 9 0 + getD t 7 0 * getD t 9 0 ≤ getD t 4 0)
-    × ((getD t 0 0 * getD t 4 0 + getD t 4 0 ≤ length (c .args .out .now))
-    × (c .args .at + getD t 1 0 * getD t 3 0 + getD t 6 0 * getD t 9 0 ≤ length (c .args .r .now)))
-room c =
-    let r = c .args .r .now in
-    let k = known c in
-    let ten = c .pre .0 in
-    (row-room r k ten, (omega (arith, cut-room r k 0 (k .more) .0), omega (arith, row-reads r k ten 0 (k .more))))
+room : (c : tie.Start Inv-loop μ-loop) → let a = c .args in Lies (a .table .now) (a .at) (length (a .r .now)) (length (a .out .now)) 0
+room c = row-lies (c .args .r .now) (known c) (c .pre .0) 0 (known c .more)
 
 turn : (c : tie.In-loop Inv-loop μ-loop)
-    → let st = cleared (entered c) in
-    let t = st .args .table .now in
-    let i = c .before .loop .i in
-    (i < getD t 2 0)
-    × ((getD t 5 0 * getD t 9 0 + getD t 7 0 * getD t 9 0 ≤ getD t 4 0)
-    × ((st .args .at + getD t 1 0 * getD t 3 0 + getD t 6 0 * getD t 9 0 + i * getD t 3 0 + getD t 7 0 * getD t 9 0 ≤ length (st .args .r .now))
-    × (getD t 0 0 * getD t 4 0 + i * getD t 4 0 + getD t 4 0 ≤ length (st .args .out .now))))
-turn c =
-    let st = cleared (entered c) in
-    let r = st .args .r .now in
-    let k = known st in
-    let ten = st .pre .0 in
-    let i = c .before .loop .i in
-    let h : i < getD (st .args .table .now) 2 0 = omega arith in
-    (h, (row-room r k ten, (row-reads r k ten i h, cut-room r k i h .0)))
+    → let a = cleared (entered c) .args in
+    Lies (a .table .now) (a .at) (length (a .r .now)) (length (a .out .now)) (c .before .loop .i)
+turn c = let st = cleared (entered c) in row-lies (st .args .r .now) (known st) (st .pre .0) (c .before .loop .i) (omega arith)
 
 long : (c : tie.At-loop Inv-loop μ-loop) → length (c .loop .out) ≡ length (cleared (placed (c .before)) .args .out .now)
 long c =
     let z = placed (c .before) in
     let st = cleared z in
-    cut-long (st .args .r .now) (known st) (z .clear-rows .ensures) (c .loop .i) (c .loop .out) (c .loop .inv .0) (c .loop .inv .1)
+    cut-long (st .args .r .now) (known st) (z .clear-rows .ensures) (c .loop .inv .0) (c .loop .inv .1)
 
 loop-holds : tie.Need-loop-holds Inv-loop μ-loop
 loop-holds c =
@@ -90,8 +70,8 @@ loop-again c =
     let z = entered i in
     let st = cleared z in (
       omega arith,
-      rows-step (st .args .r .now) (known st) (st .pre .0) (λ e. eqb-true _ _ e) (z .clear-rows .ensures) (lp .i) _ _ _ _ _ _ (turn i .0) (lp .inv .1)
-          refl refl refl refl (c .before .copy-run .ensures),
+      rows-step (st .args .r .now) (known st) (st .pre .0) (λ e. eqb-true _ _ e) (z .clear-rows .ensures) (omega arith) (lp .inv .1)
+          (c .before .copy-run .ensures),
     )
 
 returns : tie.Need-returns Inv-loop μ-loop
@@ -100,7 +80,7 @@ returns c =
     let z = placed (c .before .before) in
     let st = cleared z in
     let all : lp .i ≡ getD (st .args .table .now) 2 0 = omega arith in
-    cut-end (st .args .r .now) (known st) (z .clear-rows .ensures) (lp .i) _ all (lp .inv .1)
+    cut-end (st .args .r .now) (known st) (z .clear-rows .ensures) all (lp .inv .1)
 
 pub cut-rows-spec : {M : Type 1} → statement M
 cut-rows-spec =

@@ -61,9 +61,7 @@ loop-again c =
           same-len-mid (lp .at) (lp .at + f .min .result * a .size - lp .at) (lp .out) (c .before .rotate-group .last .1 .1 .1 .1 .0)
           (c .before .rotate-group .kept .1 .1 .1 .1 .0)
           ∙ lp .inv .long;
-      done =
-          group-step (a .r .now) (a .size) (a .cut) (lp .o) (f .min .result) (lp .at) (lp .inv .at-is) (lp .out) (a .out .now) _ (lp .inv .done) (room f .1)
-          (c .before .rotate-group .ensures);
+      done = group-step (a .r .now) (a .cut) (f .min .result) (lp .inv) (room f .1) (c .before .rotate-group .ensures);
     }
 
 pub rotate-groups-spec : {M : Type 1} → statement M

@@ -36,8 +36,7 @@ first c =
     let st = start c in
     let a = st .args in
     let b = limits st in
-    first-run (a .r .now) (a .out .now) _ (a .from) _ (a .to) _ (a .outer * a .size) (omega (arith, b, st .pre .1 .source)) (omega arith) (omega (arith, b))
-    (st .pre .1 .space) (omega arith) (c .before .copy-run .ensures)
+    first-run _ (omega (arith, b, st .pre .1 .source)) (omega (arith, b)) (st .pre .1 .space) (c .before .copy-run .ensures)
 
 -- The block lies within both, and so do the parts of it; the buffer keeps its length.
 room : (c : tie.In-loop Inv-loop μ-loop)
@@ -65,10 +64,7 @@ loop-again c =
       long =
           same-len-mid target (target + (a .from + a .to) - target) (lp .out) (c .before .copy-run2 .last .1 .0) (c .before .copy-run2 .kept .1 .0)
           ∙ lp .inv .long;
-      done =
-          shift-step (a .r .now) (a .outer) (a .size) (a .from) (a .to) (a .before) (a .after) (st .pre .0) (st .pre .1 .source) (a .out .now) _
-          (st .pre .1 .space)
-          (first p) (lp .o) (lp .at) (lp .out) _ (omega arith) (lp .inv) (c .before .copy-run2 .ensures);
+      done = shift-step (st .pre .0) (st .pre .1) (first p) (omega arith) (lp .inv) (c .before .copy-run2 .ensures);
     }
 
 returns : tie.Need-returns Inv-loop μ-loop

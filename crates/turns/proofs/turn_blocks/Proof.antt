@@ -11,7 +11,6 @@ use mir.Facts.{toZ-ofZ}
 use Rattle.meaning.specs.Terms.{modulo}
 use Rattle.shape.proofs.Places.{row-fits}
 use Rattle.turns.specs.declared.Turn.{Turn}
-use Rattle.turns.specs.declared.Turn.the-variants.{Back, By}
 use Rattle.copying.specs.Steps.{filled}
 use Rattle.turns.specs.Steps.{turnedAt}
 use Rattle.turns.proofs.Rows.{cut-le}

@@ -1,9 +1,8 @@
 use mathlib.Core.Path.{_≡_, sym, _∙_}
-use Prim.Native.Nat.{_<_}
 use native.Mathlib.Omega.{arith}
 use lib.ListN.{length}
 use borrow.Author.Needs.{needs}
-use Rattle.shape.specs.Shape.{maxRank, countOf}
+use Rattle.shape.specs.Shape.{maxRank}
 use Rattle.answer.proofs.Lent.{Lent, lent-good}
 use Rattle.turns.specs.Steps.{turnPosition}
 use Rattle.turns.proofs.Into.{into-scalar, into-none, Surrounds, surrounds, into-blocks}
@@ -44,8 +43,7 @@ turn-blocks-requires c κs =
       record {
         some = w .outer-some;
         source = omega (arith, w .whole, g .room);
-        space = omega
-            (arith, w .whole, g .count-is, st .pre .count-is, st .pre .space);
+        space = omega (arith, w .whole, g .count-is, st .pre .count-is, st .pre .space);
       },
     )
 
