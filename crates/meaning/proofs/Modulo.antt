@@ -24,8 +24,8 @@ pub modulo-small : (m n : ℕ) → m < n → modulo (pos m) n ≡ m
 modulo-small m n h = modulo-pos m n ∙ mod-eq-of-lt h
 
 -- What `signed::modulo` answers, for n above 0.
-pub amount-is : (z : ℤ) (n : ℕ) → 0 < n → cond (eqb n 0) 0 (modulo z n) ≡ modulo z n
-amount-is z n h = rw (ne-eqb n 0 (λ e. omega arith))
+pub modulo-is : (z : ℤ) (n : ℕ) → 0 < n → cond (eqb n 0) 0 (modulo z n) ≡ modulo z n
+modulo-is z n h = rw (ne-eqb n 0 (λ e. omega arith))
 
 -- From the size s of a number, as code finds it.
 pub modulo-negative : (z : ℤ) (n s : ℕ) → negative z ≡ true → s ≡ natAbs z → n - 1 - (s - 1) % n ≡ modulo z n

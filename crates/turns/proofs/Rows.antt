@@ -14,7 +14,7 @@ use Rattle.meaning.specs.Array.{tab}
 use Rattle.copying.specs.Runs.{reversed}
 use Rattle.copying.proofs.Runs.{reversed-whole, tab-is}
 use Rattle.meaning.specs.Terms.{modulo}
-use Rattle.meaning.proofs.Modulo.{modulo-lt, modulo-turn, amount-is}
+use Rattle.meaning.proofs.Modulo.{modulo-lt, modulo-turn, modulo-is}
 use Rattle.shape.proofs.Places.{row-in}
 use Rattle.turns.specs.declared.Turn.{Turn}
 use Rattle.turns.specs.declared.Turn.the-variants.{Back, By}
@@ -60,11 +60,11 @@ block-back r n c = refl
 -- An amount as rows, `rows` as the code finds them: they are fewer than n, and a block cut there is turned by the amount.
 module _ (z : ℤ) (n rows : ℕ) (some : 0 < n) (e : rows ≡ cond (eqb n 0) 0 (modulo z n)) where
   pub rows-lt : rows < n
-  rows-lt = rw (e ∙ amount-is z n some) (modulo-lt z n some)
+  rows-lt = rw (e ∙ modulo-is z n some) (modulo-lt z n some)
 
   rows-turn : (i : ℕ) → (i + rows) % n ≡ turnPosition (By z) n i
   unfolding turnPosition
-  rows-turn i = ap (λ k. (i + k) % n) (e ∙ amount-is z n some) ∙ sym (modulo-turn i z n some)
+  rows-turn i = ap (λ k. (i + k) % n) (e ∙ modulo-is z n some) ∙ sym (modulo-turn i z n some)
 
   pub cut-le : (c : ℕ) → rows * c ≤ n * c
   cut-le c = let l = rows-lt in mul-le-mul-right c (omega arith)
