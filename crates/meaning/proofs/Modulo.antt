@@ -27,7 +27,7 @@ modulo-small m n h = modulo-pos m n ∙ mod-eq-of-lt h
 pub modulo-is : (z : ℤ) (n : ℕ) → 0 < n → cond (eqb n 0) 0 (modulo z n) ≡ modulo z n
 modulo-is z n h = rw (ne-eqb n 0 (λ e. omega arith))
 
--- From the size s of a number, as code finds it.
+-- From the magnitude s of a number, as code finds it.
 pub modulo-negative : (z : ℤ) (n s : ℕ) → negative z ≡ true → s ≡ natAbs z → n - 1 - (s - 1) % n ≡ modulo z n
 unfolding modulo negative
 modulo-negative (pos m) n s h e = no-way h
