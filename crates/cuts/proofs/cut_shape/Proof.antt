@@ -29,6 +29,9 @@ loop-again c =
     lengths-more (lp .inv) _ (omega arith)
     (c .cut-length .ensures ∙ ap (λ x. cutLength (a .kind) x (getD (a .t3) (lp .axis) 0)) (toZ-ofZ (sfits-of (c .before .cut-length-arg .given))))
 
+returns : tie.Need-returns Inv-loop μ-loop
+returns c = lengths-all (c .before .loop .inv) (omega arith)
+
 pub cut-shape-spec : {M : Type 1} → statement M
 cut-shape-spec =
     tie.close
@@ -47,4 +50,4 @@ cut-shape-spec =
     (λ c. search needs)
     (λ c. search needs)
     loop-again
-    (λ c. lengths-all (c .before .loop .inv) (omega arith)))
+    returns)
