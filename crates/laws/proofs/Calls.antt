@@ -34,7 +34,7 @@ pub array-rule : (r : Operand) → IsArray r → shapeRule (rank (arrayOf r)) (a
 array-rule r h = rw (array-rank r h) (form-shape r (h .form))
 
 -- A reply that gives the array a.
-pub record Gives (y : Reply) (a : Array) : Type 0 where
+pub record GivesArray (y : Reply) (a : Array) : Type 0 where
   pub number : Succeeds y
   pub rank : y .shape .rank ≡ length (a .lengths)
   pub array : arrayOf (given y) ≡ a
@@ -60,12 +60,12 @@ module _ (y : Reply) (ns : List ℕ) (xs out : List ℤ) (e : y ≡ record { num
         (le-leb (count ns) (length (xs ++ drop (count ns) out)) (rw (length-append xs (drop (count ns) out)) (omega (arith, w))));
   })
 
-  settled : Gives y (record { lengths = ns; elements = xs })
+  settled : GivesArray y (record { lengths = ns; elements = xs })
   settled = record { number = ap (λ a. a .number) e; rank = ap (λ a. a .shape .rank) e; array = given-array; good = given-good }
 
 -- A call gives the primitive's result where nothing is met.
 gives-own : (n G K : ℤ) (L R : Operand) (out : List ℤ) → IsLong n G K L R out → Passes (named n primitives) G L R (meaningOf n G K L R)
-    → Gives (reply n G K L R out) (result (meaningOf n G K L R))
+    → GivesArray (reply n G K L R out) (result (meaningOf n G K L R))
 unfolding settle build
 gives-own n G K L R out room f =
     let m : Meaning = meaningOf n G K L R in
@@ -84,27 +84,28 @@ pub record Unrefused (n G K : ℤ) (L R : Operand) (out : List ℤ) (A B : Array
 
 -- It gives the primitive's result for them.
 pub gives : {n G K : ℤ} {L R : Operand} {out : List ℤ} {A B : Array} → Unrefused n G K L R out A B
-    → Gives (reply n G K L R out) (result (named n primitives .meaning G K A B))
+    → GivesArray (reply n G K L R out) (result (named n primitives .meaning G K A B))
 gives {n} {G} {K} {L} {R} {out} h =
     let m : Array → Array → Meaning = named n primitives .meaning G K in
-    subst₂ (λ A B. Passes (named n primitives) G L R (m A B) → Gives (reply n G K L R out) (result (m A B))) (h .left-is) (h .right-is)
+    subst₂ (λ A B. Passes (named n primitives) G L R (m A B) → GivesArray (reply n G K L R out) (result (m A B))) (h .left-is) (h .right-is)
     (gives-own n G K L R out (h .room))
     (record { left = h .left-form; right = h .right-form; origin = h .origin; limit = h .limit; own = h .own })
 
 -- Two replies that give one array are the same.
-pub same-arrays : {y z : Reply} {a b : Array} → Gives y a → Gives z b → a ≡ b → Same (given y) (given z)
+pub same-arrays : {y z : Reply} {a b : Array} → GivesArray y a → GivesArray z b → a ≡ b → Same (given y) (given z)
 same-arrays {y} {z} {a} {b} g h e =
     let q : arrayOf (given y) ≡ arrayOf (given z) = g .array ∙ e ∙ sym (h .array) in
     record { rank = g .rank ∙ ap (λ c. length (c .lengths)) e ∙ sym (h .rank); lengths = ap (λ c. c .lengths) q; elements = ap (λ c. c .elements) q }
 
 -- A reply that gives the array of r.
-pub same-array : {y : Reply} {a : Array} (r : Operand) → IsArray r → Gives y a → a ≡ arrayOf r → Same (given y) r
+pub same-array : {y : Reply} {a : Array} (r : Operand) → IsArray r → GivesArray y a → a ≡ arrayOf r → Same (given y) r
 same-array {y} {a} r h g e =
     let q : arrayOf (given y) ≡ arrayOf r = g .array ∙ e in
     record { rank = g .rank ∙ ap (λ c. length (c .lengths)) e ∙ array-rank r h; lengths = ap (λ c. c .lengths) q; elements = ap (λ c. c .elements) q }
 
 -- What a reply gives holds each number as often as r.
-pub as-often : {y : Reply} {b : Array} (r : Operand) → Gives y b → ((x : ℤ) → occurs x (b .elements) ≡ occurs x (arrayOf r .elements)) → AsOften (given y) r
+pub as-often : {y : Reply} {b : Array} (r : Operand) → GivesArray y b → ((x : ℤ) → occurs x (b .elements) ≡ occurs x (arrayOf r .elements)) → AsOften
+    (given y) r
 as-often r g f x = ap (λ c. occurs x (c .elements)) (g .array) ∙ f x
 
 -- A single lists its element.

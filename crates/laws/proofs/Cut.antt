@@ -66,16 +66,16 @@ in-shorter (m ∷ s) (j ∷ p) zero n h i = (omega arith, i .1)
 in-shorter (m ∷ s) (j ∷ p) (suc k) n h i = (i .0, in-shorter s p k n h (i .1))
 
 -- The first n along axis k.
-unfoldable pub front : Array → ℕ → ℕ → Array
-front a k n = build (set (a .lengths) k n) (at a)
+unfoldable pub firstPart : Array → ℕ → ℕ → Array
+firstPart a k n = build (set (a .lengths) k n) (at a)
 
-pub front-lengths : (a : Array) (k n : ℕ) → front a k n .lengths ≡ set (a .lengths) k n
-unfolding front
+pub front-lengths : (a : Array) (k n : ℕ) → firstPart a k n .lengths ≡ set (a .lengths) k n
+unfolding firstPart
 front-lengths a k n = build-lengths (set (a .lengths) k n) (at a)
 
 pub takes-front : (ls : List ℕ) (a : Array) (k n : ℕ) → 0 < rank a → n ≤ axis a k
-    → result (takes (record { lengths = ls; elements = firsts (a .lengths) k n }) a) ≡ front a k n
-unfolding takes front
+    → result (takes (record { lengths = ls; elements = firsts (a .lengths) k n }) a) ≡ firstPart a k n
+unfolding takes firstPart
 takes-front ls a k n r h =
     let ns : List ℕ = a .lengths in
     let z : List ℤ = firsts ns k n in

@@ -26,13 +26,13 @@ use Rattle.meaning.proofs.Sides.{same-lengths, whole, side-whole, higher-left}
 use Rattle.meaning.proofs.Replies.{NoneMet}
 use Rattle.laws.specs.Words.{given}
 use Rattle.laws.specs.Laws.{FirstAndRest}
-use Rattle.laws.proofs.Calls.{result, array-rule, Gives, gives, same-array, listed, lists-array}
-use Rattle.laws.proofs.Cut.{firsts, lesser, length-firsts, length-lesser, sizes-firsts, lengths-lesser, front, front-lengths, takes-front}
+use Rattle.laws.proofs.Calls.{result, array-rule, GivesArray, gives, same-array, listed, lists-array}
+use Rattle.laws.proofs.Cut.{firsts, lesser, length-firsts, length-lesser, sizes-firsts, lengths-lesser, firstPart, front-lengths, takes-front}
 use Rattle.laws.proofs.Cut.{back, back-lengths, drops-back}
 
 -- Two arrays of equal rank joined along axis k.
-unfoldable pub joined : ℕ → Array → Array → Array
-joined k a b =
+unfoldable pub joinedArrays : ℕ → Array → Array → Array
+joinedArrays k a b =
     build
     (set (a .lengths) k (axis a k + axis b k))
     (λ p. cond (ltb (getD p k 0) (axis a k)) (at a p) (at b (set p k (getD p k 0 - axis a k))))
@@ -45,8 +45,8 @@ beside k ns l r =
     (λ p. cond (ltb (getD p k 0) (l .extent)) (l .element p) (r .element (set p k (getD p k 0 - l .extent))))
 
 module _ (G K : ℤ) (a b : Array) (h : 0 < rank a) (e : rank a ≡ rank b) where
-  catenate-joined : result (catenate G K a b) ≡ joined (fromZero G K) a b
-  unfolding catenate joined
+  catenate-joined : result (catenate G K a b) ≡ joinedArrays (fromZero G K) a b
+  unfolding catenate joinedArrays
   catenate-joined =
       let k : ℕ = fromZero G K in
       ap (λ ns. beside k ns (side ns k a) (side ns k b)) (higher-left a b h (omega arith))
@@ -76,7 +76,7 @@ module _ (G K : ℤ) (a b : Array) (h : 0 < rank a) (e : rank a ≡ rank b) wher
 
 -- The first n and the rest are the array.
 module _ (a : Array) (k n : ℕ) (w : Whole a) (l : k < rank a) (h : n ≤ axis a k) where
-  front-axis : axis (front a k n) k ≡ n
+  front-axis : axis (firstPart a k n) k ≡ n
   front-axis = ap (λ t. getD t k 0) (front-lengths a k n) ∙ getD-set-same (a .lengths) k n 0 l
 
   back-axis : axis (back a k n) k ≡ axis a k - n
@@ -86,8 +86,8 @@ module _ (a : Array) (k n : ℕ) (w : Whole a) (l : k < rank a) (h : n ≤ axis 
   kept m i p j b = in-set (a .lengths) p k m i j b
 
   same-at : (p : List ℕ) → In (a .lengths) p → Dec (getD p k 0 < n)
-      → cond (ltb (getD p k 0) n) (at (front a k n) p) (at (back a k n) (set p k (getD p k 0 - n))) ≡ at a p
-  unfolding front back
+      → cond (ltb (getD p k 0) n) (at (firstPart a k n) p) (at (back a k n) (set p k (getD p k 0 - n))) ≡ at a p
+  unfolding firstPart back
   same-at p i (yes b) = rw (lt-ltb (getD p k 0) n b) (at-build (set (a .lengths) k n) (at a) p (rw (set-getD p k 0) at (kept n (getD p k 0) p i b)))
   same-at p i (no b) =
       let x : ℕ = getD p k 0 - n in
@@ -98,12 +98,12 @@ module _ (a : Array) (k n : ℕ) (w : Whole a) (l : k < rank a) (h : n ≤ axis 
       (kept _ x p i (omega (arith, in-at (a .lengths) p k i l)))
       ∙ ap (at a) (set-set p k x _ ∙ ap (set p k) e ∙ set-getD p k 0))
 
-  front-back : joined k (front a k n) (back a k n) ≡ a
-  unfolding joined
+  front-back : joinedArrays k (firstPart a k n) (back a k n) ≡ a
+  unfolding joinedArrays
   front-back =
-      ap₂ (λ x y. build (set (front a k n .lengths) k (x + y))
-      (λ p. cond (ltb (getD p k 0) x) (at (front a k n) p) (at (back a k n) (set p k (getD p k 0 - x))))) front-axis back-axis
-      ∙ ap (λ t. build t (λ p. cond (ltb (getD p k 0) n) (at (front a k n) p) (at (back a k n) (set p k (getD p k 0 - n)))))
+      ap₂ (λ x y. build (set (firstPart a k n .lengths) k (x + y))
+      (λ p. cond (ltb (getD p k 0) x) (at (firstPart a k n) p) (at (back a k n) (set p k (getD p k 0 - x))))) front-axis back-axis
+      ∙ ap (λ t. build t (λ p. cond (ltb (getD p k 0) n) (at (firstPart a k n) p) (at (back a k n) (set p k (getD p k 0 - n)))))
       (ap (λ s. set s k (n + (axis a k - n))) (front-lengths a k n)
       ∙ set-set (a .lengths) k n _
       ∙ ap (set (a .lengths) k) (let q : n + (axis a k - n) ≡ axis a k = omega arith in q)
@@ -128,12 +128,12 @@ first-and-rest G K K₁ K₂ n l₁ l₂ r out₁ out₂ out o h t n≤ s₁ s�
     let l : k < rank a = within-lt (K -ℤ G) (rank a) t in
     let w : Whole a = form-whole r (h .form) in
     let good : shapeRule (length ns) ns ≡ true = array-rule r h in
-    let x : Array = front a k n in
+    let x : Array = firstPart a k n in
     let y : Array = back a k n in
     let some : 0 < rank a = omega arith in
     let fs : List ℤ = firsts ns k n in
     let ds : List ℤ = lesser ns k n in
-    let first : Gives (reply (pos 23) G K₁ l₁ r out₁) (result (takes (listed l₁ fs) a)) =
+    let first : GivesArray (reply (pos 23) G K₁ l₁ r out₁) (result (takes (listed l₁ fs) a)) =
     gives (record {
       left-is = lists-array l₁ fs s₁;
       right-is = refl;
@@ -151,7 +151,7 @@ first-and-rest G K K₁ K₂ n l₁ l₂ r out₁ out₂ out o h t n≤ s₁ s�
         ),
       );
     }) in
-    let rest : Gives (reply (pos 24) G K₂ l₂ r out₂) (result (drops (listed l₂ ds) a)) =
+    let rest : GivesArray (reply (pos 24) G K₂ l₂ r out₂) (result (drops (listed l₂ ds) a)) =
     gives (record {
       left-is = lists-array l₂ ds s₂;
       right-is = refl;
@@ -174,7 +174,7 @@ first-and-rest G K K₁ K₂ n l₁ l₂ r out₁ out₂ out o h t n≤ s₁ s�
     let rx : rank x ≡ rank a = ap length (front-lengths a k n) ∙ length-set ns k n in
     let ry : rank y ≡ rank a = ap length (back-lengths a k n) ∙ length-set ns k (axis a k - n) in
     let whole : result (catenate G K x y) ≡ a = catenate-joined G K x y (omega arith) (rx ∙ sym ry) ∙ front-back a k n w l n≤ in
-    let both : Gives (reply (pos 22) G K (given (reply (pos 23) G K₁ l₁ r out₁)) (given (reply (pos 24) G K₂ l₂ r out₂)) out) (result (catenate G K x y)) =
+    let both : GivesArray (reply (pos 22) G K (given (reply (pos 23) G K₁ l₁ r out₁)) (given (reply (pos 24) G K₂ l₂ r out₂)) out) (result (catenate G K x y)) =
     gives (record {
       left-is = first .array ∙ takes-front (arrayOf l₁ .lengths) a k n some n≤;
       right-is = rest .array ∙ drops-back (arrayOf l₂ .lengths) a k n some;

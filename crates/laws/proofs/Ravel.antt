@@ -18,7 +18,7 @@ use Rattle.meaning.proofs.Tab.{tab-ext, tab-getD}
 use Rattle.meaning.proofs.Arrays.{Whole, build-ext, build-at, form-whole}
 use Rattle.laws.specs.Words.{given}
 use Rattle.laws.specs.Laws.{RavelledReshaped}
-use Rattle.laws.proofs.Calls.{result, array-rule, Gives, gives, same-array, listed, lists-array}
+use Rattle.laws.proofs.Calls.{result, array-rule, GivesArray, gives, same-array, listed, lists-array}
 
 -- Sizes of numbers that are not negative.
 pub sizes-pos : (p : List ℕ) → map natAbs (map pos p) ≡ p
@@ -54,7 +54,7 @@ ravelled-reshaped G K₁ K₂ l₁ l r out₁ out o h s room₁ room =
     let a : Array = arrayOf r in
     let w : Whole a = form-whole r (h .form) in
     let once : Operand = given (reply (pos 12) G K₁ l₁ r out₁) in
-    let first : Gives (reply (pos 12) G K₁ l₁ r out₁) (result (ravel a)) =
+    let first : GivesArray (reply (pos 12) G K₁ l₁ r out₁) (result (ravel a)) =
     gives (record {
       left-is = refl;
       right-is = refl;
@@ -67,7 +67,7 @@ ravelled-reshaped G K₁ K₂ l₁ l r out₁ out o h s room₁ room =
     }) in
     let line : Array = record { lengths = length (a .elements) ∷ []; elements = a .elements } in
     let held : arrayOf once ≡ line = first .array ∙ ravel-is a in
-    let second : Gives (reply (pos 21) G K₂ l once out) (result (reshape (listed l (map pos (a .lengths))) line)) =
+    let second : GivesArray (reply (pos 21) G K₂ l once out) (result (reshape (listed l (map pos (a .lengths))) line)) =
     gives (record {
       left-is = lists-array l _ s;
       right-is = held;

@@ -17,7 +17,7 @@ use Rattle.meaning.proofs.Arrays.{build-lengths, form-whole}
 use Rattle.meaning.proofs.Sent.{length-back, length-shape, sent-has, all-occur}
 use Rattle.laws.specs.Words.{IsArray, IsOrigin, IsLong, given, Permutes, Sends, Transposition, by15, by26, primitiveOf, leftOperandOf, axesOf, sentOn}
 use Rattle.laws.specs.Laws.{TwoTranspositions, TranspositionKeeps}
-use Rattle.laws.proofs.Calls.{array-rule, Gives, gives, same-arrays, as-often, lists-array}
+use Rattle.laws.proofs.Calls.{array-rule, GivesArray, gives, same-arrays, as-often, lists-array}
 use Rattle.laws.proofs.Permuted.{permuted-count}
 use Rattle.laws.proofs.Transposed.{transposed, axes-is, shape-at, broughtBack-one, transpose-occurs, permutes-broughtBack}
 use Rattle.laws.proofs.Transposed.{transposed-transposed, permutes-backwards}
@@ -75,7 +75,7 @@ axes-permute (by26 l ts s p) = p
 
 -- What 15 and 26 give.
 module _ (G K : ℤ) (l r : Operand) (out : List ℤ) (o : IsOrigin G) (h : IsArray r) where
-  reversed-axes : IsLong (pos 15) G K l r out → Gives (reply (pos 15) G K l r out) (transposed (backwards (rank (arrayOf r))) (arrayOf r))
+  reversed-axes : IsLong (pos 15) G K l r out → GivesArray (reply (pos 15) G K l r out) (transposed (backwards (rank (arrayOf r))) (arrayOf r))
   unfolding named primitives eqZ transpose transposed
   reversed-axes room =
       let p = permutes-backwards (rank (arrayOf r)) in
@@ -91,12 +91,12 @@ module _ (G K : ℤ) (l r : Operand) (out : List ℤ) (o : IsOrigin G) (h : IsAr
       })
 
   sent-axes : (ts : List ℕ) → Sends G l ts → Permutes (rank (arrayOf r)) ts → IsLong (pos 26) G K l r out
-      → Gives (reply (pos 26) G K l r out) (transposed ts (arrayOf r))
+      → GivesArray (reply (pos 26) G K l r out) (transposed ts (arrayOf r))
   unfolding named primitives eqZ transposeBy transposed
   sent-axes ts s p room =
       let a : Array = arrayOf r in
       let xs : List ℤ = map (λ t. G +ℤ pos t) ts in
-      subst (λ us. Gives (reply (pos 26) G K l r out) (transposed us a)) (axes-of G ts)
+      subst (λ us. GivesArray (reply (pos 26) G K l r out) (transposed us a)) (axes-of G ts)
       (gives (record {
         left-is = lists-array l xs s;
         right-is = refl;
@@ -122,9 +122,9 @@ module _ (G K : ℤ) (l r : Operand) (out : List ℤ) (o : IsOrigin G) (h : IsAr
 
 -- A transposition that permutes all n axes gives the array transposed.
 transposition-gives : (G K : ℤ) (n : ℕ) (t : Transposition G n) (r : Operand) (out : List ℤ) → IsOrigin G → IsArray r → rank (arrayOf r) ≡ n
-    → IsLong (primitiveOf t) G K (leftOperandOf t) r out → Gives (reply (primitiveOf t) G K (leftOperandOf t) r out) (transposed (axesOf t) (arrayOf r))
+    → IsLong (primitiveOf t) G K (leftOperandOf t) r out → GivesArray (reply (primitiveOf t) G K (leftOperandOf t) r out) (transposed (axesOf t) (arrayOf r))
 transposition-gives G K n (by15 l) r out o h e room =
-    subst (λ m. Gives (reply (pos 15) G K l r out) (transposed (backwards m) (arrayOf r))) e (reversed-axes G K l r out o h room)
+    subst (λ m. GivesArray (reply (pos 15) G K l r out) (transposed (backwards m) (arrayOf r))) e (reversed-axes G K l r out o h room)
 transposition-gives G K n (by26 l ts s p) r out o h e room = sent-axes G K l r out o h ts s (subst (λ m. Permutes m ts) (sym e) p) room
 
 pub transposition-keeps : TranspositionKeeps

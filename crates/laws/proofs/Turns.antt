@@ -14,7 +14,7 @@ use Rattle.meaning.proofs.Arrays.{Whole, form-whole}
 use Rattle.meaning.proofs.Scalars.{vector-rank}
 use Rattle.laws.specs.Words.{IsArray, IsOrigin, IsTurnAxis, IsLong, given, IsSingle}
 use Rattle.laws.specs.Laws.{TwoRotations, TwoReversals, RotationKeeps, ReversalKeeps}
-use Rattle.laws.proofs.Calls.{array-rule, Gives, gives, same-arrays, same-array, as-often, single-lists, lists-array}
+use Rattle.laws.proofs.Calls.{array-rule, GivesArray, gives, same-arrays, same-array, as-often, single-lists, lists-array}
 use Rattle.laws.proofs.Moves.{alongLines, moved, moved-lengths, moved-ext, moved-id, moved-moved}
 use Rattle.meaning.proofs.Modulo.{modulo-lt, modulo-sum, modulo-back, modulo-forth}
 use Rattle.laws.proofs.Sum.{OneToOne, Below}
@@ -28,14 +28,14 @@ abbrev rotated : ℤ → ℤ → ℤ → Array → Array
 rotated G K z a = moved a (fromZero G K) (λ q i. modulo (pos i +ℤ z) (axis a (fromZero G K)))
 
 module _ (G K : ℤ) (r : Operand) (out : List ℤ) (o : IsOrigin G) (h : IsArray r) (t : IsTurnAxis G K r) where
-  reverse-gives : (l : Operand) → IsLong (pos 14) G K l r out → Gives (reply (pos 14) G K l r out) (turned G K (arrayOf r))
+  reverse-gives : (l : Operand) → IsLong (pos 14) G K l r out → GivesArray (reply (pos 14) G K l r out) (turned G K (arrayOf r))
   unfolding named primitives eqZ reverse along alongLines moved
   reverse-gives l room =
       let rule = array-rule r h in
       gives
       (record { left-is = refl; right-is = refl; left-form = refl; right-form = h .form; origin = o; room = room; limit = rule; own = (ap not t, tt) })
 
-  rotate-gives : (l : Operand) (z : ℤ) → IsSingle l z → IsLong (pos 25) G K l r out → Gives (reply (pos 25) G K l r out) (rotated G K z (arrayOf r))
+  rotate-gives : (l : Operand) (z : ℤ) → IsSingle l z → IsLong (pos 25) G K l r out → GivesArray (reply (pos 25) G K l r out) (rotated G K z (arrayOf r))
   unfolding named primitives eqZ rotate along alongLines moved
   rotate-gives l z one room =
       let s = single-lists l z one in
