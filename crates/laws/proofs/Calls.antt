@@ -104,8 +104,8 @@ same-array {y} {a} r h g e =
     record { rank = g .rank ∙ ap (λ c. length (c .lengths)) e ∙ array-rank r h; lengths = ap (λ c. c .lengths) q; elements = ap (λ c. c .elements) q }
 
 -- What a reply gives holds each number as often as r.
-pub as-often : {y : Reply} {b : Array} (r : Operand) → GivesArray y b → ((x : ℤ) → occurs x (b .elements) ≡ occurs x (arrayOf r .elements)) → AsOften
-    (given y) r
+pub as-often : {y : Reply} {b : Array} (r : Operand) → GivesArray y b → ((x : ℤ) → occurs x (b .elements) ≡ occurs x (arrayOf r .elements))
+    → AsOften (given y) r
 as-often r g f x = ap (λ c. occurs x (c .elements)) (g .array) ∙ f x
 
 -- A single lists its element.
