@@ -1,4 +1,6 @@
 // The shape of an array, and a place in it.
+#![tactic(auto)]
+
 ghost use Rattle.std.specs.Prelude.{◌≡◌, true, false, [], ◌∷◌, ◌++◌, suc, ◌*◌, ◌-◌, ◌≤◌, ◌<◌, min, take, replicate};
 ghost use Rattle.std.proofs.Math.Seq.{slice};
 ghost use Rattle.shape.specs.Shape.{max_rank, max_count, counted, good_shape, count_of, shape_of, made_of, with_length, without_axis, scalar, count};
@@ -7,7 +9,7 @@ ghost use Rattle.shape.specs.Place.{end_place, successor, inside};
 
 // A rank and a length for each axis; only the first `rank` lengths count.
 #[repr(C)]
-#[derive(Drop)]
+#[derive(Clone, Copy)]
 pub struct Shape {
     pub rank: usize,
     pub lens: [usize; Shape::MAX_RANK],
@@ -155,7 +157,7 @@ impl Shape {
 }
 
 // What stands around an axis: the count of the axes before it, its length, and the count of the axes after it.
-#[derive(Drop)]
+#[derive(Clone, Copy)]
 pub struct Around {
     pub outer: usize,
     pub length: usize,
@@ -215,7 +217,7 @@ fn cleared(ns: [usize; Shape::MAX_RANK], rank: usize) -> [usize; Shape::MAX_RANK
 
 // One position for each axis, and whether the last place was passed.
 #[repr(C)]
-#[derive(Drop)]
+#[derive(Clone, Copy)]
 pub struct Place {
     pub positions: [usize; Shape::MAX_RANK],
     pub end: bool,

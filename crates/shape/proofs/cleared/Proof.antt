@@ -10,26 +10,26 @@ use Rattle.shape.proofs.Padded.{padded-more}
 use Rattle.shape.proofs.cleared.Statement.{statement}
 use Rattle.shape.proofs.cleared.Tie as tie
 
-abbrev invariant-loop : tie.invariant-loop
+abbrev invariant-loop : tie.invariant-loop-i
 invariant-loop rank ns out₀ i₀ out i = (i ≤ rank) × (out ≡ take i ns ++ replicate (max_rank - i) 0)
 
-abbrev decreases-loop : tie.decreases-loop
+abbrev decreases-loop : tie.decreases-loop-i
 decreases-loop rank ns out₀ i₀ out i = rank - i
 
-loop-again : tie.Need-loop-preserved invariant-loop decreases-loop
+loop-again : tie.Need-loop-i-preserved invariant-loop decreases-loop
 loop-again c =
-    let ns = c.before.before.args.t1 in
-    let lp = c.before.loop in
+    let ns = c.before.before.args.ns in
+    let lp = c.before.loop-i in
     let long : length ns ≡ max_rank = search rules in
     (omega arith, rw lp.invariant.1 (padded-more ns max_rank lp.i (omega arith) (omega arith)))
 
 returns : tie.Need-returns invariant-loop decreases-loop
 returns c =
-    let e : c.before.loop.i ≡ c.before.before.args.rank = omega arith in
-    c.before.loop.invariant.1 ∙ rw e
+    let e : c.before.loop-i.i ≡ c.before.before.args.rank = omega arith in
+    c.before.loop-i.invariant.1 ∙ rw e
 
-pub cleared-spec : {M : Type 1} → statement M
-cleared-spec =
+pub cleared_spec : {M : Type 1} → statement M
+cleared_spec =
     tie.close
     (tie.spec
     invariant-loop

@@ -11,53 +11,53 @@ use Rattle.shape.proofs.Successor.{LiesIn, Carry, carry-start, carry-below, carr
 use Rattle.shape.proofs.stepped.Statement.{statement}
 use Rattle.shape.proofs.stepped.Tie as tie
 
-abbrev invariant-loop : tie.invariant-loop
+abbrev invariant-loop : tie.invariant-loop-i
 invariant-loop p s rank q₀ i₀ q i = Carry p s q i
 
-abbrev decreases-loop : tie.decreases-loop
+abbrev decreases-loop : tie.decreases-loop-i
 decreases-loop p s rank q₀ i₀ q i = i
 
-lying : (c : tie.Start invariant-loop decreases-loop) → LiesIn c.args.t1 c.args.t2
+lying : (c : tie.Start invariant-loop decreases-loop) → LiesIn c.args.p c.args.s
 lying c = record { all-positions = search rules; all-lens = search rules; unmarked = c.requires.0; good = c.requires.1.0; lies = c.requires.1.1 }
 
-cleared-requires : tie.Need-cleared-requires invariant-loop decreases-loop
-cleared-requires c κs = omega (arith, good-rank c.before.args.t2 c.before.requires.1.0)
+cleared-requires : tie.Need-cleared-q-requires invariant-loop decreases-loop
+cleared-requires c κs = omega (arith, good-rank c.before.args.s c.before.requires.1.0)
 
-loop-holds : tie.Need-loop-init invariant-loop decreases-loop
+loop-holds : tie.Need-loop-i-init invariant-loop decreases-loop
 loop-holds c =
     let st = c.before.before in
-    carry-start st.args.t1 st.args.t2 (lying st) c.cleared.result c.cleared.ensures
+    carry-start st.args.p st.args.s (lying st) c.cleared-q.result c.cleared-q.ensures
 
-add-next : tie.Need-overflow-add-next invariant-loop decreases-loop
+add-next : tie.Need-overflow_add-next invariant-loop decreases-loop
 add-next c =
     let st = c.before.before.before.before.before in
-    let lp = c.before.before.loop in
-    let f : Fits w64 (get_or st.args.t2.lens (lp.i - 1) 0) = search rules in
-    omega (arith, carry-below st.args.t1 st.args.t2 (lying st) lp.q lp.i (lp.i - 1) (omega arith) lp.invariant)
+    let lp = c.before.before.loop-i in
+    let f : Fits w64 (get_or st.args.s.lens (lp.i - 1) 0) = search rules in
+    omega (arith, carry-below st.args.p st.args.s (lying st) lp.q lp.i (lp.i - 1) (omega arith) lp.invariant)
 
-returns : tie.Need-returns invariant-loop decreases-loop
+returns : tie.Need-returns-then-next-s invariant-loop decreases-loop
 returns c =
     let n = c.before.before in
-    let lp = n.before.before.loop in
+    let lp = n.before.before.loop-i in
     let st = n.before.before.before.before.before in
-    sym (carry-stop st.args.t1 st.args.t2 (lying st) lp.q lp.i (lp.i - 1) (omega arith) lp.invariant (omega arith))
+    sym (carry-stop st.args.p st.args.s (lying st) lp.q lp.i (lp.i - 1) (omega arith) lp.invariant (omega arith))
 
-loop-again : tie.Need-loop-preserved invariant-loop decreases-loop
+loop-again : tie.Need-loop-i-preserved invariant-loop decreases-loop
 loop-again c =
     let n = c.before.before in
-    let lp = n.before.before.loop in
+    let lp = n.before.before.loop-i in
     let st = n.before.before.before.before.before in
-    carry-on st.args.t1 st.args.t2 (lying st) lp.q lp.i (lp.i - 1) (omega arith) lp.invariant (omega arith)
+    carry-on st.args.p st.args.s (lying st) lp.q lp.i (lp.i - 1) (omega arith) lp.invariant (omega arith)
 
-returns-2 : tie.Need-returns-2 invariant-loop decreases-loop
+returns-2 : tie.Need-returns invariant-loop decreases-loop
 returns-2 c =
     let st = c.before.before.before.before.before in
-    let lp = c.before.before.loop in
+    let lp = c.before.before.loop-i in
     let e : lp.i ≡ 0 = omega arith in
-    c.at-end.ensures ∙ sym (carry-end st.args.t1 st.args.t2 (lying st) lp.q (rw e at lp.invariant))
+    c.at_end.ensures ∙ sym (carry-end st.args.p st.args.s (lying st) lp.q (rw e at lp.invariant))
 
-pub stepped-spec : {M : Type 1} → statement M
-stepped-spec =
+pub stepped_spec : {M : Type 1} → statement M
+stepped_spec =
     tie.close
     (tie.spec
     invariant-loop

@@ -6,30 +6,30 @@ use Rattle.shape.proofs.Successor.{successor-marked, successor-bad, successor-ou
 use Rattle.shape.proofs.Place.successor.Statement.{statement}
 use Rattle.shape.proofs.Place.successor.Tie as tie
 
-returns : tie.Need-returns
-returns c = c.at-end.ensures ∙ sym (successor-marked c.before.before.args.self c.before.before.args.s c.before.if1.true)
+returns : tie.Need-returns-then-marked
+returns c = c.at_end.ensures ∙ sym (successor-marked c.before.before.args.self c.before.before.args.s c.before.if-marked.true)
 
-returns-2 : tie.Need-returns-2
+returns-2 : tie.Need-returns-then-count-gt-MAX_COUNT
 returns-2 c =
     let a = c.before.before.before.before.args in
-    c.at-end2.ensures ∙ sym (successor-bad a.self a.s (bad-count a.s (omega arith)))
+    c.at_end-then-count-gt-MAX_COUNT.ensures ∙ sym (successor-bad a.self a.s (bad-count a.s (omega arith)))
 
 inside-requires : tie.Need-inside-requires
 inside-requires c κs = let s = c.before.before.before.args.s in good-rank s (good-count s (omega arith))
 
 stepped-requires : tie.Need-stepped-requires
 stepped-requires c κs = (
-  c.before.before.before.before.if1.false,
-  (good-count c.before.before.before.before.before.args.s (omega arith), sym c.before.inside.ensures ∙ c.if3.true),
+  c.before.before.before.before.if-marked.false,
+  (good-count c.before.before.before.before.before.args.s (omega arith), sym c.before.inside.ensures ∙ c.if-inside.true),
 )
 
-returns-4 : tie.Need-returns-4
+returns-4 : tie.Need-returns-else-inside
 returns-4 c =
     let a = c.before.before.before.before.before.before.args in
-    c.at-end3.ensures ∙ sym (successor-outside a.self a.s (sym c.before.before.inside.ensures ∙ c.before.if3.false))
+    c.at_end-else-inside.ensures ∙ sym (successor-outside a.self a.s (sym c.before.before.inside.ensures ∙ c.before.if-inside.false))
 
-pub successor-spec : {M : Type 1} → statement M
-successor-spec =
+pub successor_spec : {M : Type 1} → statement M
+successor_spec =
     tie.close
     (tie.spec
     (λ c κs. search rules)

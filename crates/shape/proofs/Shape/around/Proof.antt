@@ -5,19 +5,19 @@ use borrow.Author.Rules.{rules}
 use Rattle.shape.proofs.Shape.around.Statement.{statement}
 use Rattle.shape.proofs.Shape.around.Tie as tie
 
-returns : tie.Need-returns
+returns : tie.Need-returns-then-rank-gt-MAX_RANK
 returns c = around-high c.before.before.args.self c.before.before.args.axis (omega arith)
 
-returns-2 : tie.Need-returns-2
+returns-2 : tie.Need-returns-then-rank-axis
 returns-2 c = around-past c.before.before.before.args.self c.before.before.before.args.axis (omega arith) (omega arith)
 
-returns-3 : tie.Need-returns-3
+returns-3 : tie.Need-returns
 returns-3 c =
     let st = c.before.before.before.before.before in
-    around-is st.args.self st.args.axis (omega arith) (omega arith) _ _ _ c.before.held-count.ensures refl c.held-count2.ensures
+    around-is st.args.self st.args.axis (omega arith) (omega arith) _ _ _ c.before.held_count-outer.ensures refl c.held_count-inner.ensures
 
-pub around-spec : {M : Type 1} → statement M
-around-spec =
+pub around_spec : {M : Type 1} → statement M
+around_spec =
     tie.close
     (tie.spec
     returns

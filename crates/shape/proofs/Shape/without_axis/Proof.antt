@@ -9,26 +9,26 @@ use Rattle.shape.proofs.Shifted.{shifted, shifted_none, shifted-more, shifted-al
 use Rattle.shape.proofs.Shape.without_axis.Statement.{statement}
 use Rattle.shape.proofs.Shape.without_axis.Tie as tie
 
-abbrev invariant-loop : tie.invariant-loop
+abbrev invariant-loop : tie.invariant-loop-i
 invariant-loop k last lens₀ i₀ lens i = (k ≤ i) × ((i ≤ last) × (lens ≡ shifted k i lens₀))
 
-abbrev decreases-loop : tie.decreases-loop
+abbrev decreases-loop : tie.decreases-loop-i
 decreases-loop k last lens₀ i₀ lens i = last - i
 
 -- Where the axis is known to be one.
-abbrev tested : tie.After-lens invariant-loop decreases-loop → tie.Else2 invariant-loop decreases-loop
+abbrev tested : tie.After-lens-1 invariant-loop decreases-loop → tie.Else-self-axis invariant-loop decreases-loop
 tested c = c.before.before
 
-abbrev start : tie.Else2 invariant-loop decreases-loop → tie.Start invariant-loop decreases-loop
+abbrev start : tie.Else-self-axis invariant-loop decreases-loop → tie.Start invariant-loop decreases-loop
 start c = c.before.before.before.before
 
-returns : tie.Need-returns invariant-loop decreases-loop
+returns : tie.Need-returns-then-self-gt-MAX_RANK invariant-loop decreases-loop
 returns c = let a = c.before.before.before.args in c.scalar.ensures ∙ without-axis-high a.self a.axis (omega arith)
 
-returns-2 : tie.Need-returns-2 invariant-loop decreases-loop
-returns-2 c = let a = c.before.before.before.before.before.args in c.scalar2.ensures ∙ without-axis-past a.self a.axis (omega arith) (omega arith)
+returns-2 : tie.Need-returns-then-self-axis invariant-loop decreases-loop
+returns-2 c = let a = c.before.before.before.before.before.args in c.scalar-then-self-axis.ensures ∙ without-axis-past a.self a.axis (omega arith) (omega arith)
 
-loop-holds : tie.Need-loop-init invariant-loop decreases-loop
+loop-holds : tie.Need-loop-i-init invariant-loop decreases-loop
 loop-holds c = (
   omega arith,
   (
@@ -37,28 +37,28 @@ loop-holds c = (
   ),
 )
 
-loop-again : tie.Need-loop-preserved invariant-loop decreases-loop
+loop-again : tie.Need-loop-i-preserved invariant-loop decreases-loop
 loop-again c =
     let st = start (tested c.before.before) in
-    let lp = c.before.loop in
+    let lp = c.before.loop-i in
     let long : length st.args.self.lens ≡ max_rank = search rules in
     (omega arith, (omega arith, shifted-more st.args.self.lens st.args.axis lp.i lp.invariant.0 (omega arith) lp.lens _ lp.invariant.1.1 refl))
 
-returns-3 : tie.Need-returns-3 invariant-loop decreases-loop
+returns-3 : tie.Need-returns invariant-loop decreases-loop
 returns-3 c =
     let st = start (tested c.before.before.before) in
-    let lp = c.before.before.loop in
+    let lp = c.before.before.loop-i in
     let rs = st.args.self in
     let long : length rs.lens ≡ max_rank = search rules in
     let end : lp.i ≡ rs.rank - 1 = omega arith in
-    c.of-lengths.ensures
+    c.of_lengths.ensures
     ∙ made-is (without st.args.axis (counted rs)) (rs.rank - 1) lp.lens (omega arith)
     (shifted-all rs.lens lp.lens st.args.axis (rs.rank - 1) rs.rank (omega arith) (omega arith) (omega arith) (lp.invariant.1.1
     ∙ ap (λ x. shifted st.args.axis x rs.lens) end))
     ∙ sym (without-axis-is rs st.args.axis (omega arith) (omega arith))
 
-pub without-axis-spec : {M : Type 1} → statement M
-without-axis-spec =
+pub without_axis_spec : {M : Type 1} → statement M
+without_axis_spec =
     tie.close
     (tie.spec
     invariant-loop
