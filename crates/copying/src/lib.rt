@@ -1,4 +1,6 @@
 // Runs of elements that are copied, filled and reversed. Each is one tight loop, so that it is compiled to moves of many elements.
+#![tactic(auto)]
+
 ghost use Rattle.std.specs.Prelude.{◌≡◌, ◌++◌, min, ◌+◌, ◌≤◌, length, replicate, take, drop};
 ghost use Rattle.shape.specs.Shape.{max_count};
 ghost use Rattle.copying.specs.Runs.{copied, reversed};

@@ -15,10 +15,10 @@ read32 x f = to_z-of_z f
 
 -- `x as i64`.
 pub read_wide : (x : ℤ) → SFits w32 x → to_z w64 (of_z w64 (to_z w32 (of_z w32 x))) ≡ x
-read_wide x f = ap (λ z. to_z w64 (of_z w64 z)) (read32 x f) ∙ to_z-of_z (sfits_widen tt f)
+read_wide x f = ap (λ z. to_z w64 (of_z w64 z)) (read32 x f) ∙ to_z-of_z {w = w64} (sfits_widen {w = w32} {w' = w64} tt f)
 
 pub fits-wide : (x : ℤ) → SFits w32 x → SFits w64 (to_z w32 (of_z w32 x))
-fits-wide x f = rw (read32 x f) (sfits_widen tt f)
+fits-wide x f = rw (read32 x f) (sfits_widen {w = w32} {w' = w64} tt f)
 
 -- A number from 0 up that fits is read as itself.
 pub read_pos : (n : ℕ) → n ≤ 2147483647 → to_z w32 n ≡ pos n

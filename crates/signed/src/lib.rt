@@ -1,4 +1,6 @@
 // Everything that looks at the sign of a number, so that callers see only numbers from 0 up.
+#![tactic(auto)]
+
 ghost use Rattle.std.specs.Prelude.{◌≡◌, cond, eqb, leb, pos, nat_abs, ◌-ℤ◌};
 ghost use Rattle.meaning.specs.Terms.{negative, within, from_zero, modulo, int_same, is_bit};
 ghost use Rattle.meaning.specs.Reply.{is_origin};

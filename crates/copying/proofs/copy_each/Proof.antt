@@ -13,18 +13,18 @@ use Rattle.shape.proofs.Shifted.{front-step}
 use Rattle.copying.proofs.copy_each.Statement.{statement}
 use Rattle.copying.proofs.copy_each.Tie as tie
 
-abbrev invariant-loop : tie.invariant-loop
+abbrev invariant-loop : tie.invariant-loop-i
 invariant-loop src out₀ n i₀ out i = (i ≤ n) × ((length out ≡ length out₀) × (out ≡ take i src ++ drop i out₀))
 
-abbrev decreases-loop : tie.decreases-loop
+abbrev decreases-loop : tie.decreases-loop-i
 decreases-loop src out₀ n i₀ out i = n - i
 
-loop-again : tie.Need-loop-preserved invariant-loop decreases-loop
+loop-again : tie.Need-loop-i-preserved invariant-loop decreases-loop
 loop-again c =
     let s = c.before.before.before.before in
     let src = s.args.src.now in
-    let lp = c.before.before.loop in
-    let e : to_z w32 (of_z w32 (get_or src lp.i (pos 0))) ≡ get_or src lp.i (pos 0) = to_z-of_z (sfits_of c.out.given) in (
+    let lp = c.before.before.loop-i in
+    let e : to_z w32 (of_z w32 (get_or src lp.i (pos 0))) ≡ get_or src lp.i (pos 0) = to_z-of_z {w = w32} (sfits_of c.out-1.given) in (
       omega arith,
       (simp length-set lp.invariant.1.0, rw (e, lp.invariant.1.1) (front-step src s.args.out.now lp.i (pos 0) (omega arith) (omega arith))),
     )
@@ -33,11 +33,11 @@ returns : tie.Need-returns invariant-loop decreases-loop
 unfolding copied
 returns c =
     let s = c.before.before.before in
-    let e : c.before.loop.i ≡ common s.args.src.now s.args.out.now = omega arith in
-    c.before.loop.invariant.1.1 ∙ rw e
+    let e : c.before.loop-i.i ≡ common s.args.src.now s.args.out.now = omega arith in
+    c.before.loop-i.invariant.1.1 ∙ rw e
 
-pub copy-each-spec : {M : Type 1} → statement M
-copy-each-spec =
+pub copy_each_spec : {M : Type 1} → statement M
+copy_each_spec =
     tie.close
     (tie.spec
     invariant-loop

@@ -9,29 +9,29 @@ use Rattle.copying.proofs.Moves.{front-more}
 use Rattle.copying.proofs.copy_eights.Statement.{statement}
 use Rattle.copying.proofs.copy_eights.Tie as tie
 
-abbrev invariant-loop : tie.invariant-loop
+abbrev invariant-loop : tie.invariant-loop-done
 invariant-loop src out₀ n done₀ out done = (done ≤ n) × ((length out ≡ length out₀) × (out ≡ take done src ++ drop done out₀))
 
-abbrev decreases-loop : tie.decreases-loop
+abbrev decreases-loop : tie.decreases-loop-done
 decreases-loop src out₀ n done₀ out done = n - done
 
-loop-again : tie.Need-loop-preserved invariant-loop decreases-loop
+loop-again : tie.Need-loop-done-preserved invariant-loop decreases-loop
 loop-again c =
     let first = c.before.before.before.before in
     let lp = first.before.before.before in
     let src = lp.before.args.src.now in
     let out₀ = lp.before.args.out.now in
-    let half = front-more src lp.loop.out out₀ lp.loop.done (omega arith) lp.loop.invariant.1.1 4 _ first.move-4.ensures in (
+    let half = front-more src lp.loop-done.out out₀ lp.loop-done.done (omega arith) lp.loop-done.invariant.1.1 4 _ first.move_4.ensures in (
       omega arith,
       (
-        c.before.move-42.auto.1.0 ∙ first.move-4.auto.1.0 ∙ lp.loop.invariant.1.0,
-        front-more src _ out₀ (lp.loop.done + 4) (omega arith) half 4 _ c.before.move-42.ensures
-            ∙ ap (λ j. take j src ++ drop j out₀) (add_assoc lp.loop.done 4 4),
+        c.before.move_4-in-loop-done.auto.out ∙ first.move_4.auto.out ∙ lp.loop-done.invariant.1.0,
+        front-more src _ out₀ (lp.loop-done.done + 4) (omega arith) half 4 _ c.before.move_4-in-loop-done.ensures
+            ∙ ap (λ j. take j src ++ drop j out₀) (add_assoc lp.loop-done.done 4 4),
       ),
     )
 
-pub copy-eights-spec : {M : Type 1} → statement M
-copy-eights-spec =
+pub copy_eights_spec : {M : Type 1} → statement M
+copy_eights_spec =
     tie.close
     (tie.spec
     invariant-loop

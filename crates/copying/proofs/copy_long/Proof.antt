@@ -8,12 +8,12 @@ use Rattle.copying.proofs.copy_long.Tie as tie
 returns : tie.Need-returns
 returns c =
     let copy = c.before in
-    let held = copy.before.before.before.before.before in
+    let held = copy.before.before.before.before in
     let s = held.before.before in
-    copy.copy-each2.ensures ∙ rw held.copy-each.ensures (copied-through s.args.src.now _ s.args.out.now (omega arith))
+    copy.copy_each-2.ensures ∙ rw held.copy_each.ensures (copied-through s.args.src.now _ s.args.out.now (omega arith))
 
-pub copy-long-spec : {M : Type 1} → statement M
-copy-long-spec =
+pub copy_long_spec : {M : Type 1} → statement M
+copy_long_spec =
     tie.close
     (tie.spec
     (λ c. search rules)

@@ -1,3 +1,4 @@
+use mir.Syntax.{w32}
 use native.Mathlib.Omega.{arith}
 use lib.IntN.{pos}
 use lib.ListN.{length-set}
@@ -11,13 +12,13 @@ returns : tie.Need-returns
 returns c =
     let st = c.before.before.before.before in
     stored-4 st.args.src.now st.args.out.now st.args.i (pos 0) st.requires.0 st.requires.1
-    (to_z-of_z (sfits_of c.before.before.before.a0.given))
-    (to_z-of_z (sfits_of c.before.before.a1.given))
-    (to_z-of_z (sfits_of c.before.a2.given))
-    (to_z-of_z (sfits_of c.a3.given))
+    (to_z-of_z {w = w32} (sfits_of c.before.before.before.a0-1.given))
+    (to_z-of_z {w = w32} (sfits_of c.before.before.a1-1.given))
+    (to_z-of_z {w = w32} (sfits_of c.before.a2-1.given))
+    (to_z-of_z {w = w32} (sfits_of c.a3-1.given))
 
-pub move-4-spec : {M : Type 1} → statement M
-move-4-spec =
+pub move_4_spec : {M : Type 1} → statement M
+move_4_spec =
     tie.close
     (tie.spec
     (λ c. search rules)

@@ -13,19 +13,19 @@ use Rattle.copying.proofs.Steps.{reverse-step, reverse-all}
 use Rattle.copying.proofs.reverse_run.Statement.{statement}
 use Rattle.copying.proofs.reverse_run.Tie as tie
 
-abbrev invariant-loop : tie.invariant-loop
+abbrev invariant-loop : tie.invariant-loop-j
 invariant-loop src out₀ n j₀ out j = (j ≤ n) × ((length out ≡ length out₀) × (out ≡ take j (reverse (take n src)) ++ drop j out₀))
 
-abbrev decreases-loop : tie.decreases-loop
+abbrev decreases-loop : tie.decreases-loop-j
 decreases-loop src out₀ n j₀ out j = n - j
 
-loop-again : tie.Need-loop-preserved invariant-loop decreases-loop
+loop-again : tie.Need-loop-j-preserved invariant-loop decreases-loop
 loop-again c =
     let s = c.before.before.before.before in
     let src = s.args.src.now in
-    let lp = c.before.before.loop in
-    let n = c.before.before.before.min.result in
-    let e : to_z w32 (of_z w32 (get_or src (n - 1 - lp.j) (pos 0))) ≡ get_or src (n - 1 - lp.j) (pos 0) = to_z-of_z (sfits_of c.out.given) in (
+    let lp = c.before.before.loop-j in
+    let n = c.before.before.before.min-n.result in
+    let e : to_z w32 (of_z w32 (get_or src (n - 1 - lp.j) (pos 0))) ≡ get_or src (n - 1 - lp.j) (pos 0) = to_z-of_z {w = w32} (sfits_of c.out-1.given) in (
       omega arith,
       (
         simp length-set lp.invariant.1.0,
@@ -37,13 +37,13 @@ returns : tie.Need-returns invariant-loop decreases-loop
 unfolding reversed
 returns c =
     let s = c.before.before.before in
-    let lp = c.before.loop in
-    let j : lp.j ≡ c.before.before.min.result = omega arith in
-    let n : c.before.before.min.result ≡ common s.args.src.now s.args.out.now = omega arith in
-    lp.invariant.1.1 ∙ rw (j, reverse-all s.args.src.now c.before.before.min.result (omega arith), n)
+    let lp = c.before.loop-j in
+    let j : lp.j ≡ c.before.before.min-n.result = omega arith in
+    let n : c.before.before.min-n.result ≡ common s.args.src.now s.args.out.now = omega arith in
+    lp.invariant.1.1 ∙ rw (j, reverse-all s.args.src.now c.before.before.min-n.result (omega arith), n)
 
-pub reverse-run-spec : {M : Type 1} → statement M
-reverse-run-spec =
+pub reverse_run_spec : {M : Type 1} → statement M
+reverse_run_spec =
     tie.close
     (tie.spec
     invariant-loop

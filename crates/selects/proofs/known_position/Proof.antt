@@ -12,6 +12,6 @@ known-position-spec =
     (tie.spec
     (λ c. fits-wide _ c.ranges.z)
     (λ c. fits-wide _ c.ranges.g)
-    (λ c. rw (read_wide _ c.ranges.z, read_wide _ c.ranges.g) (diff c).ranges)
-    (λ c. rw (diff c).held (index _ (diff c).ranges c.requires))
+    (λ c. rw (read_wide _ c.ranges.z, read_wide _ c.ranges.g) (diff c).fits)
+    (λ c. rw (diff c).held (index _ (diff c).fits c.requires))
     (λ c. rw (diff c).held))

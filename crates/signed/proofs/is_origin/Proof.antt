@@ -8,7 +8,7 @@ use Rattle.signed.proofs.is_origin.Tie as tie
 
 returns : tie.Need-returns
 unfolding is_origin
-returns c = c.is-bit.ensures ∙ ap is_bit (read32 _ c.before.ranges.g)
+returns c = c.is_bit.ensures ∙ ap is_bit (read32 _ c.before.ranges.g)
 
-pub is-origin-spec : {M : Type 1} → statement M
-is-origin-spec = tie.close (tie.spec (λ c κs. search rules) returns)
+pub is_origin_spec : {M : Type 1} → statement M
+is_origin_spec = tie.close (tie.spec (λ c κs. search rules) returns)

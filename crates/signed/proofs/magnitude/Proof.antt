@@ -8,5 +8,5 @@ use Rattle.signed.proofs.magnitude.Tie as tie
 returns : tie.Need-returns
 returns c = c.from_zero.ensures ∙ ap nat_abs (+ℤ_idr _ ∙ read32 _ c.before.ranges.z)
 
-pub magnitude-spec : {M : Type 1} → statement M
-magnitude-spec = tie.close (tie.spec (λ c κs. search rules) returns)
+pub magnitude_spec : {M : Type 1} → statement M
+magnitude_spec = tie.close (tie.spec (λ c κs. search rules) returns)

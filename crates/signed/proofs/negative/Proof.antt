@@ -6,5 +6,5 @@ use Rattle.signed.proofs.negative.Tie as tie
 returns : tie.Need-returns
 returns c = rw (read32 _ c.ranges.z) (below-zero c.args.z)
 
-pub negative-spec : {M : Type 1} → statement M
-negative-spec = tie.close (tie.spec returns)
+pub negative_spec : {M : Type 1} → statement M
+negative_spec = tie.close (tie.spec returns)

@@ -16,35 +16,35 @@ gap s = s.args.z -ℤ s.args.g
 diff : (s : tie.Start) → Difference s.args.z s.args.g
 diff s = difference s.args.z s.args.g s.ranges.z s.ranges.g
 
-above : (c : tie.Else1) → negative (gap c.before) ≡ false
-above c = sym (below-zero (gap c.before)) ∙ (rw (diff c.before).held at c.if1.false)
+above : (c : tie.Else-less-lt0) → negative (gap c.before) ≡ false
+above c = sym (below-zero (gap c.before)) ∙ (rw (diff c.before).held at c.if-less-lt0.false)
 
-sub-less : tie.Need-overflow-sub-less
-sub-less c = rw (read_wide _ c.ranges.z, read_wide _ c.ranges.g) (diff c).ranges
+sub-less : tie.Need-overflow_sub-less
+sub-less c = rw (read_wide _ c.ranges.z, read_wide _ c.ranges.g) (diff c).fits
 
-returns : tie.Need-returns
+returns : tie.Need-returns-then-less-lt0
 returns c =
     let s = c.before in
-    let below : negative (gap s) ≡ true = sym (below-zero (gap s)) ∙ (rw (diff s).held at c.if1.true) in
+    let below : negative (gap s) ≡ true = sym (below-zero (gap s)) ∙ (rw (diff s).held at c.if-less-lt0.true) in
     rw (within-negative (gap s) s.args.n below)
 
-cast-i : tie.Need-overflow-cast-i
+cast-i : tie.Need-overflow_cast-i
 cast-i c = rw (diff c.before).held (index _ (diff c.before).fits (above c))
 
-returns-2 : tie.Need-returns-2
+returns-2 : tie.Need-returns-then-i-n
 returns-2 c =
     let s = c.before.before in
-    let h = rw (diff s).held at c.if2.true in
+    let h = rw (diff s).held at c.if-i-n.true in
     rw ((diff s).held, within-size (gap s) s.args.n (above c.before), lt-ltb (nat_abs (gap s)) s.args.n h)
 
-returns-3 : tie.Need-returns-3
+returns-3 : tie.Need-returns-else-i-n
 returns-3 c =
     let s = c.before.before in
-    let h = rw (diff s).held at c.if2.false in
+    let h = rw (diff s).held at c.if-i-n.false in
     rw (within-size (gap s) s.args.n (above c.before), le-ltb (nat_abs (gap s)) s.args.n h)
 
-pub position-spec : {M : Type 1} → statement M
-position-spec =
+pub position_spec : {M : Type 1} → statement M
+position_spec =
     tie.close
     (tie.spec
     (λ c. fits-wide _ c.ranges.z)
