@@ -1,4 +1,6 @@
 // What the calls share: the answer, the refusals' numbers, and the tests before a primitive's own and after them.
+#![tactic(auto)]
+
 pub mod refusal;
 
 ghost use Rattle.std.specs.Prelude.{◌≡◌, ◌&&◌};
