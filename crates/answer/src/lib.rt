@@ -11,7 +11,7 @@ use shape::Shape;
 
 // A number, 0 for a success, and a shape, the scalar's for a refusal.
 #[repr(C)]
-#[derive(Drop)]
+#[derive(Clone, Copy)]
 pub struct Answer {
     pub number: usize,
     pub shape: Shape,

@@ -1,4 +1,6 @@
 // Take and drop: on each axis of the result a window of R's positions, and zeros outside it.
+#![tactic(auto)]
+
 ghost use Rattle.std.specs.Prelude.{◌≡◌, true, ◌-◌, ◌*◌, ◌≤◌, ◌<◌, ℤ, pos, length, take, drop};
 ghost use Rattle.shape.specs.Shape.{max_rank};
 ghost use Rattle.meaning.specs.Array.{tab};
@@ -25,7 +27,7 @@ pub fn drop(g: i32, ls: Shape, l: &[i32], rs: Shape, r: &[i32], out: &mut [i32])
 }
 
 // What L's numbers say of an axis: how many positions are taken, or how many are dropped.
-#[derive(Drop)]
+#[derive(Clone, Copy)]
 enum CutKind {
     Take,
     Drop,
@@ -205,7 +207,7 @@ fn table_of(
 }
 
 // On an axis: the zeros before, the first position that is taken, how many are taken, and the result's length.
-#[derive(Drop)]
+#[derive(Clone, Copy)]
 struct Window {
     lead: usize,
     from: usize,

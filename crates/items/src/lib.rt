@@ -1,4 +1,6 @@
 // The leading item: one item of R's first axis, and its sister call.
+#![tactic(auto)]
+
 ghost use Rattle.std.specs.Prelude.{◌≡◌};
 ghost use Rattle.meaning.specs.Item.{item_refusal, leading_item};
 ghost use Rattle.answer.specs.Answer.{lent};
@@ -11,7 +13,7 @@ use signed::Found;
 
 // A part of a buffer: where it starts, and how many elements it has.
 #[repr(C)]
-#[derive(Drop)]
+#[derive(Clone, Copy)]
 pub struct Part {
     pub start: usize,
     pub length: usize,

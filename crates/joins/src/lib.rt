@@ -1,4 +1,6 @@
 // Catenate: two operands joined along an axis.
+#![tactic(auto)]
+
 ghost use Rattle.std.specs.Prelude.{◌≡◌, List, true, ◌+◌, ◌*◌, ◌≤◌, ◌<◌, length, ℤ, pos};
 ghost use Rattle.std.proofs.Math.Seq.{slice};
 ghost use Rattle.shape.specs.Shape.{max_rank, counted, good_shape};
@@ -102,7 +104,7 @@ fn higher(ls: Shape, rs: Shape) -> Shape
 }
 
 // What an operand gives, along the axis or to each block: so many positions or elements, or a scalar's one so often.
-#[derive(Drop)]
+#[derive(Clone, Copy)]
 struct Run {
     scalar: bool,
     width: usize,

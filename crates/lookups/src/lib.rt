@@ -1,4 +1,6 @@
 // Elements that are looked for among others: index of and member.
+#![tactic(auto)]
+
 ghost use Rattle.std.specs.Prelude.{◌≡◌, ◌*◌, ◌≤◌, false, length, ℤ, pos};
 ghost use Rattle.shape.specs.Shape.{max_count};
 ghost use Rattle.meaning.specs.Terms.{first_at};

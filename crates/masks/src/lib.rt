@@ -1,4 +1,6 @@
 // Lines along an axis by a mask of 0 and 1: compress and expand.
+#![tactic(auto)]
+
 mod rows;
 
 ghost use Rattle.std.specs.Prelude.{◌≡◌, List, ◌++◌, true, ◌*◌, ◌<◌, length, drop, set, ℤ, pos};
@@ -16,7 +18,7 @@ use shape::Shape;
 use signed::Found;
 
 // What a mask does to an axis: its ones keep positions, or they take the positions in order.
-#[derive(Drop)]
+#[derive(Clone, Copy)]
 enum Action {
     Compress,
     Expand,

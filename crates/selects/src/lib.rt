@@ -1,4 +1,6 @@
 // Select: chosen positions of one axis.
+#![tactic(auto)]
+
 ghost use Rattle.std.specs.Prelude.{◌≡◌, List, ◌++◌, true, false, ◌*◌, ◌≤◌, ◌<◌, length, set, drop, ℤ, pos, ◌-ℤ◌};
 ghost use Rattle.shape.specs.Shape.{max_rank, counted, good_shape, shape_of};
 ghost use Rattle.meaning.specs.Array.{array_of, good_form, build};

@@ -13,7 +13,7 @@ use sheet_line::{MAX_HELD, MAX_LINE};
 
 // What is held between chunks: of the line that has begun the length so far, whether it was too long, and its number; how much text waits to be
 // written; and whether a write has failed, after which nothing is answered or written.
-#[derive(Drop)]
+#[derive(Clone, Copy)]
 struct Held {
     len: usize,
     over: bool,

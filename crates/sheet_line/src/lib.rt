@@ -1,4 +1,6 @@
 // One line of a sheet, read as a call.
+#![tactic(auto)]
+
 mod numbers;
 mod operand;
 
@@ -18,7 +20,7 @@ pub const MAX_LINE: usize = 16384;
 pub const MAX_HELD: usize = 1024;
 
 // Primitive, origin and axis number K, and the place of the next number.
-#[derive(Drop)]
+#[derive(Clone, Copy)]
 enum Head {
     Is {
         primitive: i32,
@@ -50,7 +52,7 @@ fn head_at(line: &[u8], at: usize) -> Head
 }
 
 // What a line says: a call's primitive, origin, K and the shapes of its operands. It holds arrays, so a flag says that it is bad.
-#[derive(Drop)]
+#[derive(Clone, Copy)]
 pub struct Read {
     pub good: bool,
     pub primitive: i32,

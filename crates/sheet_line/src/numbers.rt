@@ -6,7 +6,7 @@ ghost use Rattle.sheet_line.specs.Call.{next_number};
 ghost use Rattle.sheet_line.specs.Steps.{read_at, number_of, number_taken};
 
 // A number and the place of the next one.
-#[derive(Drop)]
+#[derive(Clone, Copy)]
 pub enum Number {
     Is(i32, usize),
     Nothing,

@@ -9,28 +9,28 @@ use crate::numbers::{Number, number_at};
 use shape::Shape;
 
 // A number from 0 up and the place of the next one.
-#[derive(Drop)]
+#[derive(Clone, Copy)]
 pub enum Natural {
     Is(usize, usize),
     Nothing,
 }
 
 // The place after the elements.
-#[derive(Drop)]
+#[derive(Clone, Copy)]
 pub enum Elements {
     Before(usize),
     Nothing,
 }
 
 // Lengths and an operand hold an array, so a flag says that there are none: the prover's own walk covers no enum that holds one.
-#[derive(Drop)]
+#[derive(Clone, Copy)]
 pub struct Lengths {
     pub good: bool,
     pub lens: [usize; Shape::MAX_RANK],
     pub next: usize,
 }
 
-#[derive(Drop)]
+#[derive(Clone, Copy)]
 pub struct Operand {
     pub good: bool,
     pub shape: Shape,

@@ -51,7 +51,7 @@ pub fn from_zero(z: i32, g: i32) -> usize
 }
 
 // What is looked for among positions.
-#[derive(Drop)]
+#[derive(Clone, Copy)]
 pub enum Found {
     At(usize),
     Nothing,

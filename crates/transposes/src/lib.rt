@@ -1,4 +1,6 @@
 // Transpositions: 15 and 26. R's axis i goes to result axis t, and axes sent together give the diagonal.
+#![tactic(auto)]
+
 ghost use Rattle.std.specs.Prelude.{◌≡◌, List, [], ◌∷◌, ◌++◌, map, true, not, cond, ◌≤◌, ◌<◌, length, drop, ℤ, pos};
 ghost use Rattle.shape.specs.Shape.{max_rank, counted, count, good_shape, shape_of};
 ghost use Rattle.meaning.specs.Array.{Operand, array_of, good_form};
@@ -60,7 +62,7 @@ pub fn transpose_by(g: i32, ls: Shape, l: &[i32], rs: Shape, r: &[i32], out: &mu
 
 // Where R's axes are sent: axis i to axis `to[i]`, of `axes` axes in all. With a refusal of the primitive's own, `own`, they are sent nowhere; it is 0
 // where none is met.
-#[derive(Drop)]
+#[derive(Clone, Copy)]
 struct Sent {
     own: usize,
     axes: usize,
@@ -233,7 +235,7 @@ fn line(stride: usize, r: &[i32], at: usize, out: &mut [i32])
 const TILE: usize = 8;
 
 // An axis: its length, and how far apart its neighbours stand in R and in the result.
-#[derive(Drop)]
+#[derive(Clone, Copy)]
 struct Axis {
     length: usize,
     stride: usize,

@@ -1,4 +1,6 @@
 // Turning the lines along an axis: reverse and rotate.
+#![tactic(auto)]
+
 ghost use Rattle.std.specs.Prelude.{◌≡◌, List, ◌++◌, true, ◌+◌, ◌*◌, ◌≤◌, ◌<◌, max, length, drop, get_or, ℤ, pos};
 ghost use Rattle.shape.specs.Shape.{count, counted, good_shape};
 ghost use Rattle.meaning.specs.Array.{Operand, array_of, tab, build, good_form};
@@ -77,7 +79,7 @@ fn axes_of(s: Shape) -> usize
 }
 
 // How the positions of an axis move: backwards, or by an amount.
-#[derive(Drop)]
+#[derive(Clone, Copy)]
 enum Turn {
     Back,
     By(i32),

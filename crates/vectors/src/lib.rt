@@ -1,4 +1,6 @@
 // Results that are vectors or take R's elements in their order: shape, ravel, interval, reshape.
+#![tactic(auto)]
+
 ghost use Rattle.std.specs.Prelude.{◌≡◌, true, not, map, ◌+◌, ◌≤◌, ◌<◌, length, get_or, ℤ, pos, nat_abs};
 ghost use Rattle.shape.specs.Shape.{max_count, good_shape};
 ghost use Rattle.meaning.specs.Array.{Operand, Array, array_of, good_form};

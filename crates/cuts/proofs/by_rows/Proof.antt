@@ -7,8 +7,8 @@ use Rattle.shape.proofs.Bools.{no_way}
 use Rattle.cuts.proofs.by_rows.Statement.{statement}
 use Rattle.cuts.proofs.by_rows.Tie as tie
 
-pub by-rows-spec : {M : Type 1} → statement M
-by-rows-spec =
+pub by_rows_spec : {M : Type 1} → statement M
+by_rows_spec =
     tie.close
     (tie.spec
     (λ c. search rules)
@@ -16,6 +16,6 @@ by-rows-spec =
     (λ c. search rules)
     (λ c. search rules)
     (λ c. search rules)
-    (λ c. lt_of_le-ne (omega arith) (λ e. eqb-false _ 0 c.if3.false (sym e)))
+    (λ c. lt_of_le-ne (omega arith) (λ e. eqb-false _ 0 c.if-small-eq0.false (sym e)))
     (λ c. search rules)
     (λ c. search rules))

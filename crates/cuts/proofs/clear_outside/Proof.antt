@@ -7,11 +7,11 @@ use Rattle.cuts.proofs.clear_outside.Tie as tie
 returns : tie.Need-returns
 returns c =
     let o = c.before.before.before in
-    let a = o.before.before.before.args in
-    cleared a.out.now _ _ a.start a.stop (omega arith) (omega arith) o.before.fill-run.ensures c.before.fill-run2.ensures
+    let a = o.args in
+    cleared a.out.now _ _ a.start a.stop (omega arith) (omega arith) o.fill_run.ensures c.fill_run-2.ensures
 
-pub clear-outside-spec : {M : Type 1} → statement M
-clear-outside-spec =
+pub clear_outside_spec : {M : Type 1} → statement M
+clear_outside_spec =
     tie.close
     (tie.spec
     (λ c. search rules)

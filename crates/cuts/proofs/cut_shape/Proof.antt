@@ -1,3 +1,4 @@
+use mir.Syntax.{w32}
 use Prim.Native.Nat.{◌-◌}
 use native.Mathlib.Omega.{arith}
 use mathlib.Core.Path.{◌≡◌, refl, ap, ◌∙◌}
@@ -10,30 +11,30 @@ use Rattle.cuts.proofs.Building.{Lengths, lengths-more, lengths-all}
 use Rattle.cuts.proofs.cut_shape.Statement.{statement}
 use Rattle.cuts.proofs.cut_shape.Tie as tie
 
-abbrev invariant-loop : tie.invariant-loop
+abbrev invariant-loop : tie.invariant-loop-axis
 invariant-loop kind rank l lens axes result₀ axis₀ result axis = Lengths kind rank lens l axes result axis
 
-abbrev decreases-loop : tie.decreases-loop
+abbrev decreases-loop : tie.decreases-loop-axis
 decreases-loop kind rank l lens axes result₀ axis₀ result axis = axes - axis
 
-loop-holds : tie.Need-loop-init invariant-loop decreases-loop
+loop-holds : tie.Need-loop-axis-init invariant-loop decreases-loop
 loop-holds c =
-    let long : length c.before.args.t3 ≡ max_rank = search rules in
-    record { enough = c.before.requires; long = long; all = c.min.ensures; some = omega arith; done = refl }
+    let long : length c.args.lens ≡ max_rank = search rules in
+    record { enough = c.requires; long = long; all = c.min-axes.ensures; some = omega arith; done = refl }
 
-loop-again : tie.Need-loop-preserved invariant-loop decreases-loop
+loop-again : tie.Need-loop-axis-preserved invariant-loop decreases-loop
 loop-again c =
     let at = c.before.before.before in
-    let lp = at.loop in
-    let a = at.before.before.args in
+    let lp = at.loop-axis in
+    let a = at.args in
     lengths-more lp.invariant _ (omega arith)
-    (c.cut-length.ensures ∙ ap (λ x. cut_length a.kind x (get_or a.t3 lp.axis 0)) (to_z-of_z (sfits_of c.before.cut-length-arg.given)))
+    (c.cut_length.ensures ∙ ap (λ x. cut_length a.kind x (get_or a.lens lp.axis 0)) (to_z-of_z {w = w32} (sfits_of c.cut_length-arg-1.given)))
 
 returns : tie.Need-returns invariant-loop decreases-loop
-returns c = lengths-all c.before.loop.invariant (omega arith)
+returns c = lengths-all c.loop-axis.invariant (omega arith)
 
-pub cut-shape-spec : {M : Type 1} → statement M
-cut-shape-spec =
+pub cut_shape_spec : {M : Type 1} → statement M
+cut_shape_spec =
     tie.close
     (tie.spec
     invariant-loop

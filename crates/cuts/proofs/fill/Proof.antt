@@ -7,42 +7,42 @@ use borrow.Author.Rules.{rules}
 use Rattle.cuts.proofs.fill.Statement.{statement}
 use Rattle.cuts.proofs.fill.Tie as tie
 
-returns : tie.Need-returns
-returns c = fill_none c.before.args.out.now _ c.if1.true
+returns : tie.Need-returns-then-out-eq0
+returns c = fill_none c.args.out.now _ c.if-out-eq0.true
 
-returns-2 : tie.Need-returns-2
+returns-2 : tie.Need-returns-then-r-eq0
 returns-2 c =
     let t = c.before.before.before in
     let st = t.before.before in
-    fill-zeros _ st.args.r.now st.args.out.now _ t.if2.true c.before.fill-run.ensures
+    fill-zeros _ st.args.r.now st.args.out.now _ t.if-r-eq0.true c.fill_run.ensures
 
 -- The axes up to the last that is not taken whole.
-abbrev start : tie.After-cut-axes → tie.Start
+abbrev start : tie.After-cut_axes-used → tie.Start
 start c = c.before.before.before
 
-known : (c : tie.After-cut-axes)
+known : (c : tie.After-cut_axes-used)
     → let a = (start c).args in
-    Front a.kind a.rank a.lens a.result a.l.now a.r.now a.out.now c.cut-axes.result
+    Front a.kind a.rank a.lens a.result a.l.now a.r.now a.out.now c.cut_axes-used.result
 known c =
     let st = start c in
     let long : length st.args.lens ≡ max_rank = search rules in
-    let e = c.cut-axes.ensures in
-    record { parts = st.pre; long = long; source-some = omega arith; some = omega arith; below = e.0; tail = e.1 }
+    let e = c.cut_axes-used.ensures in
+    record { parts = st.requires; long = long; source-some = omega arith; some = omega arith; below = e.0; tail = e.1 }
 
-returns-3 : tie.Need-returns-3
-returns-3 c = let t = c.before.before.before in fill-whole (known t.before) t.if3.true c.before.copy_run.ensures
+returns-3 : tie.Need-returns-then-used-eq0
+returns-3 c = let t = c.before.before.before in fill-whole (known t.before) t.if-used-eq0.true c.copy_run.ensures
 
 -- Their windows.
-abbrev tabled : tie.After-table → tie.After-cut-axes
+abbrev tabled : tie.After-table → tie.After-cut_axes-used
 tabled c = c.before.before.before
 
 cut-requires : tie.Need-cut-requires
-cut-requires c κs = let t = c.before.before in fill-fits (known (tabled t)) _ t.before.table_of.ensures (omega arith)
+cut-requires c κs = let t = c.before.before in fill-fits (known (tabled t)) _ t.table_of-table.ensures (omega arith)
 
-returns-4 : tie.Need-returns-4
+returns-4 : tie.Need-returns
 returns-4 c =
     let t = c.before.before.before.before in
-    fill-cut (known (tabled t)) _ t.before.table_of.ensures c.before.cut.ensures
+    fill-cut (known (tabled t)) _ t.table_of-table.ensures c.cut.ensures
 
 pub fill_spec : {M : Type 1} → statement M
 fill_spec =

@@ -6,15 +6,15 @@ use borrow.Author.Rules.{rules}
 use Rattle.cuts.proofs.keeps_end.Statement.{statement}
 use Rattle.cuts.proofs.keeps_end.Tie as tie
 
-is : (c : tie.After-negative) → c.negative.result ≡ negative c.before.args.z
-is c = c.negative.ensures ∙ ap negative (read32 _ c.before.ranges.z)
+is : (c : tie.After-negative-negative) → c.negative-negative.result ≡ negative c.args.z
+is c = c.negative-negative.ensures ∙ ap negative (read32 _ c.ranges.z)
 
-pub keeps-end-spec : {M : Type 1} → statement M
-keeps-end-spec =
+pub keeps_end_spec : {M : Type 1} → statement M
+keeps_end_spec =
     tie.close
     (tie.spec
     (λ c κs. search rules)
     (λ c. search rules)
     (λ c. search rules)
-    (λ c. rw c.enum_told.given.1 (is c.before.before))
-    (λ c. rw c.enum-told2.given.1 (ap not (is c.before.before))))
+    (λ c. rw c.in-Take.is (is c.before))
+    (λ c. rw c.in-Drop.is (ap not (is c.before))))

@@ -16,11 +16,11 @@ use Rattle.items.proofs.leading_item.Tie as tie
 abbrev operand : tie.Start → Operand
 operand st = lent st.args.rs st.args.r.now
 
-part-is : (c : tie.After-leading-part) → c.leading-part.result ≡ item_part (operand c.before) c.before.args.g c.before.args.i
-part-is c = c.leading-part.ensures ∙ ap₂ (item_part _) (read32 _ c.before.ranges.g) (read32 _ c.before.ranges.i)
+part-is : (c : tie.After-leading_part-part) → c.leading_part-part.result ≡ item_part (operand c.before) c.args.g c.args.i
+part-is c = c.leading_part-part.ensures ∙ ap₂ (item_part _) (read32 _ c.ranges.g) (read32 _ c.ranges.i)
 
-inside : (c : tie.After-leading-part) → c.leading-part.result.start + c.leading-part.result.length ≤ length c.before.args.r.now
-inside c = rw (part-is c) (part-inside (operand c.before) c.before.args.g c.before.args.i)
+inside : (c : tie.After-leading_part-part) → c.leading_part-part.result.start + c.leading_part-part.result.length ≤ length c.args.r.now
+inside c = rw (part-is c) (part-inside (operand c.before) c.args.g c.args.i)
 
 returns : tie.Need-returns
 returns c =
@@ -28,8 +28,8 @@ returns c =
     let st = p.before in
     rw add-sub_cancel_left (ap (λ (x : Part). part_in x st.args.r.now) (part-is p) ∙ part-elements (operand st) st.args.g st.args.i)
 
-pub leading-item-spec : {M : Type 1} → statement M
-leading-item-spec =
+pub leading_item_spec : {M : Type 1} → statement M
+leading_item_spec =
     tie.close
     (tie.spec
     (λ c κs. search rules)

@@ -18,41 +18,41 @@ use Rattle.items.proofs.leading_part.Tie as tie
 abbrev operand : tie.Start → Operand
 operand st = lent st.args.rs st.args.r.now
 
-refusal_is : (c : tie.After-item-refusal)
-    → c.item-refusal.result ≡ item_refusal (operand c.before) c.before.args.g c.before.args.i
-refusal_is c = c.item-refusal.ensures ∙ ap₂ (item_refusal _) (read32 _ c.before.ranges.g) (read32 _ c.before.ranges.i)
+refusal_is : (c : tie.After-item_refusal)
+    → c.item_refusal.result ≡ item_refusal (operand c.before) c.args.g c.args.i
+refusal_is c = c.item_refusal.ensures ∙ ap₂ (item_refusal _) (read32 _ c.ranges.g) (read32 _ c.ranges.i)
 
-known : (c : tie.Else1) → let st = c.before.before in Given st.args.rs st.args.r.now st.args.g st.args.i
+known : (c : tie.Else-item_refusal-ne0) → let st = c.before.before in Given st.args.rs st.args.r.now st.args.g st.args.i
 known c =
     let long : length c.before.before.args.rs.lens ≡ max_rank = search rules in
-    given _ _ _ _ long (sym (refusal_is c.before) ∙ c.if1.false)
+    given _ _ _ _ long (sym (refusal_is c.before) ∙ c.if-item_refusal-ne0.false)
 
 -- The item's position and its size.
-abbrev asked : tie.After-from-zero → tie.Else1
+abbrev asked : tie.After-from_zero → tie.Else-item_refusal-ne0
 asked c = c.before.before
 
-abbrev start : tie.After-from-zero → tie.Start
+abbrev start : tie.After-from_zero → tie.Start
 start c = (asked c).before.before
 
-at-is : (c : tie.After-from-zero) → c.from_zero.result ≡ from_zero (start c).args.g (start c).args.i
+at-is : (c : tie.After-from_zero) → c.from_zero.result ≡ from_zero (start c).args.g (start c).args.i
 at-is c = c.from_zero.ensures ∙ read-from-zero _ _ (start c).ranges.i (start c).ranges.g
 
-size_is : (c : tie.After-around) → c.around.result.inner ≡ count (item_lengths (operand c.before.before.before))
-size_is c = ap (λ (a : Around). a.inner) c.around.ensures ∙ (known c.before).inner
+size_is : (c : tie.After-around-length) → c.around-length.result.inner ≡ count (item_lengths (operand c.before.before.before))
+size_is c = ap (λ (a : Around). a.inner) c.around-length.ensures ∙ (known c.before).inner
 
-returns : tie.Need-returns
-returns c = let st = c.before.before in part-refused (operand st) st.args.g st.args.i (λ z. c.if1.true (refusal_is c.before ∙ z))
+returns : tie.Need-returns-then-item_refusal-ne0
+returns c = let st = c.before.before in part-refused (operand st) st.args.g st.args.i (λ z. c.if-item_refusal-ne0.true (refusal_is c.before ∙ z))
 
-mul-start : tie.Need-overflow-mul-start
+mul-start : tie.Need-overflow_mul-start
 mul-start c =
     let k = known (asked c) in
     omega (arith, ap₂ ◌*◌ (at-is c) (size_is c.before), k.room, k.operand.count_small)
 
-returns-2 : tie.Need-returns-2
+returns-2 : tie.Need-returns
 returns-2 c =
     let st = start c in
     part-given (operand st) st.args.g st.args.i _ _ (known (asked c)).none (at-is c) (size_is c.before)
 
-pub leading-part-spec : {M : Type 1} → statement M
-leading-part-spec =
+pub leading_part_spec : {M : Type 1} → statement M
+leading_part_spec =
     tie.close (tie.spec (λ c κs. search rules) returns (λ c κs. search rules) (λ c κs. search rules) mul-start returns-2)

@@ -17,38 +17,38 @@ use Rattle.joins.proofs.agrees.Tie as tie
 long : (st : tie.Start) → (length st.args.s.lens ≡ max_rank) × (length st.args.hs.lens ≡ max_rank)
 long st = (search rules, search rules)
 
-near : (c : tie.Else1) → (c.before.args.s.rank ≤ c.before.args.hs.rank) × (c.before.args.hs.rank ≤ suc c.before.args.s.rank)
-near c = let n = c.if1.false in beside-near c.before.requires.beside (omega arith)
+near : (c : tie.Else-rank-eq0) → (c.args.s.rank ≤ c.args.hs.rank) × (c.args.hs.rank ≤ suc c.args.s.rank)
+near c = let n = c.if-rank-eq0.false in beside-near c.requires.beside (omega arith)
 
 -- The test, by its two parts.
-abbrev ranked : tie.After-a → tie.Else1
+abbrev ranked : tie.After-a-1 → tie.Else-rank-eq0
 ranked c = c.before.before.before
 
-abbrev start : tie.After-same-part → tie.Else1
+abbrev start : tie.After-same_part → tie.Else-rank-eq0
 start c = ranked c.before.before
 
-parted : (c : tie.After-same-part) (x : List ℤ)
+parted : (c : tie.After-same_part) (x : List ℤ)
     → let st = (start c).before in
     agree (counted st.args.hs) st.args.axis (array_of (lent st.args.s x))
-    ≡ parts st.args.s st.args.hs st.args.axis st.pre (long st).0 (long st).1
+    ≡ parts st.args.s st.args.hs st.args.axis st.requires (long st).0 (long st).1
 parted c x =
     let st = (start c).before in
-    let some = (start c).if1.false in
-    agrees-parts st.args.s st.args.hs st.args.axis st.pre (long st).0 (long st).1 x (omega arith)
+    let some = (start c).if-rank-eq0.false in
+    agrees-parts st.args.s st.args.hs st.args.axis st.requires (long st).0 (long st).1 x (omega arith)
 
-returns : tie.Need-returns
-returns c x = let st = c.before in sym (agrees-scalar st.args.s _ _ st.requires (long st).0 (long st).1 x c.if1.true)
+returns : tie.Need-returns-then-rank-eq0
+returns c x = let st = c.before in sym (agrees-scalar st.args.s _ _ st.requires (long st).0 (long st).1 x c.if-rank-eq0.true)
 
-returns-2 : tie.Need-returns-2
+returns-2 : tie.Need-returns-then-same_part
 returns-2 c x =
     let p = c.before.before in
-    c.same-part2.ensures ∙ sym (parted p x ∙ rw (sym p.same-part.ensures ∙ c.before.if2.true))
+    c.same_part-then-same_part.ensures ∙ sym (parted p x ∙ rw (sym p.same_part.ensures ∙ c.if-same_part.true))
 
-returns-3 : tie.Need-returns-3
-returns-3 c x = let p = c.before in sym (parted p x ∙ rw (sym p.same-part.ensures ∙ c.if2.false))
+returns-3 : tie.Need-returns-else-same_part
+returns-3 c x = let p = c.before in sym (parted p x ∙ rw (sym p.same_part.ensures ∙ c.if-same_part.false))
 
-pub agrees-spec : {M : Type 1} → statement M
-agrees-spec =
+pub agrees_spec : {M : Type 1} → statement M
+agrees_spec =
     tie.close
     (tie.spec
     returns

@@ -29,61 +29,61 @@ abbrev means : tie.Start → Meaning
 means st = catenate st.args.g st.args.k (array_of (left st)) (array_of (right st))
 
 -- FORM and ORIGIN, and what is known where neither was met.
-early-is : (c : tie.After-early-two) → c.early-two.result ≡ early (good_form (left c.before) && good_form (right c.before)) c.before.args.g
-early-is c = c.early-two.ensures ∙ ap (early _) (read32 _ c.before.ranges.g)
+early-is : (c : tie.After-early_two-early) → c.early_two-early.result ≡ early (good_form (left c.before) && good_form (right c.before)) c.args.g
+early-is c = c.early_two-early.ensures ∙ ap (early _) (read32 _ c.ranges.g)
 
-fine : (c : tie.Else1) → let st = c.before.before in FineTwo st.args.g st.args.ls st.args.l.now st.args.rs st.args.r.now
+fine : (c : tie.Else-early-ne0) → let st = c.before.before in FineTwo st.args.g st.args.ls st.args.l.now st.args.rs st.args.r.now
 fine c =
     let st = c.before.before in
     let ll : length st.args.ls.lens ≡ max_rank = search rules in
     let rl : length st.args.rs.lens ≡ max_rank = search rules in
-    fine-two _ _ _ _ _ ll rl (sym (early-is c.before) ∙ c.if1.false)
+    fine-two _ _ _ _ _ ll rl (sym (early-is c.before) ∙ c.if-early-ne0.false)
 
 -- RANK, AXIS and LENGTH, and what is known where none was met.
-abbrev begun : tie.After-catenate-refusal → tie.Start
+abbrev begun : tie.After-catenate_refusal-own → tie.Start
 begun c = c.before.before.before
 
-own_is : (c : tie.After-catenate-refusal) → c.catenate-refusal.result ≡ own 22 (means (begun c)).refusals
+own_is : (c : tie.After-catenate_refusal-own) → c.catenate_refusal-own.result ≡ own 22 (means (begun c)).refusals
 own_is c =
     let st = begun c in
-    c.catenate-refusal.ensures st.args.l.now st.args.r.now
-    ∙ ap₂ (λ g k. own 22 (catenate g k (array_of (left st)) (array_of (right st))).refusals) (read32 _ st.fits.g) (read32 _ st.fits.k)
+    c.catenate_refusal-own.ensures st.args.l.now st.args.r.now
+    ∙ ap₂ (λ g k. own 22 (catenate g k (array_of (left st)) (array_of (right st))).refusals) (read32 _ st.ranges.g) (read32 _ st.ranges.k)
 
-abbrev asked : tie.After-from-zero → tie.Else2
+abbrev asked : tie.After-from_zero-axis → tie.Else-own-ne0
 asked c = c.before.before
 
-abbrev start : tie.After-from-zero → tie.Start
+abbrev start : tie.After-from_zero-axis → tie.Start
 start c = begun (asked c).before
 
-none : (c : tie.Else2) → own 22 (means (begun c.before)).refusals ≡ 0
-none c = sym (own_is c.before) ∙ c.if2.false
+none : (c : tie.Else-own-ne0) → own 22 (means (begun c.before)).refusals ≡ 0
+none c = sym (own_is c.before) ∙ c.if-own-ne0.false
 
-known : (c : tie.After-from-zero)
-    → let a = (start c).args in Catenates a.g a.k a.ls a.l.now a.rs a.r.now c.before.higher.result c.from_zero.result
+known : (c : tie.After-from_zero-axis)
+    → let a = (start c).args in Catenates a.g a.k a.ls a.l.now a.rs a.r.now c.higher-hs.result c.from_zero-axis.result
 known c =
     let st = start c in
     let f = fine (asked c).before.before in
-    catenates _ _ f.left f.right c.before.higher.ensures (c.from_zero.ensures ∙ read-from-zero _ _ st.fits.k st.fits.g) (none (asked c))
+    catenates _ _ f.left f.right c.higher-hs.ensures (c.from_zero-axis.ensures ∙ read-from-zero _ _ st.ranges.k st.ranges.g) (none (asked c))
 
 -- The result's shape, and that nothing is refused but LIMIT and SPACE.
-abbrev sided : tie.After-with-length → tie.After-run-of2
+abbrev sided : tie.After-with_length-shape → tie.After-run_of-right
 sided c = c.before.before.before
 
-abbrev placed : tie.After-with-length → tie.After-from-zero
+abbrev placed : tie.After-with_length-shape → tie.After-from_zero-axis
 placed c = (sided c).before.before
 
-shape_is : (c : tie.After-with-length) → c.with-length.result ≡ shape_of (means (start (placed c))).lengths
+shape_is : (c : tie.After-with_length-shape) → c.with_length-shape.result ≡ shape_of (means (start (placed c))).lengths
 shape_is c =
     let p = placed c in
     let k = known p in
-    c.with-length.ensures
-    ∙ ap₂ (λ (a : Run) (b : Run). with_length p.before.higher.result p.from_zero.result (a.width + b.width))
-    (sided c).before.run_of.ensures (sided c).run-of2.ensures
-    ∙ with-length-is _ _ _ k.higher.high k.left.has
+    c.with_length-shape.ensures
+    ∙ ap₂ (λ (a : Run) (b : Run). with_length p.higher-hs.result p.from_zero-axis.result (a.width + b.width))
+    (sided c).run_of-left.ensures (sided c).run_of-right.ensures
+    ∙ with-length-is _ _ _ k.higher-hs.high k.left.has
     ∙ ap shape_of (lengths-are k)
 
-ready : (c : tie.After-with-length)
-    → let st = start (placed c) in Ready 22 2 st.args.g st.args.k (left st) (right st) (means st) c.with-length.result
+ready : (c : tie.After-with_length-shape)
+    → let st = start (placed c) in Ready 22 2 st.args.g st.args.k (left st) (right st) (means st) c.with_length-shape.result
 ready c =
     let e = asked (placed c) in
     record {
@@ -94,56 +94,56 @@ ready c =
     }
 
 -- LIMIT and SPACE.
-abbrev made : tie.Else3 → tie.After-with-length
+abbrev made : tie.Else-late-ne0 → tie.After-with_length-shape
 made c = c.before.before.before
 
-roomy : (c : tie.Else3) → Roomy (made c).with-length.result (length (start (placed (made c))).args.out.now)
-roomy c = late-fine _ c.before.late.ensures c.before.before.count.ensures c.if3.false
+roomy : (c : tie.Else-late-ne0) → Roomy (made c).with_length-shape.result (length (start (placed (made c))).args.out.now)
+roomy c = late-fine _ c.late-late.ensures c.count-count.ensures c.if-late-ne0.false
 
-total-is : (c : tie.Else3) → c.before.before.count.result ≡ count (means (start (placed (made c)))).lengths
-total-is c = c.before.before.count.ensures ∙ stands-count (ready (made c)).stands (roomy c).well-formed
+total-is : (c : tie.Else-late-ne0) → c.count-count.result ≡ count (means (start (placed (made c)))).lengths
+total-is c = c.count-count.ensures ∙ stands-count (ready (made c)).stands (roomy c).well-formed
 
-returns : tie.Need-returns
-returns c = early-replied (catenate-names _ _ _ _) _ (early-is c.before.before) c.before.if1.true c.refused.ensures
+returns : tie.Need-returns-then-early-ne0
+returns c = early-replied (catenate-names _ _ _ _) _ (early-is c.before.before) c.if-early-ne0.true c.refused.ensures
 
-returns-2 : tie.Need-returns-2
+returns-2 : tie.Need-returns-then-own-ne0
 returns-2 c =
     let o = c.before.before in
-    own-replied (catenate-names _ _ _ _) _ (fine o.before).none (own_is o) c.before.if2.true c.refused2.ensures
+    own-replied (catenate-names _ _ _ _) _ (fine o.before).none (own_is o) c.if-own-ne0.true c.refused-then-own-ne0.ensures
 
-add-with-length : tie.Need-overflow-add-with-length
+add-with-length : tie.Need-overflow_add-left
 add-with-length c =
     let r = c.before.before in
     let k = known r.before.before in
-    let x = ap (λ (a : Run). a.width) r.before.run_of.ensures in
-    let y = ap (λ (a : Run). a.width) r.run-of2.ensures in
+    let x = ap (λ (a : Run). a.width) r.run_of-left.ensures in
+    let y = ap (λ (a : Run). a.width) r.run_of-right.ensures in
     omega (arith, extent-small k.left, extent-small k.right)
 
-returns-3 : tie.Need-returns-3
+returns-3 : tie.Need-returns-then-late-ne0
 returns-3 c =
     let l = c.before.before in
-    late-replied (ready l.before.before) _ l.late.ensures l.before.count.ensures c.before.if3.true c.refused3.ensures
+    late-replied (ready l.before.before) _ l.late-late.ensures l.count-count.ensures c.if-late-ne0.true c.refused-then-late-ne0.ensures
 
-join-into-requires : tie.Need-join-into-requires
+join-into-requires : tie.Need-join_into-requires
 join-into-requires c κs =
     let e = c.before in
     let x = sided (made e) in
     let r = roomy e in
-    let n = e.before.before.count.ensures in
-    joinable (known (placed (made e))) x.before.run_of.ensures x.run-of2.ensures (total-is e) (omega (arith, r.small)) (omega (arith, r.space))
+    let n = e.count-count.ensures in
+    joinable (known (placed (made e))) x.run_of-left.ensures x.run_of-right.ensures (total-is e) (omega (arith, r.small)) (omega (arith, r.space))
 
-returns-4 : tie.Need-returns-4
+returns-4 : tie.Need-returns
 returns-4 c =
     let j = c.before.before in
     let e = j.before.before in
     let x = sided (made e) in
     let l = e.before in
-    given-replied (ready (made e)) _ l.late.ensures l.before.count.ensures e.if3.false
+    given-replied (ready (made e)) _ l.late-late.ensures l.count-count.ensures e.if-late-ne0.false
     (c.given.ensures ∙ ap accepted (shape_is (made e)))
-    (j.join-into.ensures ∙ catenate-out (known (placed (made e))) x.before.run_of.ensures x.run-of2.ensures (total-is e) _)
+    (j.join_into.ensures ∙ catenate-out (known (placed (made e))) x.run_of-left.ensures x.run_of-right.ensures (total-is e) _)
 
-pub catenate-spec : {M : Type 1} → statement M
-catenate-spec =
+pub catenate_spec : {M : Type 1} → statement M
+catenate_spec =
     tie.close
     (tie.spec
     (λ c κs. search rules)
@@ -154,8 +154,8 @@ catenate-spec =
     returns-2
     (λ c κs. search rules)
     (λ c κs. search rules)
-    (λ c κs. let k = known c in omega (arith, k.left.has, k.higher.high))
-    (λ c κs. let k = known c.before in omega (arith, k.left.has, k.higher.high))
+    (λ c κs. let k = known c in omega (arith, k.left.has, k.higher-hs.high))
+    (λ c κs. let k = known c.before in omega (arith, k.left.has, k.higher-hs.high))
     add-with-length
     (λ c κs. search rules)
     (λ c κs. search rules)

@@ -33,78 +33,78 @@ known st hs e =
     let r : length st.args.rs.lens ≡ max_rank = search rules in
     record { left = record { good = st.requires.0; long = l }; right = record { good = st.requires.1; long = r }; is = e }
 
-abbrev fitting : tie.After-position → tie.Else1
+abbrev fitting : tie.After-position → tie.Else-not-ranks_fit
 fitting c = c.before.before
 
 abbrev start : tie.After-position → tie.Start
 start c = (fitting c).before.before
 
 abbrev hs : tie.After-position → Shape
-hs c = c.before.higher.result
+hs c = c.higher-hs.result
 
 high : (c : tie.After-position) → High (start c).args.ls (start c).args.rs (hs c)
-high c = known (start c) (hs c) c.before.higher.ensures
+high c = known (start c) (hs c) c.higher-hs.ensures
 
 -- The axis that K names.
 found : (c : tie.After-position) → c.position.result ≡ found_of (start c).args.k (start c).args.g (hs c).rank
 found c = c.position.ensures ∙ read_found _ _ (start c).ranges.k (start c).ranges.g _
 
-abbrev searched : tie.After-known-told → tie.After-position
-searched c = c.before.before.before
+abbrev searched : tie.In-At → tie.After-position
+searched c = c.before
 
-axis-is : (c : tie.After-known-told) → IsAt (start (searched c)).args.k (start (searched c)).args.g (hs (searched c)).rank c.before.axis.given.0.0
-axis-is c = found_at _ _ _ _ (sym c.before.axis.given.1 ∙ found (searched c))
+axis-is : (c : tie.In-At) → IsAt (start (searched c)).args.k (start (searched c)).args.g (hs (searched c)).rank c.in-At.axis
+axis-is c = found_at _ _ _ _ (sym c.in-At.is ∙ found (searched c))
 
 -- Ranks that fit.
 fits : (c : tie.After-position) → fit (start c).args.ls.rank (start c).args.rs.rank ≡ true
-fits c = let t = fitting c in sym t.before.ranks-fit.ensures ∙ not-false _ t.if1.left
+fits c = let t = fitting c in sym t.ranks_fit.ensures ∙ not-false _ t.if-not-ranks_fit.false
 
-compared : (c : tie.After-known-told) (s : Shape) → Good s → Beside s.rank (hs (searched c)).rank
-    → Compared s (hs (searched c)) c.before.axis.given.0.0
+compared : (c : tie.In-At) (s : Shape) → Good s → Beside s.rank (hs (searched c)).rank
+    → Compared s (hs (searched c)) c.in-At.axis
 compared c s g b = record { low = low g; high = (higher-is (high (searched c)) [] []).high; has = (axis-is c).below; beside = b }
 
 -- What is left is LENGTH.
-rest : (c : tie.After-known-told) (x y : List ℤ)
+rest : (c : tie.In-At) (x y : List ℤ)
     → let p = searched c in
     let st = start p in
-    let same = agree (counted (hs p)) c.before.axis.given.0.0 in
+    let same = agree (counted (hs p)) c.in-At.axis in
     own 22 (catenate st.args.g st.args.k (left st x) (right st y)).refusals ≡ cond (not (same (left st x) && same (right st y))) (number LENGTH) 0
 rest c x y = let p = searched c in catenate-rest (high p) (start p).args.g (start p).args.k x y (fits p) (axis-is c)
 
-returns : tie.Need-returns
+returns : tie.Need-returns-then-not-ranks_fit
 returns c x y =
     let st = c.before.before in
-    let w = sym c.before.ranks-fit.ensures ∙ not-true _ c.if1.true in
+    let w = sym c.ranks_fit.ensures ∙ not-true _ c.if-not-ranks_fit.true in
     sym (catenate-own (known st _ refl) st.args.g st.args.k x y ∙ rw w)
 
-returns-2 : tie.Need-returns-2
+returns-2 : tie.Need-returns-in_default
 returns-2 c x y =
-    let p = c.before.before in
-    let w = found_none (start p).args.k (start p).args.g _ (sym c.enum_told.given.1 ∙ found p) in
+    let p = c.before in
+    let w = found_none (start p).args.k (start p).args.g _ (sym c.in_default.is ∙ found p) in
     sym (catenate-own (high p) (start p).args.g (start p).args.k x y ∙ rw (fits p, w))
 
 agrees-requires : tie.Need-agrees-requires
 agrees-requires c κs = let h = high (searched c) in compared c _ h.left (besides h (fits (searched c))).0
 
-agrees-requires-2 : tie.Need-agrees-requires-2
+agrees-requires-2 : tie.Need-agrees-requires-then-agrees
 agrees-requires-2 c κs = let k = c.before.before in let h = high (searched k) in compared k _ h.right (besides h (fits (searched k))).1
 
-returns-3 : tie.Need-returns-3
+returns-3 : tie.Need-returns-then-agrees-2
 returns-3 c x y =
     let b = c.before in
     let a = b.before.before in
-    sym (rest a.before x y ∙ rw (← (a.agrees.ensures x), ← (b.agrees2.ensures y), b.before.if2.true, c.if3.true))
+    sym (rest a.before x y ∙ rw (← (a.agrees.ensures x), ← (b.agrees-then-agrees.ensures y), b.if-agrees.true, c.if-agrees-2.true))
 
-returns-4 : tie.Need-returns-4
+returns-4 : tie.Need-returns-else-agrees
 returns-4 c x y =
     let a = c.before in
     ⊎_elim
-    (λ w. sym (rest a.before x y ∙ rw (← (a.agrees.ensures x), ← (w.1.ensures y), w.0.taken, w.2.left)))
+    (λ w. sym (rest a.before x y ∙ rw (← (a.agrees.ensures x), ← (w.1.ensures y), w.0.true, w.2.false)))
     (λ w. sym (rest a.before x y ∙ rw (← (a.agrees.ensures x), w.left)))
-    c.if2.branch
+    c.else-agrees.branch-raw
 
-pub catenate-refusal-spec : {M : Type 1} → statement M
-catenate-refusal-spec =
+pub catenate_refusal_spec : {M : Type 1} → statement M
+catenate_refusal_spec =
     tie.close
     (tie.spec
     (λ c κs. let h = known c _ refl in (low h.left, low h.right))

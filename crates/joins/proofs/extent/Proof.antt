@@ -4,11 +4,11 @@ use borrow.Author.Tests.{eq-eqb, ne_eqb}
 use Rattle.joins.proofs.extent.Statement.{statement}
 use Rattle.joins.proofs.extent.Tie as tie
 
-returns : tie.Need-returns
-returns c = let st = c.before.before in sym (rw (eq-eqb st.args.t1.rank st.args.rank c.before.if1.true))
+returns : tie.Need-returns-then-s-rank
+returns c = let st = c.before.before in sym (rw (eq-eqb st.args.s.rank st.args.rank c.if-s-rank.true))
 
-returns-2 : tie.Need-returns-2
-returns-2 c = let st = c.before in sym (rw (ne_eqb st.args.t1.rank st.args.rank c.if1.false))
+returns-2 : tie.Need-returns-else-s-rank
+returns-2 c = let st = c.before in sym (rw (ne_eqb st.args.s.rank st.args.rank c.if-s-rank.false))
 
-pub extent-spec : {M : Type 1} → statement M
-extent-spec = tie.close (tie.spec (λ c. search rules) (λ c. search rules) returns returns-2)
+pub extent_spec : {M : Type 1} → statement M
+extent_spec = tie.close (tie.spec (λ c. search rules) (λ c. search rules) returns returns-2)

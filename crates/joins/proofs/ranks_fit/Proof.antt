@@ -10,38 +10,38 @@ use Rattle.joins.proofs.ranks_fit.Statement.{statement}
 use Rattle.joins.proofs.ranks_fit.Tie as tie
 
 -- What is known after each test that failed.
-left : (c : tie.Else1) → eqb c.before.args.a 0 ≡ false
-left c = ne_eqb c.before.args.a 0 c.if1.false
+left : (c : tie.Else-a-eq0) → eqb c.args.a 0 ≡ false
+left c = ne_eqb c.args.a 0 c.if-a-eq0.false
 
-right : (c : tie.Else2) → eqb c.before.before.args.b 0 ≡ false
-right c = ne_eqb c.before.before.args.b 0 c.if2.false
+right : (c : tie.Else-b-eq0) → eqb c.args.b 0 ≡ false
+right c = ne_eqb c.args.b 0 c.if-b-eq0.false
 
-apart : (c : tie.Else3) → eqb c.before.before.before.args.a c.before.before.before.args.b ≡ false
-apart c = ne_eqb c.before.before.before.args.a _ c.if3.false
+apart : (c : tie.Else-a-b) → eqb c.args.a c.args.b ≡ false
+apart c = ne_eqb c.args.a _ c.if-a-b.false
 
-returns : tie.Need-returns
-returns c = sym (rw (eq-eqb c.before.args.a 0 c.if1.true))
+returns : tie.Need-returns-then-a-eq0
+returns c = sym (rw (eq-eqb c.args.a 0 c.if-a-eq0.true))
 
-returns-2 : tie.Need-returns-2
-returns-2 c = sym (rw (left c.before, eq-eqb c.before.before.args.b 0 c.if2.true))
+returns-2 : tie.Need-returns-then-b-eq0
+returns-2 c = sym (rw (left c.before, eq-eqb c.args.b 0 c.if-b-eq0.true))
 
-returns-3 : tie.Need-returns-3
+returns-3 : tie.Need-returns-then-a-b
 returns-3 c =
     let e = c.before in
-    sym (rw (left e.before, right e, eq-eqb e.before.before.args.a e.before.before.args.b c.if3.true))
+    sym (rw (left e.before, right e, eq-eqb e.args.a e.args.b c.if-a-b.true))
 
-returns-4 : tie.Need-returns-4
+returns-4 : tie.Need-returns-then-a-b-2
 returns-4 c =
     let e = c.before in
-    let a = e.before.before.before.args in
-    sym (rw (left e.before.before, right e.before, apart e, eq-eqb (suc a.a) a.b (omega (arith, c.if4.true))))
+    let a = e.args in
+    sym (rw (left e.before.before, right e.before, apart e, eq-eqb (suc a.a) a.b (omega (arith, c.if-a-b-2.true))))
 
-returns-5 : tie.Need-returns-5
+returns-5 : tie.Need-returns
 returns-5 c =
     let e = c.before in
-    let a = e.before.before.before.args in
+    let a = e.args in
     ap (λ n. eqb n a.a) (add-one a.b)
-    ∙ sym (rw (left e.before.before, right e.before, apart e, ne_eqb (suc a.a) a.b (λ q. c.if4.false (omega arith))))
+    ∙ sym (rw (left e.before.before, right e.before, apart e, ne_eqb (suc a.a) a.b (λ q. c.if-a-b-2.false (omega arith))))
 
-pub ranks-fit-spec : {M : Type 1} → statement M
-ranks-fit-spec = tie.close (tie.spec returns returns-2 returns-3 (λ c. search rules) returns-4 (λ c. search rules) returns-5)
+pub ranks_fit_spec : {M : Type 1} → statement M
+ranks_fit_spec = tie.close (tie.spec returns returns-2 returns-3 (λ c. search rules) returns-4 (λ c. search rules) returns-5)

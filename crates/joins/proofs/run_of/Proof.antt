@@ -5,7 +5,7 @@ use Rattle.joins.proofs.run_of.Statement.{statement}
 use Rattle.joins.proofs.run_of.Tie as tie
 
 returns : tie.Need-returns
-returns c = let e = c.before in ap (λ n. record { scalar = eqb e.before.args.s.rank 0; width = n }) e.extent.ensures
+returns c = let e = c.before in ap (λ n. record { scalar = eqb e.args.s.rank 0; width = n }) e.extent-width.ensures
 
-pub run-of-spec : {M : Type 1} → statement M
-run-of-spec = tie.close (tie.spec (λ c κs. search rules) returns)
+pub run_of_spec : {M : Type 1} → statement M
+run_of_spec = tie.close (tie.spec (λ c κs. search rules) returns)

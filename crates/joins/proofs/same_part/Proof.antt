@@ -11,35 +11,35 @@ use Rattle.joins.proofs.Agreeing.{Spans, same_next, same_stop, same_end}
 use Rattle.joins.proofs.same_part.Statement.{statement}
 use Rattle.joins.proofs.same_part.Tie as tie
 
-abbrev invariant-loop : tie.invariant-loop
+abbrev invariant-loop : tie.invariant-loop-t
 invariant-loop i j n a b t₀ t =
     (t ≤ n) × (same_lengths (slice i (i + n) a) (slice j (j + n) b) ≡ same_lengths (slice (i + t) (i + n) a) (slice (j + t) (j + n) b))
 
-abbrev decreases-loop : tie.decreases-loop
+abbrev decreases-loop : tie.decreases-loop-t
 decreases-loop i j n a b t₀ t = n - t
 
-spans : (st : tie.Start invariant-loop decreases-loop) → Spans st.args.t1 st.args.t3 st.args.i st.args.j st.args.n
+spans : (st : tie.Start invariant-loop decreases-loop) → Spans st.args.a st.args.b st.args.i st.args.j st.args.n
 spans st =
-    let p : length st.args.t1 ≡ max_rank = search rules in
-    let q : length st.args.t3 ≡ max_rank = search rules in
+    let p : length st.args.a ≡ max_rank = search rules in
+    let q : length st.args.b ≡ max_rank = search rules in
     record { left = omega arith; right = omega arith }
 
-loop-holds : tie.Need-loop-init invariant-loop decreases-loop
+loop-holds : tie.Need-loop-t-init invariant-loop decreases-loop
 loop-holds c =
     let a = c.args in
-    (omega arith, ap₂ (λ x y. same_lengths (slice x (a.i + a.n) a.t1) (slice y (a.j + a.n) a.t3)) (sym (add-zero a.i)) (sym (add-zero a.j)))
+    (omega arith, ap₂ (λ x y. same_lengths (slice x (a.i + a.n) a.a) (slice y (a.j + a.n) a.b)) (sym (add-zero a.i)) (sym (add-zero a.j)))
 
-returns : tie.Need-returns invariant-loop decreases-loop
-returns c = let lp = c.before.before in sym (lp.loop.invariant.1 ∙ same_stop (spans lp.before) lp.loop.t (omega arith) c.if1.true)
+returns : tie.Need-returns-then-a-i invariant-loop decreases-loop
+returns c = let lp = c.before.before in sym (lp.loop-t.invariant.1 ∙ same_stop (spans lp.before) lp.loop-t.t (omega arith) c.if-a-i.true)
 
-loop-again : tie.Need-loop-preserved invariant-loop decreases-loop
-loop-again c = let lp = c.before.before in (omega arith, lp.loop.invariant.1 ∙ same_next (spans lp.before) lp.loop.t (omega arith) c.if1.false)
+loop-again : tie.Need-loop-t-preserved invariant-loop decreases-loop
+loop-again c = let lp = c.before.before in (omega arith, lp.loop-t.invariant.1 ∙ same_next (spans lp.before) lp.loop-t.t (omega arith) c.if-a-i.false)
 
-returns-2 : tie.Need-returns-2 invariant-loop decreases-loop
-returns-2 c = let lp = c.before in sym (lp.loop.invariant.1 ∙ same_end (spans lp.before) lp.loop.t (omega arith))
+returns-2 : tie.Need-returns invariant-loop decreases-loop
+returns-2 c = let lp = c.before in sym (lp.loop-t.invariant.1 ∙ same_end (spans lp.before) lp.loop-t.t (omega arith))
 
-pub same-part-spec : {M : Type 1} → statement M
-same-part-spec =
+pub same_part_spec : {M : Type 1} → statement M
+same_part_spec =
     tie.close
     (tie.spec
     invariant-loop

@@ -9,23 +9,23 @@ use Rattle.lookups.specs.Steps.{entry}
 use Rattle.lookups.proofs.entry.Statement.{statement}
 use Rattle.lookups.proofs.entry.Tie as tie
 
-returns : tie.Need-returns
+returns : tie.Need-returns-then-at-l
 unfolding entry
 returns c =
     let st = c.before.before in
-    sym (rw (c.before.if1.true, lt-ltb st.args.at (length st.args.l.now) c.if2.true))
+    sym (rw (c.if-bits.true, lt-ltb st.args.at (length st.args.l.now) c.if-at-l.true))
 
-returns-2 : tie.Need-returns-2
+returns-2 : tie.Need-returns-else-at-l
 unfolding entry
 returns-2 c =
     let st = c.before.before in
-    sym (rw (c.before.if1.true, le-ltb st.args.at (length st.args.l.now) c.if2.false))
+    sym (rw (c.if-bits.true, le-ltb st.args.at (length st.args.l.now) c.if-at-l.false))
 
-returns-3 : tie.Need-returns-3
+returns-3 : tie.Need-returns
 unfolding entry
 returns-3 c =
     let st = c.before in
-    read_pos (st.args.first + st.args.at) (omega (arith, st.requires.0, st.requires.1)) ∙ sym (rw c.if1.false)
+    read_pos (st.args.first + st.args.at) (omega (arith, st.requires.0, st.requires.1)) ∙ sym (rw c.if-bits.false)
 
 pub entry_spec : {M : Type 1} → statement M
 entry_spec = tie.close (tie.spec returns returns-2 (λ c. search rules) (λ c. search rules) returns-3)

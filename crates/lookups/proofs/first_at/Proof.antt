@@ -13,36 +13,36 @@ use Rattle.lookups.proofs.Finding.{read_first, passed_none, passed-next, passed_
 use Rattle.lookups.proofs.first_at.Statement.{statement}
 use Rattle.lookups.proofs.first_at.Tie as tie
 
-abbrev invariant-loop : tie.invariant-loop
+abbrev invariant-loop : tie.invariant-loop-i
 invariant-loop l x n i₀ i = Passed (to_z w32 x) l i
 
-abbrev decreases-loop : tie.decreases-loop
+abbrev decreases-loop : tie.decreases-loop-i
 decreases-loop l x n i₀ i = n - i
 
-abbrev round : tie.After-same invariant-loop decreases-loop → tie.At-loop invariant-loop decreases-loop
+abbrev round : tie.After-same invariant-loop decreases-loop → tie.At-loop-i invariant-loop decreases-loop
 round c = c.before.before.before
 
 -- The test, as one of what x is read as and the element.
 same-is : (c : tie.After-same invariant-loop decreases-loop)
-    → let lp = round c in c.same.result ≡ int_same (to_z w32 (of_z w32 lp.before.args.x)) (get_or lp.before.args.l.now lp.loop.i (pos 0))
-same-is c = c.same.ensures ∙ ap (int_same (to_z w32 (of_z w32 (round c).before.args.x))) (read32 _ (sfits_of c.before.same-arg.given))
+    → let lp = round c in c.same.result ≡ int_same (to_z w32 (of_z w32 lp.args.x)) (get_or lp.args.l.now lp.loop-i.i (pos 0))
+same-is c = c.same.ensures ∙ ap (int_same (to_z w32 (of_z w32 (round c).args.x))) (read32 _ (sfits_of c.same-arg-1.given))
 
-loop-holds : tie.Need-loop-init invariant-loop decreases-loop
+loop-holds : tie.Need-loop-i-init invariant-loop decreases-loop
 loop-holds c = passed_none _ _
 
-returns : tie.Need-returns invariant-loop decreases-loop
+returns : tie.Need-returns-then-same invariant-loop decreases-loop
 returns c =
     let lp = round c.before in
-    read_first _ lp.before.fits.x _ (passed_here lp.loop.inv (omega arith) (sym (same-is c.before) ∙ c.if1.true))
+    read_first _ lp.ranges.x _ (passed_here lp.loop-i.invariant (omega arith) (sym (same-is c.before) ∙ c.if-same.true))
 
-loop-again : tie.Need-loop-preserved invariant-loop decreases-loop
-loop-again c = passed-next (round c.before).loop.inv (omega arith) (sym (same-is c.before) ∙ c.if1.false)
+loop-again : tie.Need-loop-i-preserved invariant-loop decreases-loop
+loop-again c = passed-next (round c.before).loop-i.invariant (omega arith) (sym (same-is c.before) ∙ c.if-same.false)
 
-returns-2 : tie.Need-returns-2 invariant-loop decreases-loop
-returns-2 c = let lp = c.before in read_first _ lp.before.ranges.x _ (passed-all lp.loop.invariant (omega arith))
+returns-2 : tie.Need-returns invariant-loop decreases-loop
+returns-2 c = let lp = c.before in read_first _ lp.ranges.x _ (passed-all lp.loop-i.invariant (omega arith))
 
-pub first-at-spec : {M : Type 1} → statement M
-first-at-spec =
+pub first_at_spec : {M : Type 1} → statement M
+first_at_spec =
     tie.close
     (tie.spec
     invariant-loop

@@ -16,39 +16,39 @@ use Rattle.lookups.proofs.Finding.{passed_none, passed-next}
 use Rattle.lookups.proofs.may_have.Statement.{statement}
 use Rattle.lookups.proofs.may_have.Tie as tie
 
-abbrev invariant-loop : tie.invariant-loop
+abbrev invariant-loop : tie.invariant-loop-i
 invariant-loop l x n has₀ i₀ has i = (i ≤ n) × (has ≡ false → Passed (to_z w32 x) l i)
 
-abbrev decreases-loop : tie.decreases-loop
+abbrev decreases-loop : tie.decreases-loop-i
 decreases-loop l x n has₀ i₀ has i = n - i
 
-abbrev round : tie.After-same invariant-loop decreases-loop → tie.At-loop invariant-loop decreases-loop
+abbrev round : tie.After-same invariant-loop decreases-loop → tie.At-loop-i invariant-loop decreases-loop
 round c = c.before.before.before
 
 -- The test, as one of what x is read as and the element.
 same-is : (c : tie.After-same invariant-loop decreases-loop)
-    → let lp = round c in c.same.result ≡ int_same (to_z w32 (of_z w32 lp.before.args.x)) (get_or lp.before.args.l.now lp.loop.i (pos 0))
-same-is c = c.same.ensures ∙ ap (int_same (to_z w32 (of_z w32 (round c).before.args.x))) (read32 _ (sfits_of c.before.same-arg.given))
+    → let lp = round c in c.same.result ≡ int_same (to_z w32 (of_z w32 lp.args.x)) (get_or lp.args.l.now lp.loop-i.i (pos 0))
+same-is c = c.same.ensures ∙ ap (int_same (to_z w32 (of_z w32 (round c).args.x))) (read32 _ (sfits_of c.same-arg-1.given))
 
-loop-holds : tie.Need-loop-init invariant-loop decreases-loop
+loop-holds : tie.Need-loop-i-init invariant-loop decreases-loop
 loop-holds c = (omega arith, λ f. passed_none _ _)
 
-loop-again : tie.Need-loop-preserved invariant-loop decreases-loop
+loop-again : tie.Need-loop-i-preserved invariant-loop decreases-loop
 loop-again c =
     let lp = round c.before in (
       omega arith,
       ⊎_elim (λ w f. no_way (sym f ∙ w.1))
-          (λ w f. passed-next (lp.loop.inv.1 (sym w.1 ∙ f)) (omega arith) (sym (same-is c.before) ∙ w.0.left)) c.if1.branch,
+          (λ w f. passed-next (lp.loop-i.invariant.1 (sym w.1 ∙ f)) (omega arith) (sym (same-is c.before) ∙ w.0.false)) c.if-same.branch-raw,
     )
 
 returns : tie.Need-returns invariant-loop decreases-loop
 returns c f =
     let lp = c.before in
-    let e : lp.loop.i ≡ length lp.before.args.l.now = omega arith in
-    rw (read32 _ lp.before.ranges.x) at (rw e at (lp.loop.invariant.1 f))
+    let e : lp.loop-i.i ≡ length lp.args.l.now = omega arith in
+    rw (read32 _ lp.ranges.x) at (rw e at (lp.loop-i.invariant.1 f))
 
-pub may-have-spec : {M : Type 1} → statement M
-may-have-spec =
+pub may_have_spec : {M : Type 1} → statement M
+may_have_spec =
     tie.close
     (tie.spec
     invariant-loop

@@ -10,33 +10,33 @@ use Rattle.lookups.proofs.Finding.{passed-part}
 use Rattle.lookups.proofs.passed.Statement.{statement}
 use Rattle.lookups.proofs.passed.Tie as tie
 
-abbrev invariant-loop : tie.invariant-loop
+abbrev invariant-loop : tie.invariant-loop-start
 invariant-loop l from x n start₀ start = Passed (to_z w32 x) l start
 
-abbrev decreases-loop : tie.decreases-loop
+abbrev decreases-loop : tie.decreases-loop-start
 decreases-loop l from x n start₀ start = n - start
 
-abbrev round : tie.After-may-have invariant-loop decreases-loop → tie.At-loop invariant-loop decreases-loop
+abbrev round : tie.After-may_have invariant-loop decreases-loop → tie.At-loop-start invariant-loop decreases-loop
 round c = c.before.before.before
 
-loop-holds : tie.Need-loop-init invariant-loop decreases-loop
+loop-holds : tie.Need-loop-start-init invariant-loop decreases-loop
 loop-holds c = rw (read32 _ c.ranges.x) c.requires
 
-returns : tie.Need-returns invariant-loop decreases-loop
-returns c = let lp = round c.before in rw (read32 _ lp.before.fits.x) at lp.loop.inv
+returns : tie.Need-returns-then-may_have invariant-loop decreases-loop
+returns c = let lp = round c.before in rw (read32 _ lp.ranges.x) at lp.loop-start.invariant
 
-loop-again : tie.Need-loop-preserved invariant-loop decreases-loop
+loop-again : tie.Need-loop-start-preserved invariant-loop decreases-loop
 loop-again c =
     let lp = round c.before in
-    let end = lp.loop.start + 16 in
-    let long = mid_len lp.loop.start end lp.before.args.l.now (omega arith) in
-    passed-part lp.loop.inv end end (omega arith) (omega arith) (omega arith) (rw long at (c.before.may-have.ensures c.if1.false))
+    let end = lp.loop-start.start + 16 in
+    let long = mid_len lp.loop-start.start end lp.args.l.now (omega arith) in
+    passed-part lp.loop-start.invariant end end (omega arith) (omega arith) (omega arith) (rw long at (c.may_have.ensures c.if-may_have.false))
 
-returns-2 : tie.Need-returns-2 invariant-loop decreases-loop
-returns-2 c = let lp = c.before in rw (read32 _ lp.before.ranges.x) at lp.loop.invariant
+returns-2 : tie.Need-returns invariant-loop decreases-loop
+returns-2 c = let lp = c.before in rw (read32 _ lp.ranges.x) at lp.loop-start.invariant
 
-pub passed-spec : {M : Type 1} → statement M
-passed-spec =
+pub passed_spec : {M : Type 1} → statement M
+passed_spec =
     tie.close
     (tie.spec
     invariant-loop

@@ -16,30 +16,30 @@ near = 8
 abbrev sought : tie.Start → ℤ
 sought st = to_z w32 (of_z w32 st.args.x)
 
-returns : tie.Need-returns
-returns c = read_first _ c.before.before.ranges.x _ c.first-at.ensures
+returns : tie.Need-returns-then-l-le-NEAR
+returns c = read_first _ c.ranges.x _ c.first_at.ensures
 
-returns-2 : tie.Need-returns-2
+returns-2 : tie.Need-returns-then-at-near
 returns-2 c =
     let f = c.before in
     let st = f.before.before.before in
     let none = passed_none (sought st) st.args.l.now in
-    read_first _ st.ranges.x _ (found_part none near f.first-at2.result (omega arith) (omega arith) (omega arith) (omega arith) (omega arith))
+    read_first _ st.ranges.x _ (found_part none near f.first_at-at.result (omega arith) (omega arith) (omega arith) (omega arith) (omega arith))
 
-position-from-requires : tie.Need-position-from-requires
+position-from-requires : tie.Need-position_from-requires
 position-from-requires c κs =
     let f = c.before in
     let st = f.before.before.before in
     let none = passed_none (sought st) st.args.l.now in
     passed-part none near near (omega arith) (omega arith) (omega arith) (passed_first _ _ _ (omega arith))
 
-returns-3 : tie.Need-returns-3
+returns-3 : tie.Need-returns
 returns-3 c =
     let f = c.before.before in
-    read_first _ f.before.before.before.ranges.x _ c.position_from.ensures
+    read_first _ f.ranges.x _ c.position_from.ensures
 
-pub position-spec : {M : Type 1} → statement M
-position-spec =
+pub position_spec : {M : Type 1} → statement M
+position_spec =
     tie.close
     (tie.spec
     (λ c κs. search rules)

@@ -16,23 +16,23 @@ use Rattle.lookups.proofs.position_from.Tie as tie
 abbrev sought : tie.Start → ℤ
 sought st = to_z w32 (of_z w32 st.args.x)
 
-sum_is : (c : tie.After-first-at)
-    → let p = c.before.before in p.passed.result + c.first-at.result ≡ first_at (sought p.before) p.before.args.l.now
+sum_is : (c : tie.After-first_at)
+    → let p = c.before.before in p.passed-start.result + c.first_at.result ≡ first_at (sought p.before) p.args.l.now
 sum_is c =
     let p = c.before.before in
-    let l = p.before.args.l.now in
-    let rest = take_all (length l - p.passed.result) (drop p.passed.result l) (rw length-drop (omega arith)) in
-    ap (λ n. p.passed.result + n) (c.first-at.ensures ∙ ap (first_at (sought p.before)) rest)
-    ∙ passed-skip (sought p.before) l p.passed.result p.passed.ensures
+    let l = p.args.l.now in
+    let rest = take_all (length l - p.passed-start.result) (drop p.passed-start.result l) (rw length-drop (omega arith)) in
+    ap (λ n. p.passed-start.result + n) (c.first_at.ensures ∙ ap (first_at (sought p.before)) rest)
+    ∙ passed-skip (sought p.before) l p.passed-start.result p.passed-start.ensures
 
-add-result : tie.Need-overflow-add-result
+add-result : tie.Need-overflow_add-result
 add-result c = let st = c.before.before.before in omega (arith, sum_is c, first-le (sought st) st.args.l.now)
 
 returns : tie.Need-returns
-returns c = read_first _ c.before.before.before.ranges.x _ (sum_is c)
+returns c = read_first _ c.ranges.x _ (sum_is c)
 
-pub position-from-spec : {M : Type 1} → statement M
-position-from-spec =
+pub position_from_spec : {M : Type 1} → statement M
+position_from_spec =
     tie.close
     (tie.spec
     (λ c κs. search rules)

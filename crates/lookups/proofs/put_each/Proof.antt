@@ -4,27 +4,27 @@ use Rattle.lookups.proofs.Entering.{entered_all, entered-rest}
 use Rattle.lookups.proofs.put_each.Statement.{statement}
 use Rattle.lookups.proofs.put_each.Tie as tie
 
-abbrev start : tie.After-out → tie.Start
+abbrev start : tie.After-out-1 → tie.Start
 start c = c.before.before.before
 
-abbrev searched : tie.After-put-hashed-arg2 → tie.After-out
+abbrev searched : tie.After-put_hashed-arg-then-done-m-1 → tie.After-out-1
 searched c = c.before.before.before
 
-put-hashed-requires : tie.Need-put-hashed-requires
+put-hashed-requires : tie.Need-put_hashed-requires
 put-hashed-requires c κs =
     let p = (start (searched c)).requires in
     record { origin = p.origin; small = p.small; space = search rules }
 
-returns : tie.Need-returns
+returns : tie.Need-returns-then-done-m
 returns c =
     let o = searched c.before.before in
-    entered-rest o.before.put-searched.ensures _ (start o).pre.space c.before.put-hashed.ensures
+    entered-rest o.put_searched-done.ensures _ (start o).requires.space c.put_hashed.ensures
 
-returns-2 : tie.Need-returns-2
-returns-2 c = (entered_all c.before.before.put-searched.ensures (omega arith)).done
+returns-2 : tie.Need-returns-else-done-m
+returns-2 c = (entered_all c.put_searched-done.ensures (omega arith)).done
 
-pub put-each-spec : {M : Type 1} → statement M
-put-each-spec =
+pub put_each_spec : {M : Type 1} → statement M
+put_each_spec =
     tie.close
     (tie.spec
     (λ c κs. search rules)

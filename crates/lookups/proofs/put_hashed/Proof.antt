@@ -13,7 +13,7 @@ past = 65535
 
 link-requires : tie.Need-link-requires
 link-requires c κs =
-    let small = c.before.before.requires.small in
+    let small = c.requires.small in
     record {
       small = small;
       heads-long = length-replicate buckets past;
@@ -22,19 +22,19 @@ link-requires c κs =
     }
 
 -- The call of either branch.
-abbrev taken : tie.After-put-looked-up-arg → tie.Then1
+abbrev taken : tie.After-put_looked_up-arg-1 → tie.Then-bits
 taken c = c.before.before.before
 
-abbrev left : tie.After-put-looked-up-arg2 → tie.Else1
+abbrev left : tie.After-put_looked_up-arg-else-bits-1 → tie.Else-bits
 left c = c.before.before.before
 
-returns : tie.Need-returns
-returns c = rw (taken c.before.before).if1.true c.before.put-looked-up.ensures
+returns : tie.Need-returns-then-bits
+returns c = rw (taken c.before.before).if-bits.true c.put_looked_up.ensures
 
-returns-2 : tie.Need-returns-2
-returns-2 c = rw (left c.before.before).if1.false c.before.put-looked-up2.ensures
+returns-2 : tie.Need-returns-else-bits
+returns-2 c = rw (left c.before.before).if-bits.false c.put_looked_up-else-bits.ensures
 
-pub put-hashed-spec : {M : Type 1} → statement M
-put-hashed-spec =
+pub put_hashed_spec : {M : Type 1} → statement M
+put_hashed_spec =
     tie.close
     (tie.spec link-requires (λ c κs. search rules) (λ c κs. search rules) (λ c. search rules) returns (λ c. search rules) returns-2)

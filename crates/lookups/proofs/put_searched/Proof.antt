@@ -13,45 +13,45 @@ use Rattle.lookups.proofs.Entering.{entered-none, entered-next, entered_all}
 use Rattle.lookups.proofs.put_searched.Statement.{statement}
 use Rattle.lookups.proofs.put_searched.Tie as tie
 
-abbrev invariant-loop : tie.invariant-loop
+abbrev invariant-loop : tie.invariant-loop-j
 invariant-loop bits first l r out₀ m allowed tests₀ j₀ out tests j = (length out ≡ length out₀) × Entered bits first l r out₀ out j
 
-abbrev decreases-loop : tie.decreases-loop
+abbrev decreases-loop : tie.decreases-loop-j
 decreases-loop bits first l r out₀ m allowed tests₀ j₀ out tests j = m - j
 
-abbrev round : tie.Else1 invariant-loop decreases-loop → tie.At-loop invariant-loop decreases-loop
+abbrev round : tie.Else-allowed-tests invariant-loop decreases-loop → tie.At-loop-j invariant-loop decreases-loop
 round c = c.before.before
 
-abbrev start : tie.Else1 invariant-loop decreases-loop → tie.Start invariant-loop decreases-loop
+abbrev start : tie.Else-allowed-tests invariant-loop decreases-loop → tie.Start invariant-loop decreases-loop
 start c = (round c).before.before
 
 -- The position of an element, which is at most the length.
-at-is : (c : tie.After-position invariant-loop decreases-loop)
-    → let e = c.before.before in c.position.result ≡ first_at (get_or (start e).args.r.now (round e).loop.j (pos 0)) (start e).args.l.now
+at-is : (c : tie.After-position-at invariant-loop decreases-loop)
+    → let e = c.before.before in c.position-at.result ≡ first_at (get_or (start e).args.r.now (round e).loop-j.j (pos 0)) (start e).args.l.now
 at-is c =
-    c.position.ensures ∙ ap (λ z. first_at z (start c.before.before).args.l.now) (read32 _ (sfits_of c.before.position-arg.given))
+    c.position-at.ensures ∙ ap (λ z. first_at z (start c.before.before).args.l.now) (read32 _ (sfits_of c.position-arg-1.given))
 
-at_small : (c : tie.After-position invariant-loop decreases-loop) → c.position.result ≤ max_count
-at_small c = first_small _ _ (at-is c) (start c.before.before).pre.small
+at_small : (c : tie.After-position-at invariant-loop decreases-loop) → c.position-at.result ≤ max_count
+at_small c = first_small _ _ (at-is c) (start c.before.before).requires.small
 
-loop-holds : tie.Need-loop-init invariant-loop decreases-loop
+loop-holds : tie.Need-loop-j-init invariant-loop decreases-loop
 loop-holds c = (refl, entered-none _ _ _ _ _)
 
-add-tests : tie.Need-overflow-add-tests invariant-loop decreases-loop
+add-tests : tie.Need-overflow_add-tests invariant-loop decreases-loop
 add-tests c = let h = at_small c.before in search rules
 
-loop-again : tie.Need-loop-preserved invariant-loop decreases-loop
+loop-again : tie.Need-loop-j-preserved invariant-loop decreases-loop
 loop-again c =
     let p = c.before in
-    let v = (round p.before.before).loop.inv in
+    let v = (round p.before.before).loop-j.invariant in
     let stored = read32 _ (sfits_of c.entry.type-inv) ∙ c.entry.ensures in
-    (simp length-set v.0, entered-next v.1 _ (omega arith) (start p.before.before).pre.space (at-is p) stored)
+    (simp length-set v.0, entered-next v.1 _ (omega arith) (start p.before.before).requires.space (at-is p) stored)
 
-returns-2 : tie.Need-returns-2 invariant-loop decreases-loop
-returns-2 c = entered_all c.before.loop.invariant.1 (omega arith)
+returns-2 : tie.Need-returns invariant-loop decreases-loop
+returns-2 c = entered_all c.loop-j.invariant.1 (omega arith)
 
-pub put-searched-spec : {M : Type 1} → statement M
-put-searched-spec =
+pub put_searched_spec : {M : Type 1} → statement M
+put_searched_spec =
     tie.close
     (tie.spec
     invariant-loop
@@ -59,11 +59,11 @@ put-searched-spec =
     (λ c κs. search rules)
     loop-holds
     (λ c. search rules)
-    (λ c. c.before.before.loop.invariant.1)
+    (λ c. c.loop-j.invariant.1)
     (λ c. search rules)
     (λ c. search rules)
     (λ c κs. search rules)
-    (λ c κs. ((start c.before.before).pre.origin, at_small c))
+    (λ c κs. ((start c.before.before).requires.origin, at_small c))
     (λ c. search rules)
     (λ c. search rules)
     add-tests

@@ -13,41 +13,41 @@ use Rattle.meaning.proofs.Every.{all-kept, all-lost, all_end}
 use Rattle.masks.proofs.all_bits.Statement.{statement}
 use Rattle.masks.proofs.all_bits.Tie as tie
 
-abbrev invariant-loop : tie.invariant-loop
+abbrev invariant-loop : tie.invariant-loop-i
 invariant-loop l all₀ i₀ all i = (i ≤ length l) × (every is_bit l ≡ (all && every is_bit (drop i l)))
 
-abbrev decreases-loop : tie.decreases-loop
+abbrev decreases-loop : tie.decreases-loop-i
 decreases-loop l all₀ i₀ all i = length l - i
 
-abbrev passed : tie.After-is-bit invariant-loop decreases-loop → tie.At-loop invariant-loop decreases-loop
+abbrev passed : tie.After-is_bit invariant-loop decreases-loop → tie.At-loop-i invariant-loop decreases-loop
 passed c = c.before.before.before
 
-test : (c : tie.After-is-bit invariant-loop decreases-loop)
-    → let lp = passed c in c.is-bit.result ≡ is_bit (get_or lp.before.args.l.now lp.loop.i (pos 0))
+test : (c : tie.After-is_bit invariant-loop decreases-loop)
+    → let lp = passed c in c.is_bit.result ≡ is_bit (get_or lp.args.l.now lp.loop-i.i (pos 0))
 test c =
     let lp = passed c in
-    c.is-bit.ensures ∙ ap is_bit (read32 (get_or lp.before.args.l.now lp.loop.i (pos 0)) (sfits_of c.before.is-bit-arg.given))
+    c.is_bit.ensures ∙ ap is_bit (read32 (get_or lp.args.l.now lp.loop-i.i (pos 0)) (sfits_of c.is_bit-arg-1.given))
 
-loop-holds : tie.Need-loop-init invariant-loop decreases-loop
+loop-holds : tie.Need-loop-i-init invariant-loop decreases-loop
 loop-holds c = (omega arith, refl)
 
-loop-again : tie.Need-loop-preserved invariant-loop decreases-loop
+loop-again : tie.Need-loop-i-preserved invariant-loop decreases-loop
 loop-again c =
-    let lp = (passed c.before).loop in
-    let l = (passed c.before).before.args.l.now in
-    let bit = c.before.is-bit.result in (
+    let lp = (passed c.before).loop-i in
+    let l = (passed c.before).args.l.now in
+    let bit = c.is_bit.result in (
       omega arith,
       ⊎_elim
-          (λ w. all-lost is_bit l lp.i lp.all lp.inv.1 (pos 0) (omega arith) (sym (test c.before) ∙ not-true bit w.0.taken) w.1)
-          (λ w. all-kept is_bit l lp.i lp.all lp.inv.1 (pos 0) (omega arith) (sym (test c.before) ∙ not-false bit w.0.left) w.1)
-          c.if1.branch,
+          (λ w. all-lost is_bit l lp.i lp.all lp.inv.1 (pos 0) (omega arith) (sym (test c.before) ∙ not-true bit w.0.true) w.1)
+          (λ w. all-kept is_bit l lp.i lp.all lp.inv.1 (pos 0) (omega arith) (sym (test c.before) ∙ not-false bit w.0.false) w.1)
+          c.if-not-is_bit.branch-raw,
     )
 
 returns : tie.Need-returns invariant-loop decreases-loop
-returns c = all_end is_bit c.before.before.args.l.now c.before.loop.i c.before.loop.all c.before.loop.invariant.1 (omega arith)
+returns c = all_end is_bit c.args.l.now c.loop-i.i c.loop-i.all c.loop-i.invariant.1 (omega arith)
 
-pub all-bits-spec : {M : Type 1} → statement M
-all-bits-spec =
+pub all_bits_spec : {M : Type 1} → statement M
+all_bits_spec =
     tie.close
     (tie.spec
     invariant-loop

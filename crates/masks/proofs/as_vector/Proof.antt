@@ -4,13 +4,13 @@ use Rattle.masks.specs.Steps.Actions.{vector_shape}
 use Rattle.masks.proofs.as_vector.Statement.{statement}
 use Rattle.masks.proofs.as_vector.Tie as tie
 
-returns : tie.Need-returns
+returns : tie.Need-returns-then-s-eq0
 unfolding vector_shape
-returns c = rw (eq-eqb _ 0 c.before.if1.true) c.vector.ensures
+returns c = rw (eq-eqb _ 0 c.if-s-eq0.true) c.vector.ensures
 
-returns-2 : tie.Need-returns-2
+returns-2 : tie.Need-returns
 unfolding vector_shape
-returns-2 c = rw (ne_eqb _ 0 c.if1.false)
+returns-2 c = rw (ne_eqb _ 0 c.if-s-eq0.false)
 
-pub as-vector-spec : {M : Type 1} → statement M
-as-vector-spec = tie.close (tie.spec (λ c κs. search rules) returns returns-2)
+pub as_vector_spec : {M : Type 1} → statement M
+as_vector_spec = tie.close (tie.spec (λ c κs. search rules) returns returns-2)

@@ -5,32 +5,32 @@ use Rattle.masks.proofs.Actions.{expand-block, noted-opens, noted-keeps, noted-b
 use Rattle.masks.proofs.block.Statement.{statement}
 use Rattle.masks.proofs.block.Tie as tie
 
-abbrev start : tie.Then1 → tie.Start
+abbrev start : tie.Then-noted → tie.Start
 start c = c.before.before
 
-opened-rows-requires : tie.Need-opened-rows-requires
+opened-rows-requires : tie.Need-opened_rows-requires
 opened-rows-requires c κs =
     let e = c.before in
     let pre = (start e.before).requires in
-    (pre.0, noted-opens pre.1.0 (ap action_of e.if2.true) refl (pre.1.1 e.before.if1.true))
+    (pre.0, noted-opens pre.1.0 (ap action_of e.if-expands.true) refl (pre.1.1 e.if-noted.true))
 
-kept-rows-requires : tie.Need-kept-rows-requires
+kept-rows-requires : tie.Need-kept_rows-requires
 kept-rows-requires c κs =
     let e = c.before in
     let pre = (start e.before).requires in
-    (pre.0, noted-keeps pre.1.0 (ap action_of e.if2.false) (pre.1.1 e.before.if1.true))
+    (pre.0, noted-keeps pre.1.0 (ap action_of e.if-expands.false) (pre.1.1 e.if-noted.true))
 
-returns : tie.Need-returns
+returns : tie.Need-returns-then-expands
 returns c =
     let e = c.before.before.before in
     let st = start e.before in
-    c.before.opened_rows.ensures ∙ expand-block st.pre.1.0 (ap action_of e.if2.true) st.args.r.now refl
+    c.opened_rows.ensures ∙ expand-block st.requires.1.0 (ap action_of e.if-expands.true) st.args.r.now refl
 
-returns-2 : tie.Need-returns-2
+returns-2 : tie.Need-returns-else-expands
 returns-2 c =
     let e = c.before.before.before in
     let st = start e.before in
-    c.before.kept-rows.ensures ∙ noted-block st.pre.1.0 (ap action_of e.if2.false) (st.pre.1.1 e.before.if1.true) st.args.r.now
+    c.kept_rows.ensures ∙ noted-block st.requires.1.0 (ap action_of e.if-expands.false) (st.requires.1.1 e.if-noted.true) st.args.r.now
 
 pub block_spec : {M : Type 1} → statement M
 block_spec =
@@ -38,10 +38,10 @@ block_spec =
     (tie.spec
     opened-rows-requires
     kept-rows-requires
-    (λ c κs. let pre = c.before.before.before.requires in (pre.0, pre.1.0))
+    (λ c κs. let pre = c.requires in (pre.0, pre.1.0))
     (λ c. search rules)
     returns
     (λ c. search rules)
     returns-2
     (λ c. search rules)
-    (λ c. c.before.masked-block.ensures))
+    (λ c. c.masked_block.ensures))

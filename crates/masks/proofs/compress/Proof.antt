@@ -6,7 +6,7 @@ use Rattle.masks.proofs.compress.Tie as tie
 returns : tie.Need-returns
 returns c =
     let st = c.before.before.before in
-    rw (read32 _ st.ranges.g, read32 _ st.ranges.k) at c.before.masked.ensures
+    rw (read32 _ st.ranges.g, read32 _ st.ranges.k) at c.masked.ensures
 
-pub compress-spec : {M : Type 1} → statement M
-compress-spec = tie.close (tie.spec (λ c κs. search rules) (λ c. search rules) returns)
+pub compress_spec : {M : Type 1} → statement M
+compress_spec = tie.close (tie.spec (λ c κs. search rules) (λ c. search rules) returns)

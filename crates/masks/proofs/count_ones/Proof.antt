@@ -8,36 +8,36 @@ use Rattle.masks.proofs.Ones.{test-one, test-other, before, before-none, before-
 use Rattle.masks.proofs.count_ones.Statement.{statement}
 use Rattle.masks.proofs.count_ones.Tie as tie
 
-abbrev invariant-loop : tie.invariant-loop
+abbrev invariant-loop : tie.invariant-loop-i
 invariant-loop l n₀ i₀ n i = (i ≤ length l) × (n ≡ before i l)
 
-abbrev decreases-loop : tie.decreases-loop
+abbrev decreases-loop : tie.decreases-loop-i
 decreases-loop l n₀ i₀ n i = length l - i
 
-loop-holds : tie.Need-loop-init invariant-loop decreases-loop
+loop-holds : tie.Need-loop-i-init invariant-loop decreases-loop
 loop-holds c = (omega arith, before-none c.args.l.now)
 
-add-n : tie.Need-overflow-add-n invariant-loop decreases-loop
-add-n c = let lp = c.before.before.before in omega (arith, before-le lp.before.args.l.now lp.loop.i)
+add-n : tie.Need-overflow_add-n invariant-loop decreases-loop
+add-n c = let lp = c.before.before.before in omega (arith, before-le lp.args.l.now lp.loop-i.i)
 
-loop-again : tie.Need-loop-preserved invariant-loop decreases-loop
+loop-again : tie.Need-loop-i-preserved invariant-loop decreases-loop
 loop-again c =
     let at = c.before.before.before in
-    let lp = at.loop in
-    let l = at.before.args.l.now in
-    let fits = sfits_of c.before.if12.given in (
+    let lp = at.loop-i in
+    let l = at.args.l.now in
+    let fits = sfits_of c.t7-1.given in (
       omega arith,
       ⊎_elim
-          (λ w. omega (arith, w.1, before-one l lp.i (omega arith) (test-one _ fits w.0.taken)))
-          (λ w. omega (arith, w.1, before-other l lp.i (omega arith) (test-other _ fits w.0.left)))
-          c.if1.branch,
+          (λ w. omega (arith, w.1, before-one l lp.i (omega arith) (test-one _ fits w.0.true)))
+          (λ w. omega (arith, w.1, before-other l lp.i (omega arith) (test-other _ fits w.0.false)))
+          c.if-l-i-eq1.branch-raw,
     )
 
 returns : tie.Need-returns invariant-loop decreases-loop
-returns c = c.before.loop.invariant.1 ∙ before-all c.before.before.args.l.now c.before.loop.i (omega arith)
+returns c = c.loop-i.invariant.1 ∙ before-all c.args.l.now c.loop-i.i (omega arith)
 
-pub count-ones-spec : {M : Type 1} → statement M
-count-ones-spec =
+pub count_ones_spec : {M : Type 1} → statement M
+count_ones_spec =
     tie.close
     (tie.spec
     invariant-loop

@@ -11,36 +11,36 @@ use Rattle.masks.proofs.mask_fits.Statement.{statement}
 use Rattle.masks.proofs.mask_fits.Tie as tie
 
 -- The first two tests where it compresses.
-abbrev kept : tie.Joined1 → tie.Start
-kept c = c.before.before.before
+abbrev kept : tie.Joined-l-eq1 → tie.Start
+kept c = c.before.before
 
-either : (c : tie.Joined1) → let a = (kept c).args in c.if1.if2 ≡ (eqb (length a.l.now) 1 || eqb a.n 1)
+either : (c : tie.Joined-l-eq1) → let a = (kept c).args in c.if-l-eq1.if2 ≡ (eqb (length a.l.now) 1 || eqb a.n 1)
 either c =
     let n = length (kept c).args.l.now in
-    ⊎_elim (λ w. w.1 ∙ rw (eq-eqb n 1 w.0.taken)) (λ w. w.1 ∙ rw (ne_eqb n 1 w.0.left)) c.if1.branch
+    ⊎_elim (λ w. w.1 ∙ rw (eq-eqb n 1 w.0.true)) (λ w. w.1 ∙ rw (ne_eqb n 1 w.0.false)) c.if-l-eq1.branch-raw
 
-returns : tie.Need-returns
+returns : tie.Need-returns-then-n-eq1
 unfolding mask_fits
-returns c = rw c.before.before.enum_told.given.1 (c.if2.true ∙ sym (or_left _ _ (sym (either c.before) ∙ c.if2.true)))
+returns c = rw c.in-Compress.is (c.if-n-eq1.true ∙ sym (or_left _ _ (sym (either c.before) ∙ c.if-n-eq1.true)))
 
-returns-2 : tie.Need-returns-2
+returns-2 : tie.Need-returns-else-n-eq1
 unfolding mask_fits
 returns-2 c =
     let a = (kept c.before).args in
-    rw c.before.before.enum_told.given.1 (sym (ap (λ x. x || eqb (length a.l.now) a.n) (sym (either c.before) ∙ c.if2.false)))
+    rw c.in-Compress.is (sym (ap (λ x. x || eqb (length a.l.now) a.n) (sym (either c.before) ∙ c.if-n-eq1.false)))
 
-returns-3 : tie.Need-returns-3
+returns-3 : tie.Need-returns-then-repeated
 unfolding mask_fits
-returns-3 c = rw c.before.enum-told2.given.1 (c.if3.true ∙ sym (or_left _ _ c.if3.true))
+returns-3 c = rw c.in-Expand.is (c.if-repeated.true ∙ sym (or_left _ _ c.if-repeated.true))
 
-returns-4 : tie.Need-returns-4
+returns-4 : tie.Need-returns-else-repeated
 unfolding mask_fits
 returns-4 c =
     let e = c.before in
-    rw (e.before.enum-told2.given.1, e.if3.false) (ap (λ x. eqb x e.before.before.before.args.n) c.count_ones.ensures)
+    rw (e.in-Expand.is, e.if-repeated.false) (ap (λ x. eqb x e.args.n) c.count_ones.ensures)
 
-pub mask-fits-spec : {M : Type 1} → statement M
-mask-fits-spec =
+pub mask_fits_spec : {M : Type 1} → statement M
+mask_fits_spec =
     tie.close
     (tie.spec
     (λ c. search rules)

@@ -17,73 +17,73 @@ long : (st : tie.Start) → length st.args.s.lens ≡ max_rank
 long st = search rules
 
 -- R is repeated.
-shared-slice-copy-out-spread : tie.Need-shared-slice-copy-out-spread
-shared-slice-copy-out-spread c = let st = c.before in scalar-first (rw c.if1.true at st.requires) (long st)
+shared-slice-copy-out-spread : tie.Need-bounds-r-0
+shared-slice-copy-out-spread c = let st = c.before in scalar-first (rw c.if-repeated.true at st.requires) (long st)
 
 spread-requires : tie.Need-spread-requires
-spread-requires c κs = let t = c.before.before in scalar-room (rw t.if1.true at t.before.requires) (long t.before)
+spread-requires c κs = let t = c.before.before in scalar-room (rw t.if-repeated.true at t.requires) (long t.before)
 
-returns : tie.Need-returns
+returns : tie.Need-returns-then-repeated
 returns c =
     let g = c.before.before.before in
     let t = g.before in
     let st = t.before in
-    rw t.if1.true
-    (scalar-out (rw t.if1.true at st.requires) (long st) st.args.out.now _ _
-    (read32 (get_or st.args.r.now 0 (pos 0)) (sfits_of g.spread-arg.given))
-    c.before.spread.ensures)
+    rw t.if-repeated.true
+    (scalar-out (rw t.if-repeated.true at st.requires) (long st) st.args.out.now _ _
+    (read32 (get_or st.args.r.now 0 (pos 0)) (sfits_of g.spread-arg-1.given))
+    c.spread.ensures)
 
 -- R is not.
-plain : (c : tie.Else1)
-    → let a = c.before.args in
+plain : (c : tie.Else-repeated)
+    → let a = c.args in
     Masked a.action false a.l.now a.s a.axis a.m a.total a.r.now (length a.out.now)
-plain c = rw c.if1.false at c.before.requires
+plain c = rw c.if-repeated.false at c.requires
 
-returns-2 : tie.Need-returns-2
-returns-2 c = rw c.before.if1.false (lined-none (plain c.before) c.if2.true c.before.before.args.out.now)
+returns-2 : tie.Need-returns-then-total-eq0
+returns-2 c = rw c.if-repeated.false (lined-none (plain c.before) c.if-total-eq0.true c.args.out.now)
 
-abbrev lines : tie.After-around → tie.Else1
+abbrev lines : tie.After-around-a → tie.Else-repeated
 lines c = c.before.before
 
-abbrev start : tie.After-around → tie.Start
+abbrev start : tie.After-around-a → tie.Start
 start c = (lines c).before
 
-part-copy-run-end : tie.Need-slice-bounds-copy-run-end
+part-copy-run-end : tie.Need-slice_bounds-copy_run-end
 part-copy-run-end c =
     let v = c.before.before in
-    omega (arith, lined-inside (plain (lines v)) (long (start v)) (omega arith) _ v.around.ensures c.if3.true)
+    omega (arith, lined-inside (plain (lines v)) (long (start v)) (omega arith) _ v.around-a.ensures c.if-m-a.true)
 
-returns-3 : tie.Need-returns-3
+returns-3 : tie.Need-returns-then-m-a
 returns-3 c =
     let p = c.before.before in
     let t = p.before.before in
     let v = t.before.before in
-    rw (lines v).if1.false
-    (lined-same (plain (lines v)) (long (start v)) (omega arith) _ v.around.ensures t.if3.true (start v).args.out.now _ refl
-    c.before.copy_run.ensures)
+    rw (lines v).if-repeated.false
+    (lined-same (plain (lines v)) (long (start v)) (omega arith) _ v.around-a.ensures t.if-m-a.true (start v).args.out.now _ refl
+    c.copy_run.ensures)
 
 -- By blocks.
-abbrev found : tie.After-expands → tie.After-around
+abbrev found : tie.After-expands → tie.After-around-a
 found c = c.before.before.before
 
-in-blocks-requires : tie.Need-in-blocks-requires
+in-blocks-requires : tie.Need-in_blocks-requires
 in-blocks-requires c κs =
     let e = c.before in
     let v = found e in
-    blocks-by e.expands.ensures refl (lined-blocks (plain (lines v)) (long (start v)) (omega arith) _ v.around.ensures e.before.if3.false)
+    blocks-by e.expands.ensures refl (lined-blocks (plain (lines v)) (long (start v)) (omega arith) _ v.around-a.ensures e.if-m-a.false)
 
-returns-4 : tie.Need-returns-4
+returns-4 : tie.Need-returns
 returns-4 c =
     let e = c.before.before.before in
     let v = found e in
     let a = (start v).args in
-    rw (lines v).if1.left
-    (c.before.in_blocks.ensures
+    rw (lines v).if-repeated.false
+    (c.in_blocks.ensures
     ∙ placed_by e.expands.ensures refl a.l.now a.r.now _ _ _ a.out.now
-    ∙ lined-all (plain (lines v)) (long (start v)) (omega arith) _ v.around.ensures e.before.if3.false a.out.now)
+    ∙ lined-all (plain (lines v)) (long (start v)) (omega arith) _ v.around-a.ensures e.if-m-a.false a.out.now)
 
-pub mask-into-spec : {M : Type 1} → statement M
-mask-into-spec =
+pub mask_into_spec : {M : Type 1} → statement M
+mask_into_spec =
     tie.close
     (tie.spec
     shared-slice-copy-out-spread

@@ -41,58 +41,58 @@ asks st read b =
 abbrev start : tie.After-position → tie.Start
 start c = c.before.before.before.before
 
-found : (c : tie.After-position) → c.position.result ≡ found_of (start c).args.k (start c).args.g c.before.as-vector.result.rank
+found : (c : tie.After-position) → c.position.result ≡ found_of (start c).args.k (start c).args.g c.as_vector-s.result.rank
 found c = c.position.ensures ∙ read_found _ _ (start c).ranges.k (start c).ranges.g _
 
-returns : tie.Need-returns
+returns : tie.Need-returns-then-ls-gt1
 returns c b =
     let st = c.before.before in
     sym (asks st refl b ∙ rw (list-no (good st) (omega arith)))
 
-returns-2 : tie.Need-returns-2
+returns-2 : tie.Need-returns-in_default
 returns-2 c b =
-    let p = c.before.before in
+    let p = c.before in
     let st = start p in
-    let w = found_none st.args.k st.args.g _ (sym c.enum_told.given.1 ∙ found p) in
-    sym (asks st p.before.as-vector.ensures b ∙ rw (list-yes (good st) (omega arith), w))
+    let w = found_none st.args.k st.args.g _ (sym c.in_default.is ∙ found p) in
+    sym (asks st p.as_vector-s.ensures b ∙ rw (list-yes (good st) (omega arith), w))
 
 -- The axis that was found, its length, and the mask.
-abbrev searched : tie.After-known-told → tie.After-position
-searched c = c.before.before.before
+abbrev searched : tie.In-At → tie.After-position
+searched c = c.before
 
-axis-is : (c : tie.After-known-told)
-    → let p = searched c in IsAt (start p).args.k (start p).args.g p.before.as-vector.result.rank c.before.axis.given.0.0
-axis-is c = found_at _ _ _ _ (sym c.before.axis.given.1 ∙ found (searched c))
+axis-is : (c : tie.In-At)
+    → let p = searched c in IsAt (start p).args.k (start p).args.g p.as_vector-s.result.rank c.in-At.axis
+axis-is c = found_at _ _ _ _ (sym c.in-At.is ∙ found (searched c))
 
-high : (c : tie.After-position) → c.before.as-vector.result.rank ≤ max_rank
-high c = good-rank _ (read-good (start c).args.rs c.before.as-vector.ensures (start c).requires.1)
+high : (c : tie.After-position) → c.as_vector-s.result.rank ≤ max_rank
+high c = good-rank _ (read-good (start c).args.rs c.as_vector-s.ensures (start c).requires.1)
 
-inside : (c : tie.After-count) → c.count.result ≤ length (start (searched c.before)).args.l.now
-inside c = let g = good (start (searched c.before)) in omega (arith, g.room, g.count-is, c.count.ensures)
+inside : (c : tie.After-count-c) → c.count-c.result ≤ length (start (searched c.before)).args.l.now
+inside c = let g = good (start (searched c.before)) in omega (arith, g.room, g.count-is, c.count-c.ensures)
 
-abbrev counted-at : tie.After-mask-test-arg → tie.After-count
+abbrev counted-at : tie.After-mask_test-arg-1 → tie.After-count-c
 counted-at c = c.before.before
 
-abbrev named : tie.After-mask-test-arg → tie.After-known-told
+abbrev named : tie.After-mask_test-arg-1 → tie.In-At
 named c = (counted-at c).before
 
-returns-3 : tie.Need-returns-3
+returns-3 : tie.Need-returns
 returns-3 c b =
     let t = c.before.before in
     let p = searched (named t) in
     let st = start p in
     let a = st.args in
-    let s = p.before.as-vector.result in
+    let s = p.as_vector-s.result in
     let i = axis-is (named t) in
-    let mask = lent-part a.ls a.l.now (good st) _ (counted-at t).count.ensures in
-    let n : get_or s.lens (named t).before.axis.given.0.0 0 ≡ get_or (counted s) (from_zero a.g a.k) 0 =
+    let mask = lent-part a.ls a.l.now (good st) _ (counted-at t).count-c.ensures in
+    let n : get_or s.lens (named t).in-At.axis 0 ≡ get_or (counted s) (from_zero a.g a.k) 0 =
     sym (get_or-take s.rank s.lens _ 0 i.below) ∙ ap (λ x. get_or (counted s) x 0) i.is in
-    (rw t.before.repeats.ensures at c.mask-test.ensures)
+    (rw t.repeats.ensures at c.mask_test.ensures)
     ∙ ap₂ (λ l n. own (action_number a.action) (mask_rules a.action (repeats a.action a.rs.rank) l n)) mask n
-    ∙ sym (asks st p.before.as-vector.ensures b ∙ rw (list-yes (good st) (omega arith), i.inside))
+    ∙ sym (asks st p.as_vector-s.ensures b ∙ rw (list-yes (good st) (omega arith), i.inside))
 
-pub mask-refusal-spec : {M : Type 1} → statement M
-mask-refusal-spec =
+pub mask_refusal_spec : {M : Type 1} → statement M
+mask_refusal_spec =
     tie.close
     (tie.spec
     returns

@@ -16,39 +16,39 @@ use Rattle.masks.proofs.mask_test.Tie as tie
 abbrev by : Action → Bool → Bool → ℕ
 by x f d = own (action_number x) (LENGTH unless f ∷ DOMAIN unless d ∷ [])
 
-told : (c : tie.After-all-bits) {x : Action} {f d : Bool} → c.before.before.args.action ≡ x → c.before.mask-fits.result ≡ f → c.all-bits.result ≡ d
-    → let a = c.before.before.args in
+told : (c : tie.After-all_bits-bits) {x : Action} {f d : Bool} → c.args.action ≡ x → c.mask_fits-fits.result ≡ f → c.all_bits-bits.result ≡ d
+    → let a = c.args in
     by x f d ≡ own (action_number a.action) (mask_rules a.action a.repeated a.l.now a.n)
 told c {f = f} {d = d} x p q =
-    let a = c.before.before.args in
-    ap (λ (y : Action). by y f d) (sym x) ∙ ap₂ (by a.action) (sym p ∙ c.before.mask-fits.ensures) (sym q ∙ c.all-bits.ensures)
+    let a = c.args in
+    ap (λ (y : Action). by y f d) (sym x) ∙ ap₂ (by a.action) (sym p ∙ c.mask_fits-fits.ensures) (sym q ∙ c.all_bits-bits.ensures)
 
-returns : tie.Need-returns
+returns : tie.Need-returns-then-not-fits
 unfolding precedence winner meets
-returns c = let e = c.before in told e.before.before e.enum_told.given.1 (not-true _ c.if1.true) refl
+returns c = let e = c.before in told e.before e.in-Compress.is (not-true _ c.if-not-fits.true) refl
 
-returns-2 : tie.Need-returns-2
+returns-2 : tie.Need-returns-then-not-bits
 unfolding precedence winner meets
-returns-2 c = let e = c.before in told e.before.before e.enum-told2.given.1 refl (not-true _ c.if3.true)
+returns-2 c = let e = c.before in told e.before e.in-Expand.is refl (not-true _ c.if-not-bits.true)
 
-returns-3 : tie.Need-returns-3
+returns-3 : tie.Need-returns-then-bits
 unfolding precedence winner meets
-returns-3 c = let e = c.before.before in told e.before.before e.enum_told.given.1 (not-false _ c.before.if1.false) c.if2.true
+returns-3 c = let e = c.before.before in told e.before e.in-Compress.is (not-false _ c.if-not-fits.false) c.if-bits.true
 
-returns-4 : tie.Need-returns-4
+returns-4 : tie.Need-returns-else-bits
 unfolding precedence winner meets
-returns-4 c = let e = c.before.before in told e.before.before e.enum_told.given.1 (not-false _ c.before.if1.false) c.if2.false
+returns-4 c = let e = c.before.before in told e.before e.in-Compress.is (not-false _ c.if-not-fits.false) c.if-bits.false
 
-returns-5 : tie.Need-returns-5
+returns-5 : tie.Need-returns-then-fits
 unfolding precedence winner meets
-returns-5 c = let e = c.before.before in told e.before.before e.enum-told2.given.1 c.if4.true (not-false _ c.before.if3.false)
+returns-5 c = let e = c.before.before in told e.before e.in-Expand.is c.if-fits.true (not-false _ c.if-not-bits.false)
 
-returns-6 : tie.Need-returns-6
+returns-6 : tie.Need-returns-else-fits
 unfolding precedence winner meets
-returns-6 c = let e = c.before.before in told e.before.before e.enum-told2.given.1 c.if4.false (not-false _ c.before.if3.false)
+returns-6 c = let e = c.before.before in told e.before e.in-Expand.is c.if-fits.false (not-false _ c.if-not-bits.false)
 
-pub mask-test-spec : {M : Type 1} → statement M
-mask-test-spec =
+pub mask_test_spec : {M : Type 1} → statement M
+mask_test_spec =
     tie.close
     (tie.spec
     (λ c κs. search rules)

@@ -5,62 +5,62 @@ use Rattle.masks.proofs.Actions.{expand-ready, expand-block, repeat-source, repe
 use Rattle.masks.proofs.masked_block.Statement.{statement}
 use Rattle.masks.proofs.masked_block.Tie as tie
 
-expand-line-requires : tie.Need-expand-line-requires
-expand-line-requires c κs = let e = c.before in expand-ready e.before.before.requires.1 (ap action_of e.before.if1.true) e.if2.true
+expand-line-requires : tie.Need-expand_line-requires
+expand-line-requires c κs = let e = c.before in expand-ready e.requires.1 (ap action_of e.if-expands.true) e.if-inner-eq1.true
 
-expand-rows-requires : tie.Need-expand-rows-requires
-expand-rows-requires c κs = let e = c.before in expand-ready e.before.before.requires.1 (ap action_of e.before.if1.true) refl
+expand-rows-requires : tie.Need-expand_rows-requires
+expand-rows-requires c κs = let e = c.before in expand-ready e.requires.1 (ap action_of e.if-expands.true) refl
 
-returns : tie.Need-returns
+returns : tie.Need-returns-then-inner-eq1
 returns c =
     let e = c.before.before.before in
     let st = e.before.before in
-    c.before.expand-line.ensures ∙ expand-block st.requires.1 (ap action_of e.before.if1.true) st.args.r.now e.if2.true
+    c.expand_line.ensures ∙ expand-block st.requires.1 (ap action_of e.if-expands.true) st.args.r.now e.if-inner-eq1.true
 
-returns-2 : tie.Need-returns-2
+returns-2 : tie.Need-returns-else-inner-eq1
 returns-2 c =
     let e = c.before.before.before in
     let st = e.before.before in
-    c.before.expand-rows.ensures ∙ expand-block st.requires.1 (ap action_of e.before.if1.true) st.args.r.now refl
+    c.expand_rows.ensures ∙ expand-block st.requires.1 (ap action_of e.if-expands.true) st.args.r.now refl
 
-repeat-row-requires : tie.Need-repeat-row-requires
+repeat-row-requires : tie.Need-repeat_row-requires
 repeat-row-requires c κs =
     let e = c.before in
-    let pre = e.before.before.requires in
-    (pre.0, (repeat-source pre.1 (ap action_of e.before.if1.false) e.if3.true, pre.1.room))
+    let pre = e.requires in
+    (pre.0, (repeat-source pre.1 (ap action_of e.if-expands.false) e.if-n-eq1.true, pre.1.room))
 
-returns-3 : tie.Need-returns-3
+returns-3 : tie.Need-returns-then-n-eq1
 returns-3 c =
     let e = c.before.before.before in
     let st = e.before.before in
-    c.before.repeat-row.ensures ∙ repeat-block st.requires.1 (ap action_of e.before.if1.false) e.if3.true st.args.r.now
+    c.repeat_row.ensures ∙ repeat-block st.requires.1 (ap action_of e.if-expands.false) e.if-n-eq1.true st.args.r.now
 
-compress-line-requires : tie.Need-compress-line-requires
+compress-line-requires : tie.Need-compress_line-requires
 compress-line-requires c κs =
     let e = c.before.before in
-    compress-ready e.before.before.requires.1 (ap action_of e.before.if1.false) e.if3.false c.before.if4.true
+    compress-ready e.requires.1 (ap action_of e.if-expands.false) e.if-n-eq1.false c.if-inner-eq1-2.true
 
-compress-rows-requires : tie.Need-compress-rows-requires
+compress-rows-requires : tie.Need-compress_rows-requires
 compress-rows-requires c κs =
     let e = c.before.before in
-    compress-ready e.before.before.requires.1 (ap action_of e.before.if1.false) e.if3.false refl
+    compress-ready e.requires.1 (ap action_of e.if-expands.false) e.if-n-eq1.false refl
 
-returns-4 : tie.Need-returns-4
+returns-4 : tie.Need-returns-then-inner-eq1-2
 returns-4 c =
     let t = c.before.before.before in
     let e = t.before in
     let st = e.before.before in
-    c.before.compress-line.ensures ∙ compress-block st.requires.1 (ap action_of e.before.if1.false) e.if3.false st.args.r.now t.if4.true
+    c.compress_line.ensures ∙ compress-block st.requires.1 (ap action_of e.if-expands.false) e.if-n-eq1.false st.args.r.now t.if-inner-eq1-2.true
 
-returns-5 : tie.Need-returns-5
+returns-5 : tie.Need-returns-else-inner-eq1-2
 returns-5 c =
     let t = c.before.before.before in
     let e = t.before in
     let st = e.before.before in
-    c.before.compress-rows.ensures ∙ compress-block st.requires.1 (ap action_of e.before.if1.false) e.if3.false st.args.r.now refl
+    c.compress_rows.ensures ∙ compress-block st.requires.1 (ap action_of e.if-expands.false) e.if-n-eq1.false st.args.r.now refl
 
-pub masked-block-spec : {M : Type 1} → statement M
-masked-block-spec =
+pub masked_block_spec : {M : Type 1} → statement M
+masked_block_spec =
     tie.close
     (tie.spec
     expand-line-requires

@@ -3,16 +3,16 @@ use Rattle.masks.specs.Steps.Actions.{width, mask_of}
 use Rattle.masks.proofs.width_of.Statement.{statement}
 use Rattle.masks.proofs.width_of.Tie as tie
 
-returns : tie.Need-returns
+returns : tie.Need-returns-in-Compress
 unfolding width
-returns c = rw c.before.enum_told.given.1 c.kept-count.ensures
+returns c = rw c.in-Compress.is c.kept_count.ensures
 
-returns-2 : tie.Need-returns-2
+returns-2 : tie.Need-returns-in-Expand
 unfolding width mask_of
-returns-2 c = rw c.enum-told2.given.1
+returns-2 c = rw c.in-Expand.is
 
-pub width-of-spec : {M : Type 1} → statement M
-width-of-spec =
+pub width_of_spec : {M : Type 1} → statement M
+width_of_spec =
     tie.close
     (tie.spec
     (λ c. search rules)

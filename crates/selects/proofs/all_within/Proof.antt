@@ -14,10 +14,10 @@ use Rattle.meaning.proofs.Every.{every-next, every-stop, every-end}
 use Rattle.selects.proofs.all_within.Statement.{statement}
 use Rattle.selects.proofs.all_within.Tie as tie
 
-abbrev invariant-loop : tie.invariant-loop
+abbrev invariant-loop : tie.invariant-loop-i
 invariant-loop g l n i₀ i = (i ≤ length l) × (every (λ z. within (z -ℤ to_z w32 g) n) l ≡ every (λ z. within (z -ℤ to_z w32 g) n) (drop i l))
 
-abbrev decreases-loop : tie.decreases-loop
+abbrev decreases-loop : tie.decreases-loop-i
 decreases-loop g l n i₀ i = length l - i
 
 -- The origin as the loop holds it, and the test of an element.
@@ -27,42 +27,42 @@ origin st = to_z w32 (of_z w32 st.args.g)
 abbrev test : tie.Start invariant-loop decreases-loop → ℤ → Bool
 test st z = within (z -ℤ origin st) st.args.n
 
-abbrev looped : tie.After-position invariant-loop decreases-loop → tie.At-loop invariant-loop decreases-loop
+abbrev looped : tie.After-position invariant-loop decreases-loop → tie.At-loop-i invariant-loop decreases-loop
 looped c = c.before.before.before
 
-abbrev element : tie.At-loop invariant-loop decreases-loop → ℤ
-element c = get_or c.before.args.l.now c.loop.i (pos 0)
+abbrev element : tie.At-loop-i invariant-loop decreases-loop → ℤ
+element c = get_or c.args.l.now c.loop-i.i (pos 0)
 
 found : (c : tie.After-position invariant-loop decreases-loop)
     → let st = (looped c).before in c.position.result ≡ found_of (element (looped c)) (origin st) st.args.n
 found c =
     let st = (looped c).before in
-    c.position.ensures ∙ ap (λ z. found_of z (origin st) st.args.n) (read32 (element (looped c)) (sfits_of c.before.position-arg.given))
+    c.position.ensures ∙ ap (λ z. found_of z (origin st) st.args.n) (read32 (element (looped c)) (sfits_of c.position-arg-1.given))
 
 read : (st : tie.Start invariant-loop decreases-loop) → every (test st) st.args.l.now ≡ every (λ z. within (z -ℤ st.args.g) st.args.n) st.args.l.now
 read st = ap (λ G. every (λ z. within (z -ℤ G) st.args.n) st.args.l.now) (read32 _ st.ranges.g)
 
-returns : tie.Need-returns invariant-loop decreases-loop
+returns : tie.Need-returns-in_default invariant-loop decreases-loop
 returns c =
-    let p = c.before.before in
+    let p = c.before in
     let lp = looped p in
-    let w = found_none (element lp) (origin lp.before) _ (sym c.enum-told2.given.1 ∙ found p) in
-    sym (sym (read lp.before) ∙ lp.loop.inv.1 ∙ every-stop (test lp.before) _ lp.loop.i (pos 0) (omega arith) w)
+    let w = found_none (element lp) (origin lp.before) _ (sym c.in_default.is ∙ found p) in
+    sym (sym (read lp.before) ∙ lp.loop-i.invariant.1 ∙ every-stop (test lp.before) _ lp.loop-i.i (pos 0) (omega arith) w)
 
-loop-again : tie.Need-loop-preserved invariant-loop decreases-loop
+loop-again : tie.Need-loop-i-preserved invariant-loop decreases-loop
 loop-again c =
-    let p = c.before.before in
+    let p = c.before in
     let lp = looped p in
-    let w = found_at (element lp) (origin lp.before) _ _ (sym c.enum_told.given.1 ∙ found p) in
-    (omega arith, lp.loop.inv.1 ∙ every-next (test lp.before) _ lp.loop.i (pos 0) (omega arith) w.inside)
+    let w = found_at (element lp) (origin lp.before) _ _ (sym c.in-At.is ∙ found p) in
+    (omega arith, lp.loop-i.invariant.1 ∙ every-next (test lp.before) _ lp.loop-i.i (pos 0) (omega arith) w.inside)
 
-returns-2 : tie.Need-returns-2 invariant-loop decreases-loop
+returns-2 : tie.Need-returns invariant-loop decreases-loop
 returns-2 c =
     let lp = c.before in
-    sym (sym (read lp.before) ∙ lp.loop.invariant.1 ∙ every-end (test lp.before) _ lp.loop.i (omega arith))
+    sym (sym (read lp.before) ∙ lp.loop-i.invariant.1 ∙ every-end (test lp.before) _ lp.loop-i.i (omega arith))
 
-pub all-within-spec : {M : Type 1} → statement M
-all-within-spec =
+pub all_within_spec : {M : Type 1} → statement M
+all_within_spec =
     tie.close
     (tie.spec
     invariant-loop

@@ -6,8 +6,8 @@ use Rattle.selects.proofs.known_position.Tie as tie
 diff : (s : tie.Start) → Difference s.args.z s.args.g
 diff s = difference s.args.z s.args.g s.ranges.z s.ranges.g
 
-pub known-position-spec : {M : Type 1} → statement M
-known-position-spec =
+pub known_position_spec : {M : Type 1} → statement M
+known_position_spec =
     tie.close
     (tie.spec
     (λ c. fits-wide _ c.ranges.z)

@@ -32,55 +32,55 @@ abbrev means : tie.Start → Meaning
 means st = select st.args.g st.args.k (array_of (left st)) (array_of (right st))
 
 -- FORM and ORIGIN, and what is known where neither was met.
-early-is : (c : tie.After-early-two) → c.early-two.result ≡ early (good_form (left c.before) && good_form (right c.before)) c.before.args.g
-early-is c = c.early-two.ensures ∙ ap (early _) (read32 _ c.before.ranges.g)
+early-is : (c : tie.After-early_two-early) → c.early_two-early.result ≡ early (good_form (left c.before) && good_form (right c.before)) c.args.g
+early-is c = c.early_two-early.ensures ∙ ap (early _) (read32 _ c.ranges.g)
 
-fine : (c : tie.Else1) → let st = c.before.before in FineTwo st.args.g st.args.ls st.args.l.now st.args.rs st.args.r.now
+fine : (c : tie.Else-early-ne0) → let st = c.before.before in FineTwo st.args.g st.args.ls st.args.l.now st.args.rs st.args.r.now
 fine c =
     let st = c.before.before in
     let ll : length st.args.ls.lens ≡ max_rank = search rules in
     let rl : length st.args.rs.lens ≡ max_rank = search rules in
-    fine-two _ _ _ _ _ ll rl (sym (early-is c.before) ∙ c.if1.false)
+    fine-two _ _ _ _ _ ll rl (sym (early-is c.before) ∙ c.if-early-ne0.false)
 
 -- RANK, AXIS and INDEX, and what is known where none was met.
-abbrev begun : tie.After-select-refusal → tie.Start
+abbrev begun : tie.After-select_refusal-own → tie.Start
 begun c = c.before.before.before
 
-own_is : (c : tie.After-select-refusal) → c.select-refusal.result ≡ own 31 (means (begun c)).refusals
+own_is : (c : tie.After-select_refusal-own) → c.select_refusal-own.result ≡ own 31 (means (begun c)).refusals
 own_is c =
     let st = begun c in
-    c.select-refusal.ensures st.args.r.now
-    ∙ ap₂ (λ g k. own 31 (select g k (array_of (left st)) (array_of (right st))).refusals) (read32 _ st.fits.g) (read32 _ st.fits.k)
+    c.select_refusal-own.ensures st.args.r.now
+    ∙ ap₂ (λ g k. own 31 (select g k (array_of (left st)) (array_of (right st))).refusals) (read32 _ st.ranges.g) (read32 _ st.ranges.k)
 
-none : (c : tie.Else2) → own 31 (means (begun c.before)).refusals ≡ 0
-none c = sym (own_is c.before) ∙ c.if2.false
+none : (c : tie.Else-own-ne0) → own 31 (means (begun c.before)).refusals ≡ 0
+none c = sym (own_is c.before) ∙ c.if-own-ne0.false
 
-abbrev asked : tie.After-count → tie.Else2
+abbrev asked : tie.After-count-m → tie.Else-own-ne0
 asked c = c.before.before
 
-abbrev start : tie.After-count → tie.Start
+abbrev start : tie.After-count-m → tie.Start
 start c = begun (asked c).before
 
-known : (c : tie.After-count)
-    → let a = (start c).args in Selects a.g a.k a.ls a.l.now a.rs a.r.now c.before.from_zero.result c.count.result
+known : (c : tie.After-count-m)
+    → let a = (start c).args in Selects a.g a.k a.ls a.l.now a.rs a.r.now c.from_zero-axis.result c.count-m.result
 known c =
     let st = start c in
     let f = fine (asked c).before.before in
-    selects _ _ f.left f.right (c.before.from_zero.ensures ∙ read-from-zero _ _ st.fits.k st.fits.g) c.count.ensures (none (asked c))
+    selects _ _ f.left f.right (c.from_zero-axis.ensures ∙ read-from-zero _ _ st.ranges.k st.ranges.g) c.count-m.ensures (none (asked c))
 
 -- L's elements.
-abbrev chosen : tie.After-count → List ℤ
-chosen c = take (c.count.result - 0) (start c).args.l.now
+abbrev chosen : tie.After-count-m → List ℤ
+chosen c = take (c.count-m.result - 0) (start c).args.l.now
 
-chosen-are : (c : tie.After-count) → chosen c ≡ (array_of (left (start c))).elements
+chosen-are : (c : tie.After-count-m) → chosen c ≡ (array_of (left (start c))).elements
 chosen-are c = let k = known c in lent-part _ _ k.left _ k.count-is
 
 -- The result's shape, and that nothing is refused but LIMIT and SPACE.
-shape_is : (c : tie.After-selected) → c.selected.result ≡ shape_of (means (start c.before)).lengths
-shape_is c = c.selected.ensures ∙ ap shape_of (lengths-are (known c.before))
+shape_is : (c : tie.After-selected-shape) → c.selected-shape.result ≡ shape_of (means (start c.before)).lengths
+shape_is c = c.selected-shape.ensures ∙ ap shape_of (lengths-are (known c.before))
 
-ready : (c : tie.After-selected)
-    → let st = start c.before in Ready 31 2 st.args.g st.args.k (left st) (right st) (means st) c.selected.result
+ready : (c : tie.After-selected-shape)
+    → let st = start c.before in Ready 31 2 st.args.g st.args.k (left st) (right st) (means st) c.selected-shape.result
 ready c =
     let e = asked c.before in
     record {
@@ -91,56 +91,56 @@ ready c =
     }
 
 -- LIMIT and SPACE.
-abbrev made : tie.Else3 → tie.After-selected
+abbrev made : tie.Else-late-ne0 → tie.After-selected-shape
 made c = c.before.before.before
 
-roomy : (c : tie.Else3) → Roomy (made c).selected.result (length (start (made c).before).args.out.now)
-roomy c = late-fine _ c.before.late.ensures c.before.before.count2.ensures c.if3.false
+roomy : (c : tie.Else-late-ne0) → Roomy (made c).selected-shape.result (length (start (made c).before).args.out.now)
+roomy c = late-fine _ c.late-late.ensures c.count-count.ensures c.if-late-ne0.false
 
-total-is : (c : tie.Else3) → c.before.before.count2.result ≡ count (means (start (made c).before)).lengths
-total-is c = c.before.before.count2.ensures ∙ stands-count (ready (made c)).stands (roomy c).well-formed
+total-is : (c : tie.Else-late-ne0) → c.count-count.result ≡ count (means (start (made c).before)).lengths
+total-is c = c.count-count.ensures ∙ stands-count (ready (made c)).stands (roomy c).well-formed
 
-returns : tie.Need-returns
-returns c = early-replied (select-names _ _ _ _) _ (early-is c.before.before) c.before.if1.true c.refused.ensures
+returns : tie.Need-returns-then-early-ne0
+returns c = early-replied (select-names _ _ _ _) _ (early-is c.before.before) c.if-early-ne0.true c.refused.ensures
 
-returns-2 : tie.Need-returns-2
+returns-2 : tie.Need-returns-then-own-ne0
 returns-2 c =
     let o = c.before.before in
-    own-replied (select-names _ _ _ _) _ (fine o.before).none (own_is o) c.before.if2.true c.refused2.ensures
+    own-replied (select-names _ _ _ _) _ (fine o.before).none (own_is o) c.if-own-ne0.true c.refused-then-own-ne0.ensures
 
-returns-3 : tie.Need-returns-3
+returns-3 : tie.Need-returns-then-late-ne0
 returns-3 c =
     let l = c.before.before in
-    late-replied (ready l.before.before) _ l.late.ensures l.before.count2.ensures c.before.if3.true c.refused3.ensures
+    late-replied (ready l.before.before) _ l.late-late.ensures l.count-count.ensures c.if-late-ne0.true c.refused-then-late-ne0.ensures
 
-part-select-into-end : tie.Need-slice-bounds-select-into-end
+part-select-into-end : tie.Need-slice_bounds-select_into-end
 part-select-into-end c = let k = known (made c).before in omega (arith, k.count-is, k.left.count-is, k.left.room)
 
-select-into-requires : tie.Need-select-into-requires
+select-into-requires : tie.Need-select_into-requires
 select-into-requires c κs =
     let e = c.before.before in
     let n = (made e).before in
     let r = roomy e in
-    let t = e.before.before.count2.ensures in
-    rw (read32 _ (start n).fits.g) (chooses (known n) (chosen-are n) (total-is e) (omega (arith, r.small)) (omega (arith, r.space)))
+    let t = e.count-count.ensures in
+    rw (read32 _ (start n).ranges.g) (chooses (known n) (chosen-are n) (total-is e) (omega (arith, r.small)) (omega (arith, r.space)))
 
-returns-4 : tie.Need-returns-4
+returns-4 : tie.Need-returns
 returns-4 c =
     let s = c.before.before in
     let e = s.before.before.before in
     let l = e.before in
     let n = (made e).before in
     let a = (start n).args in
-    given-replied (ready (made e)) _ l.late.ensures l.before.count2.ensures e.if3.false
+    given-replied (ready (made e)) _ l.late-late.ensures l.count-count.ensures e.if-late-ne0.false
     (c.given.ensures ∙ ap accepted (shape_is (made e)))
-    (s.select-into.ensures
-    ∙ ap (λ G. (build (set (counted a.rs) n.before.from_zero.result (length (chosen n)))
-    (along (array_of (right (start n))) n.before.from_zero.result (position_at G (chosen n)))).elements ++ drop l.before.count2.result a.out.now)
-    (read32 _ (start n).fits.g)
+    (s.select_into.ensures
+    ∙ ap (λ G. (build (set (counted a.rs) n.from_zero-axis.result (length (chosen n)))
+    (along (array_of (right (start n))) n.from_zero-axis.result (position_at G (chosen n)))).elements ++ drop l.count-count.result a.out.now)
+    (read32 _ (start n).ranges.g)
     ∙ select-out (known n) (chosen-are n) (total-is e) a.out.now)
 
-pub select-spec : {M : Type 1} → statement M
-select-spec =
+pub select_spec : {M : Type 1} → statement M
+select_spec =
     tie.close
     (tie.spec
     (λ c κs. search rules)

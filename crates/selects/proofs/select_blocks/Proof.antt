@@ -18,10 +18,10 @@ use Rattle.selects.specs.Steps.{position_at, Positions, blocks_at}
 use Rattle.selects.proofs.select_blocks.Statement.{statement}
 use Rattle.selects.proofs.select_blocks.Tie as tie
 
-abbrev invariant-loop : tie.invariant-loop
+abbrev invariant-loop : tie.invariant-loop-o
 invariant-loop g l n inner outer r out₀ taken made at₀ o₀ out at o = Blockwise outer (length l * inner) (blocks_at (to_z w32 g) l n inner r) out₀ out at o
 
-abbrev decreases-loop : tie.decreases-loop
+abbrev decreases-loop : tie.decreases-loop-o
 decreases-loop g l n inner outer r out₀ taken made at₀ o₀ out at o = outer - o
 
 -- The origin as the loop holds it, and the positions.
@@ -31,49 +31,49 @@ origin st = to_z w32 (of_z w32 st.args.g)
 positions : (st : tie.Start invariant-loop decreases-loop) → Positions (origin st) st.args.l.now st.args.n
 positions st = rw (read32 _ st.ranges.g) st.requires.positions
 
-abbrev start : tie.In-loop invariant-loop decreases-loop → tie.Start invariant-loop decreases-loop
+abbrev start : tie.In-loop-o invariant-loop decreases-loop → tie.Start invariant-loop decreases-loop
 start c = c.before.before
 
 -- The block that is read and the block that is written lie within both.
-room : (c : tie.In-loop invariant-loop decreases-loop)
+room : (c : tie.In-loop-o invariant-loop decreases-loop)
     → let a = (start c).args in
-    let lp = c.before.loop in
+    let lp = c.loop-o in
     (lp.o * (a.n * a.inner) + a.n * a.inner ≤ length a.r.now) × (lp.at + length a.l.now * a.inner ≤ length lp.out)
 room c =
     let st = start c in
-    let b = c.before.loop.invariant in (
-      omega (arith, row_fits c.before.loop.o st.args.outer (st.args.n * st.args.inner) (omega arith), st.pre.source),
-      rw b.long (blockwise-room b _ (omega arith) st.pre.space),
+    let b = c.loop-o.invariant in (
+      omega (arith, row_fits c.loop-o.o st.args.outer (st.args.n * st.args.inner) (omega arith), st.requires.source),
+      rw b.long (blockwise-room b _ (omega arith) st.requires.space),
     )
 
-select-block-requires : tie.Need-select-block-requires invariant-loop decreases-loop
+select-block-requires : tie.Need-select_block-requires invariant-loop decreases-loop
 select-block-requires c κs =
     let f = c.before.before in
     let st = start f in
-    let lp = f.before.loop in
+    let lp = f.loop-o in
     let x = part-long st.args.r.now (lp.o * (st.args.n * st.args.inner)) (st.args.n * st.args.inner) (room f).0 in
     let y = part-long lp.out lp.at (length st.args.l.now * st.args.inner) (room f).1 in
     record { positions = positions st; source = omega arith; space = omega arith }
 
-abbrev looped : tie.After-select-block invariant-loop decreases-loop → tie.In-loop invariant-loop decreases-loop
+abbrev looped : tie.After-select_block invariant-loop decreases-loop → tie.In-loop-o invariant-loop decreases-loop
 looped c = c.before.before.before
 
-loop-again : tie.Need-loop-preserved invariant-loop decreases-loop
+loop-again : tie.Need-loop-o-preserved invariant-loop decreases-loop
 loop-again c =
     let f = looped c.before in
     let st = start f in
     let a = st.args in
-    let lp = f.before.loop in
+    let lp = f.loop-o in
     let m = length a.l.now in
     let long = part-long lp.out lp.at (m * a.inner) (room f).1 in
-    blockwise-next lp.inv c.before.select-block.new.1.1.1.1.1.0 (omega arith) c.before.select-block.auto.1.1.1.1.1.0
+    blockwise-next lp.inv c.select_block.new.out (omega arith) c.select_block.auto.out
     (put-block (λ i. true) (position_at (origin st) a.l.now) a.n m a.inner a.r.now lp.o
     (λ i h w. within-lt (get_or a.l.now i (pos 0) -ℤ origin st) a.n ((positions st).inside i h))
     lp.out a.out.now _ (lp.o * (a.n * a.inner)) lp.at lp.inv.done lp.inv.at-is refl
-    (c.before.select-block.ensures ∙ filled-whole _ (m * a.inner) _ (omega arith)))
+    (c.select_block.ensures ∙ filled-whole _ (m * a.inner) _ (omega arith)))
 
-pub select-blocks-spec : {M : Type 1} → statement M
-select-blocks-spec =
+pub select_blocks_spec : {M : Type 1} → statement M
+select_blocks_spec =
     tie.close
     (tie.spec
     invariant-loop
@@ -97,4 +97,4 @@ select-blocks-spec =
     (λ c. search rules)
     loop-again
     (λ c. search rules)
-    (λ c. rw (read32 _ c.before.before.ranges.g) at (blockwise-all c.before.loop.invariant (omega arith))))
+    (λ c. rw (read32 _ c.ranges.g) at (blockwise-all c.loop-o.invariant (omega arith))))

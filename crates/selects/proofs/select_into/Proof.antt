@@ -25,16 +25,16 @@ good st =
     let long : length st.args.rs.lens ≡ max_rank = search rules in
     lent-good _ _ long st.requires.form
 
-returns : tie.Need-returns
-returns c = let st = c.before in none_made _ _ st.args.total st.args.out.now (sym st.requires.count-is ∙ c.if1.true) c.if1.true
+returns : tie.Need-returns-then-total-eq0
+returns c = let st = c.before in none_made _ _ st.args.total st.args.out.now (sym st.requires.count-is ∙ c.if-total-eq0.true) c.if-total-eq0.true
 
 -- What is asked of the blocks, and what they leave, whatever holds their number.
-abbrev start : tie.After-around → tie.Start
+abbrev start : tie.After-around-a → tie.Start
 start w = w.before.before
 
-module _ (w : tie.After-around) (outer : ℕ) (e : w.around.result.outer ≡ outer) where
+module _ (w : tie.After-around-a) (outer : ℕ) (e : w.around-a.result.outer ≡ outer) where
   abbrev a : Around
-  a = w.around.result
+  a = w.around-a.result
 
   abbrev l : List ℤ
   l = (start w).args.l.now
@@ -51,7 +51,7 @@ module _ (w : tie.After-around) (outer : ℕ) (e : w.around.result.outer ≡ out
   asked : BlocksFit origin l a.length a.inner outer (length r) (length out)
   asked =
       let st = start w in
-      rw (read32 _ st.fits.g, ← e) (into-fits st.pre (good st) w.before.if1.left w.around.ensures)
+      rw (read32 _ st.ranges.g, ← e) (into-fits st.requires (good st) w.before.if-total-eq0.false w.around-a.ensures)
 
   left : (last : List ℤ) → last ≡ filled (blocks_at origin l a.length a.inner r) (outer * (length l * a.inner)) out
       → last ≡ (build (set (counted (start w).args.rs) (start w).args.axis (length l))
@@ -60,18 +60,18 @@ module _ (w : tie.After-around) (outer : ℕ) (e : w.around.result.outer ≡ out
   left last q =
       let st = start w in
       q
-      ∙ ap₂ (λ G n. filled (blocks_at G l a.length a.inner r) (n * (length l * a.inner)) out) (read32 _ st.fits.g) (sym e)
-      ∙ into-out st.pre (good st) w.before.if1.left w.around.ensures out
+      ∙ ap₂ (λ G n. filled (blocks_at G l a.length a.inner r) (n * (length l * a.inner)) out) (read32 _ st.ranges.g) (sym e)
+      ∙ into-out st.requires (good st) w.before.if-total-eq0.false w.around-a.ensures out
 
-pub select-into-spec : {M : Type 1} → statement M
-select-into-spec =
+pub select_into_spec : {M : Type 1} → statement M
+select_into_spec =
     tie.close
     (tie.spec
     returns
     (λ c κs. search rules)
-    (λ c κs. asked c.before.before.before 1 c.before.if2.true)
+    (λ c κs. asked c.before.before.before 1 c.if-a-eq1.true)
     (λ c κs. asked c.before.before.before _ refl)
     (λ c. search rules)
-    (λ c. left c.before.before.before.before.before 1 c.before.before.before.if2.true _ c.before.select-blocks.ensures)
+    (λ c. left c.before.before.before.before.before 1 c.if-a-eq1.true _ c.select_blocks.ensures)
     (λ c. search rules)
-    (λ c. left c.before.before.before.before.before _ refl _ c.before.select-blocks2.ensures))
+    (λ c. left c.before.before.before.before.before _ refl _ c.select_blocks-else-a-eq1.ensures))

@@ -27,80 +27,80 @@ abbrev left : tie.Start → Operand
 left st = lent st.args.ls st.args.l.now
 
 abbrev right : tie.Start → List ℤ → Operand
-right st b = lent st.args.t5 b
+right st b = lent st.args.rs b
 
 good : (st : tie.Start) → Lent st.args.ls st.args.l.now
 good st =
     let long : length st.args.ls.lens ≡ max_rank = search rules in
     lent-good _ _ long st.requires.0
 
-ranked : (st : tie.Start) (b : List ℤ) → rank (array_of (right st b)) ≡ st.args.t5.rank
+ranked : (st : tie.Start) (b : List ℤ) → rank (array_of (right st b)) ≡ st.args.rs.rank
 ranked st b =
-    let long : length st.args.t5.lens ≡ max_rank = search rules in
+    let long : length st.args.rs.lens ≡ max_rank = search rules in
     rank-of _ b long st.requires.1
 
 -- The axis that K names.
-abbrev some : tie.After-position → tie.Else1
+abbrev some : tie.After-position → tie.Else-rs-eq0
 some c = c.before.before.before
 
 abbrev start : tie.After-position → tie.Start
 start c = (some c).before
 
-found : (c : tie.After-position) → c.position.result ≡ found_of (start c).args.k (start c).args.g (start c).args.t5.rank
+found : (c : tie.After-position) → c.position.result ≡ found_of (start c).args.k (start c).args.g (start c).args.rs.rank
 found c = c.position.ensures ∙ read_found _ _ (start c).ranges.k (start c).ranges.g _
 
-abbrev searched : tie.After-known-told → tie.After-position
-searched c = c.before.before.before
+abbrev searched : tie.In-At → tie.After-position
+searched c = c.before
 
-axis-is : (c : tie.After-known-told)
-    → let st = start (searched c) in IsAt st.args.k st.args.g st.args.t5.rank c.before.axis.given.0.0
-axis-is c = found_at _ _ _ _ (sym c.before.axis.given.1 ∙ found (searched c))
+axis-is : (c : tie.In-At)
+    → let st = start (searched c) in IsAt st.args.k st.args.g st.args.rs.rank c.in-At.axis
+axis-is c = found_at _ _ _ _ (sym c.in-At.is ∙ found (searched c))
 
-inside : (c : tie.After-known-told) → c.before.axis.given.0.0 < max_rank
+inside : (c : tie.In-At) → c.in-At.axis < max_rank
 inside c = let h = good-rank _ (start (searched c)).requires.1 in omega (arith, (axis-is c).below)
 
-returns : tie.Need-returns
-returns c b = let st = c.before in sym (select-own st.args.g st.args.k (left st) (right st b) ∙ rw (eq-eqb _ 0 (ranked st b ∙ c.if1.true)))
+returns : tie.Need-returns-then-rs-eq0
+returns c b = let st = c.before in sym (select-own st.args.g st.args.k (left st) (right st b) ∙ rw (eq-eqb _ 0 (ranked st b ∙ c.if-rs-eq0.true)))
 
-returns-2 : tie.Need-returns-2
+returns-2 : tie.Need-returns-then-ls-gt1
 returns-2 c b =
     let st = c.before.before.before in
-    let n = c.before.before.if1.false in
+    let n = c.if-rs-eq0.false in
     sym (select-own st.args.g st.args.k (left st) (right st b)
     ∙ rw (ne_eqb (rank (array_of (right st b))) 0 (λ z. n (sym (ranked st b) ∙ z)), list-no (good st) (omega arith)))
 
-returns-3 : tie.Need-returns-3
+returns-3 : tie.Need-returns-in_default
 returns-3 c b =
-    let p = c.before.before in
+    let p = c.before in
     let st = start p in
-    let n = (some p).if1.false in
-    let w = found_none st.args.k st.args.g _ (sym c.enum_told.given.1 ∙ found p) in
+    let n = (some p).if-rs-eq0.false in
+    let w = found_none st.args.k st.args.g _ (sym c.in_default.is ∙ found p) in
     sym (select-own st.args.g st.args.k (left st) (right st b)
     ∙ rw (ne_eqb (rank (array_of (right st b))) 0 (λ z. n (sym (ranked st b) ∙ z)), list-yes (good st) (omega arith), ranked st b, w))
 
 -- What is left is INDEX.
-abbrev placed : tie.After-count → tie.After-known-told
+abbrev placed : tie.After-count-m → tie.In-At
 placed c = c.before.before
 
-rest : (c : tie.After-all-within) (b : List ℤ)
+rest : (c : tie.After-all_within) (b : List ℤ)
     → let st = start (searched (placed c.before.before)) in
-    own 31 (select st.args.g st.args.k (array_of (left st)) (array_of (right st b))).refusals ≡ cond (not c.all-within.result) (number INDEX) 0
+    own 31 (select st.args.g st.args.k (array_of (left st)) (array_of (right st b))).refusals ≡ cond (not c.all_within.result) (number INDEX) 0
 rest c b =
     let n = c.before.before in
     let st = start (searched (placed n)) in
-    select-rest st.args.g st.args.k (good st) st.args.t5 b (ranked st b) (omega arith) (axis-is (placed n))
+    select-rest st.args.g st.args.k (good st) st.args.rs b (ranked st b) (omega arith) (axis-is (placed n))
     ∙ ap (λ t. cond (not t) (number INDEX) 0)
-    (sym (c.all-within.ensures
-    ∙ ap₂ (λ G xs. every (λ z. within (z -ℤ G) (get_or st.args.t5.lens (placed n).before.axis.given.0.0 0)) xs) (read32 _ st.fits.g)
-    (lent-part _ _ (good st) _ n.count.ensures)))
+    (sym (c.all_within.ensures
+    ∙ ap₂ (λ G xs. every (λ z. within (z -ℤ G) (get_or st.args.rs.lens (placed n).in-At.axis 0)) xs) (read32 _ st.ranges.g)
+    (lent-part _ _ (good st) _ n.count-m.ensures)))
 
-part-all-within-end : tie.Need-slice-bounds-all-within-end
+part-all-within-end : tie.Need-slice_bounds-all_within-end
 part-all-within-end c =
     let g = good (start (searched (placed c))) in
-    omega (arith, g.room, g.count-is, c.count.ensures)
+    omega (arith, g.room, g.count-is, c.count-m.ensures)
 
-pub select-refusal-spec : {M : Type 1} → statement M
-select-refusal-spec =
+pub select_refusal_spec : {M : Type 1} → statement M
+select_refusal_spec =
     tie.close
     (tie.spec
     returns
@@ -116,5 +116,5 @@ select-refusal-spec =
     (λ c. search rules)
     part-all-within-end
     (λ c κs. search rules)
-    (λ c b. sym (rest c.before b ∙ rw c.if3.true))
-    (λ c b. sym (rest c.before b ∙ rw c.if3.false)))
+    (λ c b. sym (rest c.before b ∙ rw c.if-all_within.true))
+    (λ c b. sym (rest c.before b ∙ rw c.if-all_within.false)))

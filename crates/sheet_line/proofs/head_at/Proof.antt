@@ -12,51 +12,51 @@ abbrev origin_on : ℤ → Reader Head
 origin_on n = next_number then axis_on n
 
 -- The places where a number was found.
-abbrev start : tie.After-known-told → tie.Start
-start c = c.before.before.before.before.before
+abbrev start : tie.In-Is → tie.Start
+start c = c.before.before.before
 
-abbrev one : tie.After-known-told2 → tie.After-known-told
-one c = c.before.before.before.before
+abbrev one : tie.In-Is-number_at → tie.In-Is
+one c = c.before.before
 
-abbrev two : tie.After-known-told3 → tie.After-known-told2
-two c = c.before.before.before.before
+abbrev two : tie.In-Is-number_at-2 → tie.In-Is-number_at
+two c = c.before.before
 
-after_one : (c : tie.After-known-told)
+after_one : (c : tie.In-Is)
     → let a = (start c).args in
-    let x = c.before.primitive.given.0 in
-    Reads a.line.now head a.at (origin_on (held x.0)) x.1.0
+    let x = c in
+    Reads a.line.now head a.at (origin_on (held c.in-Is.primitive)) c.in-Is.second
 unfolding head
-after_one c = then-reads origin_on (number_read c.before.before.before.number_at.ensures c.before.primitive.given.1 (search rules))
+after_one c = then-reads origin_on (number_read c.number_at.ensures c.in-Is.is (search rules))
 
-after_two : (c : tie.After-known-told2)
+after_two : (c : tie.In-Is-number_at)
     → let a = (start (one c)).args in
-    let x = c.before.origin.given.0 in
-    Reads a.line.now head a.at (axis_on (held (one c).before.primitive.given.0.0) (held x.0)) x.1.0
+    let x = c in
+    Reads a.line.now head a.at (axis_on (held (one c).in-Is.primitive) (held c.in-Is-number_at.origin)) c.in-Is-number_at.third
 after_two c =
-    let origin = number_read c.before.before.before.number-at2.ensures c.before.origin.given.1 (search rules) in
+    let origin = number_read c.number_at-2.ensures c.in-Is-number_at.is (search rules) in
     reads_on (after_one (one c)) (then-reads (axis_on _) origin)
 
-returns : tie.Need-returns
+returns : tie.Need-returns-in_default
 unfolding head
-returns c = (then-lacks origin_on (number-lacks c.before.before.number_at.ensures c.enum_told.given.1)).is
+returns c = (then-lacks origin_on (number-lacks c.number_at.ensures c.in_default.is)).is
 
-returns-2 : tie.Need-returns-2
+returns-2 : tie.Need-returns-in_default-number_at
 returns-2 c =
-    let n = c.before.before in
-    (lacks-on (after_one n.before) (then-lacks (axis_on _) (number-lacks n.number-at2.ensures c.enum-told2.given.1))).is
+    let n = c.before in
+    (lacks-on (after_one n.before) (then-lacks (axis_on _) (number-lacks n.number_at-2.ensures c.in_default-number_at.is))).is
 
-returns-3 : tie.Need-returns-3
+returns-3 : tie.Need-returns-in_default-number_at-2
 returns-3 c =
-    let n = c.before.before in
-    (lacks-on (after_two n.before) (then-lacks _ (number-lacks n.number-at3.ensures c.enum-told3.given.1))).is
+    let n = c.before in
+    (lacks-on (after_two n.before) (then-lacks _ (number-lacks n.number_at-3.ensures c.in_default-number_at-2.is))).is
 
-returns-4 : tie.Need-returns-4
+returns-4 : tie.Need-returns
 returns-4 c =
-    let k = number_read c.before.before.before.number-at3.ensures c.before.k.given.1 (search rules) in
+    let k = number_read c.number_at-3.ensures c.in-Is-number_at-2.is (search rules) in
     (reads_on (after_two (two c)) (then-reads (λ K. give (record { primitive = _; origin = _; k = K })) k)).is
 
-pub head-at-spec : {M : Type 1} → statement M
-head-at-spec =
+pub head_at_spec : {M : Type 1} → statement M
+head_at_spec =
     tie.close
     (tie.spec
     (λ c κs. search rules)

@@ -9,16 +9,16 @@ use Rattle.sheet_line.proofs.read_line.Statement.{statement}
 use Rattle.sheet_line.proofs.read_line.Tie as tie
 
 -- The places where the line is short enough, where the head was found, and where L was.
-abbrev start : tie.Else1 → tie.Start
+abbrev start : tie.Else-line-gt-MAX_LINE → tie.Start
 start c = c.before.before
 
-abbrev short : tie.After-known-told → tie.Else1
-short c = c.before.before.before.before
+abbrev short : tie.In-Is → tie.Else-line-gt-MAX_LINE
+short c = c.before.before
 
-abbrev headed : tie.Else2 → tie.After-known-told
+abbrev headed : tie.Else-not-left → tie.In-Is
 headed c = c.before.before.before.before.before
 
-abbrev halved : tie.After-operand-at2 → tie.Else2
+abbrev halved : tie.After-operand_at-right → tie.Else-not-left
 halved c = c.before.before
 
 abbrev line : tie.Start → List ℕ
@@ -31,89 +31,89 @@ abbrev room_r : tie.Start → ℕ
 room_r st = room st.args.r.now
 
 -- What was found there.
-abbrev head_of : tie.After-known-told → Head
-head_of c = let x = c.before.primitive.given.0 in record { primitive = held x.0; origin = held x.1.0; k = held x.1.1.0 }
+abbrev head_of : tie.In-Is → Head
+head_of c = let x = c in record { primitive = held c.in-Is.primitive; origin = held c.in-Is.origin; k = held c.in-Is.k }
 
-abbrev left : tie.Else2 → tie.After-operand-at
+abbrev left : tie.Else-not-left → tie.After-operand_at-left
 left c = c.before.before.before
 
-after-head : (c : tie.After-known-told)
+after-head : (c : tie.In-Is)
     → let st = start (short c) in
-    Reads (line st) (call (room_l st) (room_r st)) 0 (left_on (room_l st) (room_r st) (head_of c)) c.before.primitive.given.0.1.1.1.0
-after-head c = head_read _ _ c.before.before.before.head_at.ensures c.before.primitive.given.1 (search rules) (search rules) (search rules)
+    Reads (line st) (call (room_l st) (room_r st)) 0 (left_on (room_l st) (room_r st) (head_of c)) c.in-Is.next
+after-head c = head_read _ _ c.head_at.ensures c.in-Is.is (search rules) (search rules) (search rules)
 
-after-left : (c : tie.Else2)
+after-left : (c : tie.Else-not-left)
     → let st = start (short (headed c)) in
-    let o = (left c).Operand-at in
+    let o = (left c).operand_at-left in
     Reads (line st) (call (room_l st) (room_r st)) 0 (right_on (room_r st) (head_of (headed c)) (held_in o.last.1.1.0 o.result)) o.result.next
 after-left c =
-    let o = (left c).Operand-at in
-    reads_on (after-head (headed c)) (then-reads (right_on _ _) (operand_read o.ensures (not-false o.result.good c.if2.false)))
+    let o = (left c).operand_at-left in
+    reads_on (after-head (headed c)) (then-reads (right_on _ _) (operand_read o.ensures (not-false o.result.good c.if-not-left.false)))
 
-abbrev called : tie.After-operand-at2 → Call
+abbrev called : tie.After-operand_at-right → Call
 called c =
-    let L = (left (halved c)).Operand-at in
-    let R = c.operand-at2 in
+    let L = (left (halved c)).operand_at-left in
+    let R = c.operand_at-right in
     record { head = head_of (headed (halved c)); left = held_in L.last.1.1.0 L.result; right = held_in R.new.1.1.0 R.result }
 
-after-right : (c : tie.After-operand-at2) → c.operand-at2.result.good ≡ true
-    → let st = start (short (headed (halved c))) in Reads (line st) (call (room_l st) (room_r st)) 0 (give (called c)) c.operand-at2.result.next
+after-right : (c : tie.After-operand_at-right) → c.operand_at-right.result.good ≡ true
+    → let st = start (short (headed (halved c))) in Reads (line st) (call (room_l st) (room_r st)) 0 (give (called c)) c.operand_at-right.result.next
 after-right c good =
     reads_on (after-left (halved c))
-    (then-reads (λ R. give (record { head = (called c).head; left = (called c).left; right = R })) (operand_read c.operand-at2.ensures good))
+    (then-reads (λ R. give (record { head = (called c).head; left = (called c).left; right = R })) (operand_read c.operand_at-right.ensures good))
 
-returns : tie.Need-returns
+returns : tie.Need-returns-then-line-gt-MAX_LINE
 returns c =
     let st = c.before.before.before in
     bad-line (line st) st.args.l.now st.args.l.now st.args.r.now st.args.r.now (refl, refl) c.bad.ensures
-    (too_long _ _ (line st) c.before.if1.true)
+    (too_long _ _ (line st) c.if-line-gt-MAX_LINE.true)
 
-returns-2 : tie.Need-returns-2
+returns-2 : tie.Need-returns-in_default
 returns-2 c =
-    let h = c.before.before.before in
+    let h = c.before.before in
     let st = start h.before in
-    bad-line (line st) st.args.l.now st.args.l.now st.args.r.now st.args.r.now (refl, refl) c.bad2.ensures
-    (no_call _ _ (line st) h.before.if1.false (head-lacks _ _ h.head_at.ensures c.before.enum_told.given.1))
+    bad-line (line st) st.args.l.now st.args.l.now st.args.r.now st.args.r.now (refl, refl) c.bad-in_default.ensures
+    (no_call _ _ (line st) h.if-line-gt-MAX_LINE.false (head-lacks _ _ h.head_at.ensures c.in_default.is))
 
-returns-3 : tie.Need-returns-3
+returns-3 : tie.Need-returns-then-not-left
 returns-3 c =
     let o = c.before.before.before.before in
     let h = o.before.before in
     let st = start (short h) in
-    let none = operand-lacks o.Operand-at.ensures (not-true o.Operand-at.result.good c.before.if2.true) in
-    bad-line (line st) st.args.l.now _ st.args.r.now st.args.r.now (o.Operand-at.auto.1.1.0, refl) c.bad3.ensures
-    (no_call _ _ (line st) (short h).if1.false (lacks-on (after-head h) (then-lacks (right_on _ _) none)))
+    let none = operand-lacks o.operand_at-left.ensures (not-true o.operand_at-left.result.good c.if-not-left.true) in
+    bad-line (line st) st.args.l.now _ st.args.r.now st.args.r.now (o.operand_at-left.auto.out, refl) c.bad-then-not-left.ensures
+    (no_call _ _ (line st) (short h).if-line-gt-MAX_LINE.false (lacks-on (after-head h) (then-lacks (right_on _ _) none)))
 
-returns-4 : tie.Need-returns-4
+returns-4 : tie.Need-returns-then-not-right
 returns-4 c =
     let p = c.before.before.before.before in
     let e = halved p in
     let st = start (short (headed e)) in
-    let few = (short (headed e)).if1.false in
-    let R = p.operand-at2 in
-    bad-line (line st) st.args.l.now _ st.args.r.now _ ((left e).Operand-at.kept.1.1.0, R.auto.1.1.0) c.bad4.ensures
+    let few = (short (headed e)).if-line-gt-MAX_LINE.false in
+    let R = p.operand_at-right in
+    bad-line (line st) st.args.l.now _ st.args.r.now _ ((left e).operand_at-left.kept.1.1.0, R.auto.1.1.0) c.bad-then-not-right.ensures
     (⊎_elim
     (λ w. no_call _ _ (line st) few (lacks-on (after-left e) (then-lacks _ (operand-lacks R.ensures (not-true R.result.good w.taken)))))
-    (λ w. left_over _ _ (line st) few (after-right p (not-false R.result.good w.0.left)) (leb-true R.result.next (length (line st)) w.2.taken))
-    c.before.if3.branch)
+    (λ w. left_over _ _ (line st) few (after-right p (not-false R.result.good w.0.false)) (leb-true R.result.next (length (line st)) w.2.true))
+    c.then-not-right.branch-raw)
 
-returns-5 : tie.Need-returns-5
+returns-5 : tie.Need-returns
 returns-5 c =
     let e = c.before.before in
     let p = e.before.before.before.before.before in
     let h = headed (halved p) in
     let st = start (short h) in
-    let L = (left (halved p)).Operand-at in
-    let R = p.operand-at2 in
-    let is-left : L.result.good ≡ true = not-false L.result.good (halved p).if2.false in
-    let is_right : R.result.good ≡ true = not-false R.result.good e.before.before.if3.false in
-    let all = line-call _ _ (line st) (short h).if1.left (after-right p is_right) (leb-false R.result.next (length (line st)) e.if4.false) in
+    let L = (left (halved p)).operand_at-left in
+    let R = p.operand_at-right in
+    let is-left : L.result.good ≡ true = not-false L.result.good (halved p).if-not-left.false in
+    let is_right : R.result.good ≡ true = not-false R.result.good e.if-not-right.false in
+    let all = line-call _ _ (line st) (short h).if-line-gt-MAX_LINE.false (after-right p is_right) (leb-false R.result.next (length (line st)) e.if-right-line.false) in
     good-line (line st) st.args.l.now _ st.args.r.now _ (L.kept.1.1.0, R.auto.1.1.0) (called p)
     (ap₂ (answered _ _ _) L.ensures.shape R.ensures.shape)
     all (L.ensures.stored is-left) (R.ensures.stored is_right)
 
-pub read-line-spec : {M : Type 1} → statement M
-read-line-spec =
+pub read_line_spec : {M : Type 1} → statement M
+read_line_spec =
     tie.close
     (tie.spec
     (λ c κs. search rules)

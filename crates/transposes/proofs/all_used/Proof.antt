@@ -8,29 +8,29 @@ use Rattle.transposes.proofs.Choosing.{used_from, used-next, used-stop, used-end
 use Rattle.transposes.proofs.all_used.Statement.{statement}
 use Rattle.transposes.proofs.all_used.Tie as tie
 
-abbrev invariant-loop : tie.invariant-loop
+abbrev invariant-loop : tie.invariant-loop-i
 invariant-loop axes used i₀ i = (i ≤ axes) × (all_used used axes ≡ used_from used axes i)
 
-abbrev decreases-loop : tie.decreases-loop
+abbrev decreases-loop : tie.decreases-loop-i
 decreases-loop axes used i₀ i = axes - i
 
-returns : tie.Need-returns invariant-loop decreases-loop
+returns : tie.Need-returns-then-not-used-i invariant-loop decreases-loop
 returns c =
     let l = c.before.before in
-    sym (l.loop.invariant.1 ∙ used-stop l.before.args.t1 _ l.loop.i (omega arith) (not-true _ c.if1.true))
+    sym (l.loop-i.invariant.1 ∙ used-stop l.args.used _ l.loop-i.i (omega arith) (not-true _ c.if-not-used-i.true))
 
-loop-again : tie.Need-loop-preserved invariant-loop decreases-loop
+loop-again : tie.Need-loop-i-preserved invariant-loop decreases-loop
 loop-again c =
     let l = c.before.before in
-    (omega arith, l.loop.invariant.1 ∙ used-next l.before.args.t1 _ l.loop.i (omega arith) (not-false _ c.if1.false))
+    (omega arith, l.loop-i.invariant.1 ∙ used-next l.args.used _ l.loop-i.i (omega arith) (not-false _ c.if-not-used-i.false))
 
-returns-2 : tie.Need-returns-2 invariant-loop decreases-loop
+returns-2 : tie.Need-returns-then-not-used-i invariant-loop decreases-loop
 returns-2 c =
     let l = c.before in
-    sym (l.loop.invariant.1 ∙ used-end l.before.args.t1 l.before.args.axes l.loop.i (omega arith))
+    sym (l.loop-i.invariant.1 ∙ used-end l.args.used l.args.axes l.loop-i.i (omega arith))
 
-pub all-used-spec : {M : Type 1} → statement M
-all-used-spec =
+pub all_used_spec : {M : Type 1} → statement M
+all_used_spec =
     tie.close
     (tie.spec
     invariant-loop

@@ -8,20 +8,20 @@ use Rattle.transposes.proofs.Choosing.{SentSoFar, so-far-none, so_far_more, so-f
 use Rattle.transposes.proofs.backwards.Statement.{statement}
 use Rattle.transposes.proofs.backwards.Tie as tie
 
-abbrev invariant-loop : tie.invariant-loop
+abbrev invariant-loop : tie.invariant-loop-i
 invariant-loop rank to₀ i₀ to i = SentSoFar (backwards rank) to i
 
-abbrev decreases-loop : tie.decreases-loop
+abbrev decreases-loop : tie.decreases-loop-i
 decreases-loop rank to₀ i₀ to i = rank - i
 
-loop-again : tie.Need-loop-preserved invariant-loop decreases-loop
+loop-again : tie.Need-loop-i-preserved invariant-loop decreases-loop
 loop-again c =
-    let rank = c.before.before.args.rank in
-    so_far_more c.before.loop.invariant _ (rw length-backwards c.before.before.requires) (rw length-backwards (omega arith))
+    let rank = c.args.rank in
+    so_far_more c.loop-i.invariant _ (rw length-backwards c.requires) (rw length-backwards (omega arith))
     (sym (get_or-backwards rank _ (omega arith)))
 
-pub backwards-spec : {M : Type 1} → statement M
-backwards-spec =
+pub backwards_spec : {M : Type 1} → statement M
+backwards_spec =
     tie.close
     (tie.spec
     invariant-loop
@@ -34,4 +34,4 @@ backwards-spec =
     (λ c. search rules)
     (λ c. search rules)
     loop-again
-    (λ c. so-far-all c.before.loop.invariant _ (rw length-backwards (omega arith)) refl (sym (backwards-axes _)) refl))
+    (λ c. so-far-all c.loop-i.invariant _ (rw length-backwards (omega arith)) refl (sym (backwards-axes _)) refl))

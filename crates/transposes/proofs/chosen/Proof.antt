@@ -14,64 +14,64 @@ use Rattle.transposes.proofs.Choosing.{Choosing, choosing-none, choosing-more, c
 use Rattle.transposes.proofs.chosen.Statement.{statement}
 use Rattle.transposes.proofs.chosen.Tie as tie
 
-abbrev invariant-loop : tie.invariant-loop
+abbrev invariant-loop : tie.invariant-loop-i
 invariant-loop g l rank used₀ to₀ axes₀ i₀ used to axes i = Choosing (to_z w32 g) l used to axes i
 
-abbrev decreases-loop : tie.decreases-loop
+abbrev decreases-loop : tie.decreases-loop-i
 decreases-loop g l rank used₀ to₀ axes₀ i₀ used to axes i = rank - i
 
 abbrev origin : tie.Start invariant-loop decreases-loop → ℤ
 origin s = to_z w32 (of_z w32 s.args.g)
 
 -- The element, and what was found for it.
-abbrev turn : tie.After-position invariant-loop decreases-loop → tie.At-loop invariant-loop decreases-loop
+abbrev turn : tie.After-position invariant-loop decreases-loop → tie.At-loop-i invariant-loop decreases-loop
 turn c = c.before.before.before
 
-abbrev element : tie.At-loop invariant-loop decreases-loop → ℤ
-element c = get_or c.before.args.l.now c.loop.i (pos 0)
+abbrev element : tie.At-loop-i invariant-loop decreases-loop → ℤ
+element c = get_or c.args.l.now c.loop-i.i (pos 0)
 
 found : (c : tie.After-position invariant-loop decreases-loop)
-    → c.position.result ≡ found_of (element (turn c)) (origin (turn c).before) (length (turn c).before.args.l.now)
+    → c.position.result ≡ found_of (element (turn c)) (origin (turn c).before) (length (turn c).args.l.now)
 found c =
     let s = (turn c).before in
-    let e : to_z w32 (of_z w32 (element (turn c))) ≡ element (turn c) = to_z-of_z (sfits_of c.before.position-arg.given) in
+    let e : to_z w32 (of_z w32 (element (turn c))) ≡ element (turn c) = to_z-of_z {w = w32} (sfits_of c.position-arg-1.given) in
     c.position.ensures ∙ ap (λ z. found_of z (origin s) (length s.args.l.now)) e
 
-abbrev searched : tie.After-known-told invariant-loop decreases-loop → tie.After-position invariant-loop decreases-loop
-searched c = c.before.before.before
+abbrev searched : tie.In-At invariant-loop decreases-loop → tie.After-position invariant-loop decreases-loop
+searched c = c.before
 
-axis-is : (c : tie.After-known-told invariant-loop decreases-loop)
+axis-is : (c : tie.In-At invariant-loop decreases-loop)
     → let l = turn (searched c) in
-    IsAt (element l) (origin l.before) (length l.before.args.l.now) c.before.axis.given.0.0
-axis-is c = found_at _ _ _ _ (sym c.before.axis.given.1 ∙ found (searched c))
+    IsAt (element l) (origin l.before) (length l.args.l.now) c.in-At.axis
+axis-is c = found_at _ _ _ _ (sym c.in-At.is ∙ found (searched c))
 
-returns : tie.Need-returns invariant-loop decreases-loop
+returns : tie.Need-returns-in_default invariant-loop decreases-loop
 returns c =
-    let p = c.before.before.before in
+    let p = c.before in
     let l = turn p in
-    rw (read32 _ l.before.fits.g) at
-    (choosing-stop l.loop.inv c.nowhere.result (omega arith) (sym c.before.enum_told.given.1 ∙ found p) c.nowhere.ensures)
+    rw (read32 _ l.ranges.g) at
+    (choosing-stop l.loop-i.invariant c.nowhere.result (omega arith) (sym c.in_default.is ∙ found p) c.nowhere.ensures)
 
-loop-again : tie.Need-loop-preserved invariant-loop decreases-loop
+loop-again : tie.Need-loop-i-preserved invariant-loop decreases-loop
 loop-again c =
     let l = turn (searched c.before) in
-    choosing-more l.loop.inv _ (axis-is c.before) (omega arith) l.before.pre _
-    (⊎_elim (λ w. omega arith) (λ w. omega arith) c.if1.branch)
+    choosing-more l.loop-i.invariant _ (axis-is c.before) (omega arith) l.requires _
+    (⊎_elim (λ w. omega arith) (λ w. omega arith) c.if-axes-axis.branch-raw)
 
-returns-2 : tie.Need-returns-2 invariant-loop decreases-loop
+returns-2 : tie.Need-returns-then-all_used invariant-loop decreases-loop
 returns-2 c =
     let l = c.before.before.before in
-    rw (read32 _ l.before.ranges.g) at (choosing-yes l.loop.invariant (omega arith) _ c.before.all-used.ensures c.if2.true refl refl refl)
+    rw (read32 _ l.ranges.g) at (choosing-yes l.loop-i.invariant (omega arith) _ c.all_used.ensures c.if-all_used.true refl refl refl)
 
-returns-3 : tie.Need-returns-3 invariant-loop decreases-loop
+returns-3 : tie.Need-returns-else-all_used invariant-loop decreases-loop
 returns-3 c =
     let a = c.before.before in
     let l = a.before.before in
-    rw (read32 _ l.before.ranges.g) at
-    (choosing-no l.loop.invariant (omega arith) c.nowhere2.result a.all-used.ensures c.before.if2.false c.nowhere2.ensures)
+    rw (read32 _ l.ranges.g) at
+    (choosing-no l.loop-i.invariant (omega arith) c.nowhere-else-all_used.result a.all_used.ensures c.if-all_used.false c.nowhere-else-all_used.ensures)
 
-pub chosen-spec : {M : Type 1} → statement M
-chosen-spec =
+pub chosen_spec : {M : Type 1} → statement M
+chosen_spec =
     tie.close
     (tie.spec
     invariant-loop
@@ -86,12 +86,12 @@ chosen-spec =
     returns
     (λ c. search rules)
     (λ c. search rules)
-    (λ c. omega (arith, (axis-is c).below, (turn (searched c)).before.pre))
+    (λ c. omega (arith, (axis-is c).below, (turn (searched c)).requires))
     (λ c. omega (arith, (axis-is c.before).below))
     (λ c. search rules)
     (λ c. search rules)
     loop-again
-    (λ c κs. omega (arith, c.before.loop.invariant.low, c.before.before.requires))
+    (λ c κs. omega (arith, c.loop-i.invariant.low, c.requires))
     (λ c κs. search rules)
     returns-2
     returns-3)

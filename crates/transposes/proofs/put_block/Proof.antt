@@ -4,23 +4,23 @@ use Rattle.transposes.proofs.Placing.{reach-swap, placed-swap}
 use Rattle.transposes.proofs.put_block.Statement.{statement}
 use Rattle.transposes.proofs.put_block.Tie as tie
 
-abbrev start : tie.Else2 → tie.Start
+abbrev start : tie.Else-last-lt-TILE-2 → tie.Start
 start c = c.before.before.before.before
 
-put-plane-requires : tie.Need-put-plane-requires
-put-plane-requires c κs = reach-swap c.before.before.before.requires
+put-plane-requires : tie.Need-put_plane-requires
+put-plane-requires c κs = reach-swap c.requires
 
-returns : tie.Need-returns
-returns c = placed-swap c.before.put-plane.ensures
+returns : tie.Need-returns-then-last-lt-TILE
+returns c = placed-swap c.put_plane.ensures
 
-put-strips-requires : tie.Need-put-strips-requires
+put-strips-requires : tie.Need-put_strips-requires
 put-strips-requires c κs = (omega arith, reach-swap (start c.before).requires)
 
-returns-3 : tie.Need-returns-3
-returns-3 c = placed-swap c.before.put-strips.ensures
+returns-3 : tie.Need-returns-then-last-lt-TILE
+returns-3 c = placed-swap c.put_strips.ensures
 
-pub put-block-spec : {M : Type 1} → statement M
-put-block-spec =
+pub put_block_spec : {M : Type 1} → statement M
+put_block_spec =
     tie.close
     (tie.spec
     put-plane-requires

@@ -8,29 +8,29 @@ use Rattle.transposes.proofs.Placing.{axis_by, reach-from, reach-inner, placed-n
 use Rattle.transposes.proofs.put_plane.Statement.{statement}
 use Rattle.transposes.proofs.put_plane.Tie as tie
 
-abbrev invariant-loop : tie.invariant-loop
+abbrev invariant-loop : tie.invariant-loop-i
 invariant-loop line r at to out₀ n stride step i₀ out i = (i ≤ n) × Placed (axis_by i stride step ∷ (line ∷ [])) r at to out₀ out
 
-abbrev decreases-loop : tie.decreases-loop
+abbrev decreases-loop : tie.decreases-loop-i
 decreases-loop line r at to out₀ n stride step i₀ out i = n - i
 
-abbrev turned : tie.After-out invariant-loop decreases-loop → tie.At-loop invariant-loop decreases-loop
+abbrev turned : tie.After-out-1 invariant-loop decreases-loop → tie.At-loop-i invariant-loop decreases-loop
 turned c = c.before.before.before.before
 
 -- Where the line starts, in R and in the result.
-from : (c : tie.In-loop invariant-loop decreases-loop)
-    → let a = c.before.before.args in
-    (a.at + c.before.loop.i * a.axis.stride < length a.r.now) × (a.to + c.before.loop.i * a.axis.step < length a.out.now)
-from c = reach-from c.before.before.requires _ (omega arith)
+from : (c : tie.In-loop-i invariant-loop decreases-loop)
+    → let a = c.args in
+    (a.at + c.loop-i.i * a.axis.stride < length a.r.now) × (a.to + c.loop-i.i * a.axis.step < length a.out.now)
+from c = reach-from c.requires _ (omega arith)
 
-put-line-requires : tie.Need-put-line-requires invariant-loop decreases-loop
-put-line-requires c κs = rw c.before.before.loop.invariant.1.room (reach-inner c.before.before.before.requires _ (omega arith))
+put-line-requires : tie.Need-put_line-requires invariant-loop decreases-loop
+put-line-requires c κs = rw c.loop-i.invariant.1.room (reach-inner c.requires _ (omega arith))
 
-loop-again : tie.Need-loop-preserved invariant-loop decreases-loop
-loop-again c = (omega arith, placed-more (turned c).loop.invariant.1 c.before.put-line.ensures)
+loop-again : tie.Need-loop-i-preserved invariant-loop decreases-loop
+loop-again c = (omega arith, placed-more (turned c).loop-i.invariant.1 c.put_line.ensures)
 
-pub put-plane-spec : {M : Type 1} → statement M
-put-plane-spec =
+pub put_plane_spec : {M : Type 1} → statement M
+put_plane_spec =
     tie.close
     (tie.spec
     invariant-loop
@@ -44,5 +44,5 @@ put-plane-spec =
     (λ c. search rules)
     (λ c. search rules)
     loop-again
-    (λ c. c.before.loop.invariant.1.room)
-    (λ c. placed-whole c.before.loop.invariant (omega arith)))
+    (λ c. c.loop-i.invariant.1.room)
+    (λ c. placed-whole c.loop-i.invariant (omega arith)))

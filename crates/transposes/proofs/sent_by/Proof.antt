@@ -35,36 +35,36 @@ left st = array_of (lent st.args.ls st.args.l.now)
 abbrev start : tie.After-count → tie.Start
 start c = c.before.before.before
 
-same : (c : tie.Else2) → (start c.before).args.rs.rank ≡ count_of (start c.before).args.ls
-same c = omega (arith, c.before.count.ensures)
+same : (c : tie.Else-count-rank) → (start c.before).args.rs.rank ≡ count_of (start c.before).args.ls
+same c = omega (arith, c.count.ensures)
 
-returns : tie.Need-returns
+returns : tie.Need-returns-then-ls-gt1
 returns c b =
     let st = c.before.before.before in
     sent-nowhere (number RANK) c.nowhere.ensures
     (by-own _ (left st) (array_of (lent st.args.rs b)) ∙ rw (list-no (good st) (omega arith))) (λ z. omega arith)
 
-returns-2 : tie.Need-returns-2
+returns-2 : tie.Need-returns-then-count-rank
 returns-2 c b =
     let n = c.before.before in
     let st = start n in
     let r = array_of (lent st.args.rs b) in
-    sent-nowhere (number LENGTH) c.nowhere2.ensures
+    sent-nowhere (number LENGTH) c.nowhere-then-count-rank.ensures
     (by-own _ (left st) r
-    ∙ rw (list-yes (good st) (omega arith), counts-no (good st) (rank r) (λ e. c.before.if2.true (n.count.ensures ∙ e ∙ axes st b))))
+    ∙ rw (list-yes (good st) (omega arith), counts-no (good st) (rank r) (λ e. c.if-count-rank.true (n.count.ensures ∙ e ∙ axes st b))))
     (λ z. omega arith)
 
-returns-3 : tie.Need-returns-3
+returns-3 : tie.Need-returns-then-ls-gt1
 returns-3 c b =
     let e = c.before.before in
     let st = start e.before in
     let g = good st in
     let part = lent-part _ _ g _ (same e) in
     rw (by-domain _ (left st) (array_of (lent st.args.rs b)) (list-yes g (omega arith)) (g.whole ∙ sym g.count-is ∙ sym (same e) ∙ sym (axes st b)))
-    (rw (part, read32 _ st.fits.g) at c.chosen.ensures)
+    (rw (part, read32 _ st.ranges.g) at c.chosen.ensures)
 
-pub sent-by-spec : {M : Type 1} → statement M
-sent-by-spec =
+pub sent_by_spec : {M : Type 1} → statement M
+sent_by_spec =
     tie.close
     (tie.spec
     (λ c κs. search rules)
@@ -75,5 +75,5 @@ sent-by-spec =
     (λ c. search rules)
     (λ c. search rules)
     (λ c. let g = good (start c.before) in omega (arith, g.room, g.count-is, same c))
-    (λ c κs. let st = start c.before.before in simp length-take (omega (arith, good-rank st.args.rs st.pre.1)))
+    (λ c κs. let st = start c.before.before in simp length-take (omega (arith, good-rank st.args.rs st.requires.1)))
     returns-3)

@@ -1,3 +1,4 @@
+use mir.Syntax.{w32}
 use Prim.Native.Nat.{◌+◌, ◌*◌, ◌-◌, ◌≤◌, ◌<◌}
 use native.Mathlib.Omega.{arith}
 use mathlib.Core.Path.{◌≡◌, refl}
@@ -11,33 +12,33 @@ use Rattle.transposes.proofs.Walking.{strided-filled}
 use Rattle.transposes.proofs.spread.Statement.{statement}
 use Rattle.transposes.proofs.spread.Tie as tie
 
-abbrev invariant-loop : tie.invariant-loop
+abbrev invariant-loop : tie.invariant-loop-i
 invariant-loop stride r at out₀ n i₀ out i = (i ≤ n) × ((length out ≡ length out₀) × (out ≡ filled (λ j. get_or r (at + j * stride) (pos 0)) i out₀))
 
-abbrev decreases-loop : tie.decreases-loop
+abbrev decreases-loop : tie.decreases-loop-i
 decreases-loop stride r at out₀ n i₀ out i = n - i
 
-inside : (c : tie.In-loop invariant-loop decreases-loop)
-    → c.before.before.args.at + c.before.loop.i * c.before.before.args.stride < length c.before.before.args.r.now
-inside c = c.before.before.requires c.before.loop.i (omega arith)
+inside : (c : tie.In-loop-i invariant-loop decreases-loop)
+    → c.args.at + c.loop-i.i * c.args.stride < length c.args.r.now
+inside c = c.requires c.loop-i.i (omega arith)
 
-loop-again : tie.Need-loop-preserved invariant-loop decreases-loop
+loop-again : tie.Need-loop-i-preserved invariant-loop decreases-loop
 loop-again c =
-    let lp = c.before.before.loop in (
+    let lp = c.loop-i in (
       omega arith,
       (
         simp length-set lp.invariant.1.0,
-        rw (to_z-of_z (sfits_of c.out.given), lp.invariant.1.1) (filled-one _ (pos 0) _ lp.i c.before.before.before.args.out.now (omega arith) refl),
+        rw (to_z-of_z {w = w32} (sfits_of c.out-1.given), lp.invariant.1.1) (filled-one _ (pos 0) _ lp.i c.args.out.now (omega arith) refl),
       ),
     )
 
 returns : tie.Need-returns invariant-loop decreases-loop
 returns c =
-    let a = c.before.before.args in
-    strided-filled _ _ a.r.now a.at _ a.out.now (omega arith) c.before.loop.invariant.1.1
+    let a = c.args in
+    strided-filled _ _ a.r.now a.at _ a.out.now (omega arith) c.loop-i.invariant.1.1
 
-pub spread-spec : {M : Type 1} → statement M
-spread-spec =
+pub spread_spec : {M : Type 1} → statement M
+spread_spec =
     tie.close
     (tie.spec
     invariant-loop

@@ -19,61 +19,61 @@ abbrev right : tie.Start → Operand
 right st = lent st.args.rs st.args.r.now
 
 -- FORM and ORIGIN, and what is known where neither was met.
-early-is : (c : tie.After-early-one) → c.early-one.result ≡ early (good_form (right c.before)) c.before.args.g
-early-is c = c.early-one.ensures ∙ ap (early _) (read32 _ c.before.ranges.g)
+early-is : (c : tie.After-early_one-early) → c.early_one-early.result ≡ early (good_form (right c.before)) c.args.g
+early-is c = c.early_one-early.ensures ∙ ap (early _) (read32 _ c.ranges.g)
 
-fine : (c : tie.Else1) → FineOne c.before.before.args.g c.before.before.args.rs c.before.before.args.r.now
+fine : (c : tie.Else-early-ne0) → FineOne c.args.g c.args.rs c.args.r.now
 fine c =
-    let long : length c.before.before.args.rs.lens ≡ max_rank = search rules in
-    fine-one _ _ _ long (sym (early-is c.before) ∙ c.if1.false)
+    let long : length c.args.rs.lens ≡ max_rank = search rules in
+    fine-one _ _ _ long (sym (early-is c.before) ∙ c.if-early-ne0.false)
 
 -- Where the axes are sent, and the result's shape.
-abbrev start : tie.After-backwards → tie.Start
+abbrev start : tie.After-backwards-sent → tie.Start
 start c = c.before.before.before
 
-known : (c : tie.After-backwards)
-    → Known c.backwards.result (start c).args.rs (start c).args.r.now (backwards (rank (array_of (right (start c)))))
-known c = transpose-known (fine c.before).operand c.backwards.ensures
+known : (c : tie.After-backwards-sent)
+    → Known c.backwards-sent.result (start c).args.rs (start c).args.r.now (backwards (rank (array_of (right (start c)))))
+known c = transpose-known (fine c.before).operand c.backwards-sent.ensures
 
-ready : (c : tie.After-sent-shape) (K : ℤ) (L : Operand)
-    → let st = start c.before in Ready 15 1 st.args.g K L (right st) (transpose (array_of (right st))) c.sent-shape.result
+ready : (c : tie.After-sent_shape-shape) (K : ℤ) (L : Operand)
+    → let st = start c.before in Ready 15 1 st.args.g K L (right st) (transpose (array_of (right st))) c.sent_shape-shape.result
 ready c K L =
-    sent-ready (known c.before) (transpose-means _) c.sent-shape.ensures (transpose-names _ _ _ _) (fine c.before.before).none (transpose-own _)
+    sent-ready (known c.before) (transpose-means _) c.sent_shape-shape.ensures (transpose-names _ _ _ _) (fine c.before.before).none (transpose-own _)
 
 -- LIMIT and SPACE.
-abbrev shaped : tie.After-late → tie.After-sent-shape
+abbrev shaped : tie.After-late-late → tie.After-sent_shape-shape
 shaped c = c.before.before
 
-roomy : (c : tie.Else2) → let s = shaped c.before in Roomy s.sent-shape.result (length (start s.before).args.out.now)
-roomy c = late-fine _ c.before.late.ensures c.before.before.count.ensures c.if2.false
+roomy : (c : tie.Else-late-ne0) → let s = shaped c.before in Roomy s.sent_shape-shape.result (length (start s.before).args.out.now)
+roomy c = late-fine _ c.before.late-late.ensures c.before.before.count-count.ensures c.if-late-ne0.false
 
-returns : tie.Need-returns
-returns c K L = early-replied (transpose-names _ _ _ _) _ (early-is c.before.before) c.before.if1.true c.refused.ensures
+returns : tie.Need-returns-then-early-ne0
+returns c K L = early-replied (transpose-names _ _ _ _) _ (early-is c.before.before) c.if-early-ne0.true c.refused.ensures
 
-returns-2 : tie.Need-returns-2
+returns-2 : tie.Need-returns-then-late-ne0
 returns-2 c K L =
     let l = c.before.before in
-    late-replied (ready (shaped l) K L) _ l.late.ensures l.before.count.ensures c.before.if2.true c.refused2.ensures
+    late-replied (ready (shaped l) K L) _ l.late-late.ensures l.count-count.ensures c.if-late-ne0.true c.refused-then-late-ne0.ensures
 
-transpose-into-requires : tie.Need-transpose-into-requires
+transpose-into-requires : tie.Need-transpose_into-requires
 transpose-into-requires c κs =
     let l = c.before.before in
     let s = shaped l in
-    sent-moves (known s.before) s.sent-shape.ensures l.before.count.ensures (roomy c.before)
+    sent-moves (known s.before) s.sent_shape-shape.ensures l.count-count.ensures (roomy c.before)
 
-returns-3 : tie.Need-returns-3
+returns-3 : tie.Need-returns
 returns-3 c K L =
     let t = c.before.before in
     let e = t.before.before in
     let l = e.before in
     let s = shaped l in
     let k = known s.before in
-    given-replied (ready s K L) _ l.late.ensures l.before.count.ensures e.if2.false
-    (sent-given k (transpose-means _) s.sent-shape.ensures c.given.ensures)
-    (sent-out k (transpose-means _) s.sent-shape.ensures _ l.before.count.ensures (roomy e) t.transpose-into.ensures)
+    given-replied (ready s K L) _ l.late-late.ensures l.count-count.ensures e.if-late-ne0.false
+    (sent-given k (transpose-means _) s.sent_shape-shape.ensures c.given.ensures)
+    (sent-out k (transpose-means _) s.sent_shape-shape.ensures _ l.count-count.ensures (roomy e) t.transpose_into.ensures)
 
-pub transpose-spec : {M : Type 1} → statement M
-transpose-spec =
+pub transpose_spec : {M : Type 1} → statement M
+transpose_spec =
     tie.close
     (tie.spec
     (λ c κs. search rules)

@@ -24,81 +24,81 @@ abbrev right : tie.Start → Operand
 right st = lent st.args.rs st.args.r.now
 
 -- FORM and ORIGIN, and what is known where neither was met.
-early-is : (c : tie.After-early-two) → c.early-two.result ≡ early (good_form (left c.before) && good_form (right c.before)) c.before.args.g
-early-is c = c.early-two.ensures ∙ ap (early _) (read32 _ c.before.ranges.g)
+early-is : (c : tie.After-early_two-early) → c.early_two-early.result ≡ early (good_form (left c.before) && good_form (right c.before)) c.args.g
+early-is c = c.early_two-early.ensures ∙ ap (early _) (read32 _ c.ranges.g)
 
-fine : (c : tie.Else1) → let st = c.before.before in FineTwo st.args.g st.args.ls st.args.l.now st.args.rs st.args.r.now
+fine : (c : tie.Else-early-ne0) → let st = c.before.before in FineTwo st.args.g st.args.ls st.args.l.now st.args.rs st.args.r.now
 fine c =
     let st = c.before.before in
     let ll : length st.args.ls.lens ≡ max_rank = search rules in
     let rl : length st.args.rs.lens ≡ max_rank = search rules in
-    fine-two _ _ _ _ _ ll rl (sym (early-is c.before) ∙ c.if1.false)
+    fine-two _ _ _ _ _ ll rl (sym (early-is c.before) ∙ c.if-early-ne0.false)
 
 -- RANK, LENGTH and DOMAIN.
-abbrev start : tie.After-sent-by → tie.Start
+abbrev start : tie.After-sent_by-sent → tie.Start
 start c = c.before.before.before
 
-asked : (c : tie.After-sent-by)
+asked : (c : tie.After-sent_by-sent)
     → let st = start c in
-    Sending c.sent-by.result (own 26 (transpose_by st.args.g (array_of (left st)) (array_of (right st))).refusals)
+    Sending c.sent_by-sent.result (own 26 (transpose_by st.args.g (array_of (left st)) (array_of (right st))).refusals)
     (map (from_zero st.args.g) (array_of (left st)).elements)
-asked c = let st = start c in rw (read32 _ st.fits.g) at (c.sent-by.ensures st.args.r.now)
+asked c = let st = start c in rw (read32 _ st.ranges.g) at (c.sent_by-sent.ensures st.args.r.now)
 
-known : (c : tie.Else2)
+known : (c : tie.Else-own-ne0)
     → let st = start c.before in
-    Known c.before.sent-by.result st.args.rs st.args.r.now (map (from_zero st.args.g) (array_of (left st)).elements)
+    Known c.sent_by-sent.result st.args.rs st.args.r.now (map (from_zero st.args.g) (array_of (left st)).elements)
 known c =
     let a = asked c.before in
-    let none = sym a.own_is ∙ c.if2.false in
+    let none = sym a.own_is ∙ c.if-own-ne0.false in
     by-known _ (array_of (left (start c.before))) (fine c.before.before).right none (a.sent none)
 
-ready : (c : tie.After-sent-shape) (K : ℤ)
+ready : (c : tie.After-sent_shape-shape) (K : ℤ)
     → let st = start c.before.before in
-    Ready 26 2 st.args.g K (left st) (right st) (transpose_by st.args.g (array_of (left st)) (array_of (right st))) c.sent-shape.result
+    Ready 26 2 st.args.g K (left st) (right st) (transpose_by st.args.g (array_of (left st)) (array_of (right st))) c.sent_shape-shape.result
 ready c K =
     let e = c.before in
-    sent-ready (known e) (by-means _ _ _) c.sent-shape.ensures (by_names _ _ _ _) (fine e.before.before).none
-    (sym (asked e.before).own_is ∙ e.if2.false)
+    sent-ready (known e) (by-means _ _ _) c.sent_shape-shape.ensures (by_names _ _ _ _) (fine e.before.before).none
+    (sym (asked e.before).own_is ∙ e.if-own-ne0.false)
 
 -- LIMIT and SPACE.
-abbrev shaped : tie.After-late → tie.After-sent-shape
+abbrev shaped : tie.After-late-late → tie.After-sent_shape-shape
 shaped c = c.before.before
 
-roomy : (c : tie.Else3) → let s = shaped c.before in Roomy s.sent-shape.result (length (start s.before.before).args.out.now)
-roomy c = late-fine _ c.before.late.ensures c.before.before.count.ensures c.if3.false
+roomy : (c : tie.Else-late-ne0) → let s = shaped c.before in Roomy s.sent_shape-shape.result (length (start s.before.before).args.out.now)
+roomy c = late-fine _ c.before.late-late.ensures c.before.before.count-total.ensures c.if-late-ne0.false
 
-returns : tie.Need-returns
-returns c K = early-replied (by_names _ _ _ _) _ (early-is c.before.before) c.before.if1.true c.refused.ensures
+returns : tie.Need-returns-then-early-ne0
+returns c K = early-replied (by_names _ _ _ _) _ (early-is c.before.before) c.if-early-ne0.true c.refused.ensures
 
-returns-2 : tie.Need-returns-2
+returns-2 : tie.Need-returns-then-own-ne0
 returns-2 c K =
     let o = c.before.before in
-    own-replied (by_names _ _ _ _) _ (fine o.before).none (asked o).own_is c.before.if2.true c.refused2.ensures
+    own-replied (by_names _ _ _ _) _ (fine o.before).none (asked o).own_is c.if-own-ne0.true c.refused-then-own-ne0.ensures
 
-returns-3 : tie.Need-returns-3
+returns-3 : tie.Need-returns-then-late-ne0
 returns-3 c K =
     let l = c.before.before in
-    late-replied (ready (shaped l) K) _ l.late.ensures l.before.count.ensures c.before.if3.true c.refused3.ensures
+    late-replied (ready (shaped l) K) _ l.late-late.ensures l.count-total.ensures c.if-late-ne0.true c.refused-then-late-ne0.ensures
 
-transpose-into-requires : tie.Need-transpose-into-requires
+transpose-into-requires : tie.Need-transpose_into-requires
 transpose-into-requires c κs =
     let l = c.before.before in
     let s = shaped l in
-    sent-moves (known s.before) s.sent-shape.ensures l.before.count.ensures (roomy c.before)
+    sent-moves (known s.before) s.sent_shape-shape.ensures l.count-total.ensures (roomy c.before)
 
-returns-4 : tie.Need-returns-4
+returns-4 : tie.Need-returns
 returns-4 c K =
     let t = c.before.before in
     let e = t.before.before in
     let l = e.before in
     let s = shaped l in
     let k = known s.before in
-    given-replied (ready s K) _ l.late.ensures l.before.count.ensures e.if3.false
-    (sent-given k (by-means _ _ _) s.sent-shape.ensures c.given.ensures)
-    (sent-out k (by-means _ _ _) s.sent-shape.ensures _ l.before.count.ensures (roomy e) t.transpose-into.ensures)
+    given-replied (ready s K) _ l.late-late.ensures l.count-total.ensures e.if-late-ne0.false
+    (sent-given k (by-means _ _ _) s.sent_shape-shape.ensures c.given.ensures)
+    (sent-out k (by-means _ _ _) s.sent_shape-shape.ensures _ l.count-total.ensures (roomy e) t.transpose_into.ensures)
 
-pub transpose-by-spec : {M : Type 1} → statement M
-transpose-by-spec =
+pub transpose_by_spec : {M : Type 1} → statement M
+transpose_by_spec =
     tie.close
     (tie.spec
     (λ c κs. search rules)

@@ -16,40 +16,40 @@ known c =
     let b : length c.args.rs.lens ≡ max_rank = search rules in
     passed a b c.requires.sends
 
-abbrev start : tie.After-strides → tie.Start
+abbrev start : tie.After-strides-steps → tie.Start
 start c = c.before.before.before
 
-abbrev counted : tie.After-walk-arg3 → tie.After-strides
+abbrev counted : tie.After-walk-arg-3-1 → tie.After-strides-steps
 counted c = c.before.before.before.before.before
 
 walk-requires : tie.Need-walk-requires
 walk-requires c κs =
     let w = counted c in
     let st = start w in
-    into-walk (known st) st.pre _ w.strides.ensures _ (omega arith)
-    (length-take-le _ st.args.out.now (rw sub-zero st.pre.space) ∙ sub-zero st.args.total)
+    into-walk (known st) st.requires _ w.strides-steps.ensures _ (omega arith)
+    (length-take-le _ st.args.out.now (rw sub-zero st.requires.space) ∙ sub-zero st.args.total)
 
-pub transpose-into-spec : {M : Type 1} → statement M
-transpose-into-spec =
+pub transpose_into_spec : {M : Type 1} → statement M
+transpose_into_spec =
     tie.close
     (tie.spec
-    (λ c. into-none (known c.before) c.before.requires _ (omega arith))
+    (λ c. into-none (known c.before) c.requires _ (omega arith))
     (λ c κs. let st = c.before.before in (st.requires.sends, into-some (known st) st.requires (omega arith)))
     (λ c. search rules)
     (λ c. search rules)
     (λ c.
     let st = start c.before in
     let n : length st.args.shape.lens ≡ max_rank = search rules in
-    omega (arith, axes-high (known st) st.pre))
+    omega (arith, axes-high (known st) st.requires))
     (λ c. search rules)
     (λ c. search rules)
     (λ c.
     let w = c.before.before.before in
-    let n : length w.strides.result ≡ max_rank = search rules in
+    let n : length w.strides-steps.result ≡ max_rank = search rules in
     omega (arith, axes-high (known (start w)) (start w).requires))
     (λ c. search rules)
     (λ c. search rules)
     (λ c. let s = c.before.before in omega (arith, (start s.before.before).requires.space))
     walk-requires
     (λ c. search rules)
-    (λ c. let w = counted c.before.before in into-all (known (start w)) (start w).pre _ w.strides.ensures _ _ c.before.walk.ensures))
+    (λ c. let w = counted c.before.before in into-all (known (start w)) (start w).requires _ w.strides-steps.ensures _ _ c.walk.ensures))

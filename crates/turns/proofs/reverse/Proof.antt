@@ -19,35 +19,35 @@ abbrev right : tie.Start → Operand
 right st = lent st.args.rs st.args.r.now
 
 -- FORM and ORIGIN, and what is known where neither was met.
-early-is : (c : tie.After-early-one) → c.early-one.result ≡ early (good_form (right c.before)) c.before.args.g
-early-is c = c.early-one.ensures ∙ ap (early _) (read32 _ c.before.ranges.g)
+early-is : (c : tie.After-early_one-early) → c.early_one-early.result ≡ early (good_form (right c.before)) c.before.args.g
+early-is c = c.early_one-early.ensures ∙ ap (early _) (read32 _ c.before.ranges.g)
 
-fine : (c : tie.Else1) → FineOne c.before.before.args.g c.before.before.args.rs c.before.before.args.r.now
+fine : (c : tie.Else-early-ne0) → FineOne c.before.before.args.g c.before.before.args.rs c.before.before.args.r.now
 fine c =
     let long : length c.before.before.args.rs.lens ≡ max_rank = search rules in
-    fine-one _ _ _ long (sym (early-is c.before) ∙ c.if1.false)
+    fine-one _ _ _ long (sym (early-is c.before) ∙ c.if-early-ne0.false)
 
 -- AXIS, and the axis that was found.
-abbrev asked : tie.After-position → tie.Else1
+abbrev asked : tie.After-position → tie.Else-early-ne0
 asked c = c.before.before
 
 abbrev start : tie.After-position → tie.Start
 start c = (asked c).before.before
 
-found : (c : tie.After-position) → c.position.result ≡ found_of (start c).args.k (start c).args.g c.before.axes-of.result
+found : (c : tie.After-position) → c.position.result ≡ found_of (start c).args.k (start c).args.g c.axes_of.result
 found c = c.position.ensures ∙ read_found _ _ (start c).ranges.k (start c).ranges.g _
 
-axes : (c : tie.After-position) → rank (as_vector (array_of (right (start c)))) ≡ c.before.axes-of.result
-axes c = axes-are (start c).args.rs (start c).args.r.now (fine (asked c)).operand.rank_is c.before.axes-of.ensures
+axes : (c : tie.After-position) → rank (as_vector (array_of (right (start c)))) ≡ c.axes_of.result
+axes c = axes-are (start c).args.rs (start c).args.r.now (fine (asked c)).operand.rank_is c.axes_of.ensures
 
-abbrev searched : tie.After-known-told → tie.After-position
+abbrev searched : tie.In-At → tie.After-position
 searched c = c.before.before.before
 
-axis-is : (c : tie.After-known-told)
-    → IsAt (start (searched c)).args.k (start (searched c)).args.g (searched c).before.axes-of.result c.before.axis.given.0.0
-axis-is c = found_at _ _ _ _ (sym c.before.axis.given.1 ∙ found (searched c))
+axis-is : (c : tie.In-At)
+    → IsAt (start (searched c)).args.k (start (searched c)).args.g (searched c).axes_of.result c.before.axis-1.given.0.0
+axis-is c = found_at _ _ _ _ (sym c.before.axis-1.given.1 ∙ found (searched c))
 
-ready : (c : tie.After-known-told) (L : Operand)
+ready : (c : tie.In-At) (L : Operand)
     → let st = start (searched c) in
     Ready 14 1 st.args.g st.args.k L (right st) (reverse st.args.g st.args.k (array_of (right st))) st.args.rs
 ready c L =
@@ -61,48 +61,48 @@ ready c L =
     }
 
 -- LIMIT and SPACE.
-abbrev placed : tie.After-late → tie.After-known-told
+abbrev placed : tie.After-late-late → tie.In-At
 placed c = c.before.before
 
-roomy : (c : tie.Else2) → let st = start (searched (placed c.before)) in Roomy st.args.rs (length st.args.out.now)
-roomy c = late-fine _ c.before.late.ensures c.before.before.count.ensures c.if2.false
+roomy : (c : tie.Else-late-ne0) → let st = start (searched (placed c.before)) in Roomy st.args.rs (length st.args.out.now)
+roomy c = late-fine _ c.before.late-late.ensures c.before.before.count-count.ensures c.if-late-ne0.false
 
-returns : tie.Need-returns
-returns c L = early-replied (reverse-names _ _ _ _) _ (early-is c.before.before) c.before.if1.true c.refused.ensures
+returns : tie.Need-returns-then-early-ne0
+returns c L = early-replied (reverse-names _ _ _ _) _ (early-is c.before.before) c.if-early-ne0.true c.refused.ensures
 
-returns-2 : tie.Need-returns-2
+returns-2 : tie.Need-returns-in_default
 returns-2 c L =
-    let p = c.before.before.before in
+    let p = c.before.before in
     let f = fine (asked p) in
-    let w = found_none (start p).args.k (start p).args.g p.before.axes-of.result (sym c.before.enum_told.given.1 ∙ found p) in
+    let w = found_none (start p).args.k (start p).args.g p.axes_of.result (sym c.enum_told-1.given.1 ∙ found p) in
     own-replied (reverse-names _ _ _ _) _ f.none
-    (sym (reverse-own _ _ L (right (start p)) _ (axes p) ∙ rw w)) (λ z. omega arith) c.refused2.ensures
+    (sym (reverse-own _ _ L (right (start p)) _ (axes p) ∙ rw w)) (λ z. omega arith) c.refused-in_default.ensures
 
-returns-3 : tie.Need-returns-3
+returns-3 : tie.Need-returns-then-late-ne0
 returns-3 c L =
     let l =
-    c.before.before in late-replied (ready (placed l) L) _ l.late.ensures l.before.count.ensures c.before.if2.true c.refused3.ensures
+    c.before.before in late-replied (ready (placed l) L) _ l.late-late.ensures l.before.count-count.ensures c.if-late-ne0.true c.refused-then-late-ne0.ensures
 
-turn-into-requires : tie.Need-turn-into-requires
+turn-into-requires : tie.Need-turn_into-requires
 turn-into-requires c κs =
     let l = c.before.before in
     record {
       form = (fine (asked (searched (placed l)))).operand.form;
-      count-is = l.before.count.ensures;
-      space = omega (arith, (roomy c.before).space, l.before.count.ensures);
-      has = omega (arith, (axis-is (placed l)).below, (searched (placed l)).before.axes-of.ensures);
+      count-is = l.count-count.ensures;
+      space = omega (arith, (roomy c.before).space, l.count-count.ensures);
+      has = omega (arith, (axis-is (placed l)).below, (searched (placed l)).axes_of.ensures);
     }
 
-returns-4 : tie.Need-returns-4
+returns-4 : tie.Need-returns-then-early-ne0
 returns-4 c L =
     let t = c.before.before.before in
     let l = t.before.before.before in
-    given-replied (ready (placed l) L) _ l.late.ensures l.before.count.ensures t.before.before.if2.false
-    (as-result (ready (placed l) L) (roomy t.before.before).good c.before.as-result.ensures c.given.ensures)
-    (t.turn-into.ensures ∙ reverse-out _ _ _ _ (axis-is (placed l)).is _)
+    given-replied (ready (placed l) L) _ l.late-late.ensures l.before.count-count.ensures t.before.before.if-late-ne0.false
+    (as-result (ready (placed l) L) (roomy t.before.before).good c.as_result.ensures c.given.ensures)
+    (t.turn_into.ensures ∙ reverse-out _ _ _ _ (axis-is (placed l)).is _)
 
-pub reverse-spec : {M : Type 1} → statement M
-reverse-spec =
+pub reverse_spec : {M : Type 1} → statement M
+reverse_spec =
     tie.close
     (tie.spec
     (λ c κs. search rules)

@@ -4,14 +4,14 @@ use borrow.Author.Rules.{rules}
 use Rattle.turns.proofs.reverse_block.Statement.{statement}
 use Rattle.turns.proofs.reverse_block.Tie as tie
 
-returns : tie.Need-returns
+returns : tie.Need-returns-then-inner-eq1
 returns c =
     let st = c.before.before.before.before in
-    c.before.reverse-run.ensures
-    ∙ line-reversed st.args.r.now st.args.out.now st.args.n st.args.inner c.before.before.before.if1.true st.requires.0 st.requires.1
+    c.reverse_run.ensures
+    ∙ line-reversed st.args.r.now st.args.out.now st.args.n st.args.inner c.if-inner-eq1.true st.requires.0 st.requires.1
 
-pub reverse-block-spec : {M : Type 1} → statement M
-reverse-block-spec =
+pub reverse_block_spec : {M : Type 1} → statement M
+reverse_block_spec =
     tie.close
     (tie.spec
     (λ c κs. search rules)

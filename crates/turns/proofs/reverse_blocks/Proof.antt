@@ -15,49 +15,49 @@ use Rattle.turns.proofs.Rows.{turn-lt, block_back}
 use Rattle.turns.proofs.reverse_blocks.Statement.{statement}
 use Rattle.turns.proofs.reverse_blocks.Tie as tie
 
-abbrev invariant-loop : tie.invariant-loop
+abbrev invariant-loop : tie.invariant-loop-o
 invariant-loop r outer n inner out₀ size at₀ o₀ out at o = Blockwise outer (n * inner) (turned_at Back r n inner) out₀ out at o
 
-abbrev decreases-loop : tie.decreases-loop
+abbrev decreases-loop : tie.decreases-loop-o
 decreases-loop r outer n inner out₀ size at₀ o₀ out at o = outer - o
 
-abbrev start : tie.In-loop invariant-loop decreases-loop → tie.Start invariant-loop decreases-loop
+abbrev start : tie.In-loop-o invariant-loop decreases-loop → tie.Start invariant-loop decreases-loop
 start c = c.before.before
 
 -- The block lies within both.
-room : (c : tie.In-loop invariant-loop decreases-loop)
-    → (c.before.loop.at + (start c).args.n * (start c).args.inner ≤ length (start c).args.r.now)
-    × (c.before.loop.at + (start c).args.n * (start c).args.inner ≤ length c.before.loop.out)
+room : (c : tie.In-loop-o invariant-loop decreases-loop)
+    → (c.before.loop-o.at + (start c).args.n * (start c).args.inner ≤ length (start c).args.r.now)
+    × (c.before.loop-o.at + (start c).args.n * (start c).args.inner ≤ length c.before.loop-o.out)
 room c =
     let p = (start c).requires in
-    let b = c.before.loop.invariant in
+    let b = c.before.loop-o.invariant in
     (blockwise-room b _ (omega arith) p.source, rw b.long (blockwise-room b _ (omega arith) p.space))
 
-reverse-block-requires : tie.Need-reverse-block-requires invariant-loop decreases-loop
+reverse-block-requires : tie.Need-reverse_block-requires invariant-loop decreases-loop
 reverse-block-requires c κs =
     let f = c.before.before in
     let a = (start f).args in
-    let lp = f.before.loop in
+    let lp = f.loop-o in
     (part-long a.r.now lp.at (a.n * a.inner) (room f).0, part-long lp.out lp.at (a.n * a.inner) (room f).1)
 
-loop-again : tie.Need-loop-preserved invariant-loop decreases-loop
+loop-again : tie.Need-loop-o-preserved invariant-loop decreases-loop
 loop-again c =
     let f = c.before.before.before.before in
     let a = (start f).args in
-    let lp = f.before.loop in
-    blockwise-next lp.invariant c.before.reverse-block.new.1.1.1.0 (omega arith) c.before.reverse-block.auto.1.1.1.0
+    let lp = f.loop-o in
+    blockwise-next lp.invariant c.reverse_block.new.out (omega arith) c.reverse_block.auto.out
     (put-block (λ i. true) (turn_position Back a.n) a.n a.n a.inner a.r.now lp.o (λ i l w. turn-lt Back a.n i l) lp.out a.out.now
-    c.before.reverse-block.new.1.1.1.0 lp.at lp.at lp.invariant.done lp.invariant.at-is lp.invariant.at-is (c.before.reverse-block.ensures
+    c.reverse_block.new.out lp.at lp.at lp.invariant.done lp.invariant.at-is lp.invariant.at-is (c.reverse_block.ensures
     ∙ block_back (take (lp.at + a.n * a.inner - lp.at) (drop lp.at a.r.now)) a.n a.inner))
 
 returns : tie.Need-returns invariant-loop decreases-loop
 returns c =
-    let a = c.before.before.args in
+    let a = c.args in
     let e : a.outer * (a.n * a.inner) ≡ a.outer * a.n * a.inner = omega arith in
-    blockwise-all c.before.loop.invariant (omega arith) ∙ ap (λ k. filled (turned_at Back a.r.now a.n a.inner) k a.out.now) e
+    blockwise-all c.loop-o.invariant (omega arith) ∙ ap (λ k. filled (turned_at Back a.r.now a.n a.inner) k a.out.now) e
 
-pub reverse-blocks-spec : {M : Type 1} → statement M
-reverse-blocks-spec =
+pub reverse_blocks_spec : {M : Type 1} → statement M
+reverse_blocks_spec =
     tie.close
     (tie.spec
     invariant-loop

@@ -13,40 +13,40 @@ use Rattle.turns.proofs.Rows.{row_before, reversed-row}
 use Rattle.turns.proofs.reverse_rows.Statement.{statement}
 use Rattle.turns.proofs.reverse_rows.Tie as tie
 
-abbrev invariant-loop : tie.invariant-loop
+abbrev invariant-loop : tie.invariant-loop-i
 invariant-loop r n inner out₀ to₀ i₀ out to i = (i ≤ n) × ((to + i * inner ≡ n * inner) × ((length out ≡ length out₀) × (out ≡ filled (back_at r n inner) to out₀)))
 
-abbrev decreases-loop : tie.decreases-loop
+abbrev decreases-loop : tie.decreases-loop-i
 decreases-loop r n inner out₀ to₀ i₀ out to i = i
 
-row : (c : tie.In-loop invariant-loop decreases-loop) → c.before.loop.i * c.before.before.args.inner
-    ≡ (c.before.loop.i - 1) * c.before.before.args.inner + c.before.before.args.inner
-row c = row_before c.before.loop.i c.before.before.args.inner (omega arith)
+row : (c : tie.In-loop-i invariant-loop decreases-loop) → c.before.loop-i.i * c.before.before.args.inner
+    ≡ (c.before.loop-i.i - 1) * c.before.before.args.inner + c.before.before.args.inner
+row c = row_before c.before.loop-i.i c.before.before.args.inner (omega arith)
 
 -- Where the row starts.
-from_is : (c : tie.After-min invariant-loop decreases-loop) → c.min.result ≡ (c.before.before.loop.i - 1) * c.before.before.before.args.inner
-from_is c = c.min.ensures ∙ min-eq_left (omega (arith, row c.before))
+from_is : (c : tie.After-min-from invariant-loop decreases-loop) → c.min-from.result ≡ (c.before.before.loop-i.i - 1) * c.before.before.before.args.inner
+from_is c = c.min-from.ensures ∙ min-eq_left (omega (arith, row c.before))
 
-loop-again : tie.Need-loop-preserved invariant-loop decreases-loop
+loop-again : tie.Need-loop-i-preserved invariant-loop decreases-loop
 loop-again c =
     let f = c.before.before.before.before in
     let e = row f.before in
     let q = from_is f in
-    let lp = f.before.before.loop in
-    let a = f.before.before.before.args in
+    let lp = f.loop-i in
+    let a = f.args in
     let r = a.r.now in
-    let from = f.min.result in (
+    let from = f.min-from.result in (
       omega arith,
       (
         omega arith,
         (
-          same_len_mid lp.to (lp.to + a.inner - lp.to) lp.out c.before.copy-row.new.1.0 c.before.copy-row.auto.1.0
+          same_len_mid lp.to (lp.to + a.inner - lp.to) lp.out c.copy_row.new.out c.copy_row.auto.out
               ∙ lp.invariant.1.1.0,
           put-copied (back_at r a.n a.inner) lp.to a.inner _ lp.out a.out.now _ lp.invariant.1.1.1 refl (omega arith) r
               from (from + a.inner) (pos 0) refl (omega arith)
               (λ x b. ap (λ k. get_or r k (pos 0)) (reversed-row a.n a.inner lp.i lp.to x (omega arith) lp.invariant.0 lp.invariant.1.0 b
               ∙ ap (λ k. k + x) (sym q)))
-              c.before.copy-row.ensures,
+              c.copy_row.ensures,
         ),
       ),
     )
@@ -55,15 +55,15 @@ returns : tie.Need-returns invariant-loop decreases-loop
 returns c =
     let st = c.before.before in
     let a = st.args in
-    let lp = c.before.loop in
+    let lp = c.loop-i in
     let z : lp.i ≡ 0 = omega arith in
     let e : lp.to ≡ a.n * a.inner = omega (arith, lp.invariant.1.0, ap (λ k. k * a.inner) z, zero-mul a.inner) in
     lp.invariant.1.1.1
     ∙ ap (λ k. filled (back_at a.r.now a.n a.inner) k a.out.now) e
     ∙ filled-whole _ (a.n * a.inner) a.out.now (omega (arith, st.requires))
 
-pub reverse-rows-spec : {M : Type 1} → statement M
-reverse-rows-spec =
+pub reverse_rows_spec : {M : Type 1} → statement M
+reverse_rows_spec =
     tie.close
     (tie.spec
     invariant-loop

@@ -12,60 +12,60 @@ use Rattle.turns.proofs.Groups.{group-step}
 use Rattle.turns.proofs.rotate_groups.Statement.{statement}
 use Rattle.turns.proofs.rotate_groups.Tie as tie
 
-abbrev invariant-loop : tie.invariant-loop
+abbrev invariant-loop : tie.invariant-loop-o
 invariant-loop r outer size cut out₀ group at₀ o₀ out at o = Blockwise outer size (cut_blocks r size cut) out₀ out at o
 
-abbrev decreases-loop : tie.decreases-loop
+abbrev decreases-loop : tie.decreases-loop-o
 decreases-loop r outer size cut out₀ group at₀ o₀ out at o = outer - o
 
-abbrev start : tie.After-min invariant-loop decreases-loop → tie.Start invariant-loop decreases-loop
+abbrev start : tie.After-min-some invariant-loop decreases-loop → tie.Start invariant-loop decreases-loop
 start c = c.before.before.before.before
 
-abbrev turn : tie.After-min invariant-loop decreases-loop → tie.At-loop invariant-loop decreases-loop
+abbrev turn : tie.After-min-some invariant-loop decreases-loop → tie.At-loop-o invariant-loop decreases-loop
 turn c = c.before.before
 
 -- The group lies within both.
-room : (c : tie.After-min invariant-loop decreases-loop)
-    → ((turn c).loop.at + c.min.result * (start c).args.size ≤ length (start c).args.r.now)
-    × ((turn c).loop.at + c.min.result * (start c).args.size ≤ length (turn c).loop.out)
+room : (c : tie.After-min-some invariant-loop decreases-loop)
+    → ((turn c).loop-o.at + c.min-some.result * (start c).args.size ≤ length (start c).args.r.now)
+    × ((turn c).loop-o.at + c.min-some.result * (start c).args.size ≤ length (turn c).loop-o.out)
 room c =
     let st = start c in
-    let b = (turn c).loop.invariant in
-    let m = mul-le-mul_right {m = (turn c).loop.o + c.min.result} {n = st.args.outer} st.args.size (omega (arith, c.min.ensures)) in
-    (omega (arith, b.at-is, st.pre.1.source), omega (arith, b.at-is, b.long, st.pre.1.space))
+    let b = (turn c).loop-o.invariant in
+    let m = mul-le-mul_right {m = (turn c).loop-o.o + c.min-some.result} {n = st.args.outer} st.args.size (omega (arith, c.min-some.ensures)) in
+    (omega (arith, b.at-is, st.requires.1.source), omega (arith, b.at-is, b.long, st.requires.1.space))
 
-rotate-group-requires : tie.Need-rotate-group-requires invariant-loop decreases-loop
+rotate-group-requires : tie.Need-rotate_group-requires invariant-loop decreases-loop
 rotate-group-requires c κs =
     let f = c.before.before in
     let a = (start f).args in
-    let lp = (turn f).loop in
-    let w : ℕ = f.min.result * a.size in
+    let lp = (turn f).loop-o in
+    let w : ℕ = f.min-some.result * a.size in
     let m = room f in (
       (start f).requires.0,
       record {
-        some = omega (arith, f.min.ensures, f.before.before.before.blocks-in-group.ensures);
+        some = omega (arith, f.min-some.ensures, f.blocks_in_group-group.ensures);
         source = omega (arith, part-long a.r.now lp.at w m.0);
         space = omega (arith, part-long lp.out lp.at w m.1);
       },
     )
 
-loop-again : tie.Need-loop-preserved invariant-loop decreases-loop
+loop-again : tie.Need-loop-o-preserved invariant-loop decreases-loop
 loop-again c =
     let f = c.before.before.before.before in
     let a = (start f).args in
-    let lp = (turn f).loop in
+    let lp = (turn f).loop-o in
     record {
-      some = omega (arith, f.min.ensures);
+      some = omega (arith, f.min-some.ensures);
       at-is = omega (arith, lp.inv.at-is);
       long =
-          same_len_mid lp.at (lp.at + f.min.result * a.size - lp.at) lp.out c.before.rotate-group.new.1.1.1.1.0
-          c.before.rotate-group.auto.1.1.1.1.0
+          same_len_mid lp.at (lp.at + f.min-some.result * a.size - lp.at) lp.out c.rotate_group.new.out
+          c.rotate_group.auto.out
           ∙ lp.inv.long;
-      done = group-step a.r.now a.cut f.min.result lp.inv (room f).1 c.before.rotate-group.ensures;
+      done = group-step a.r.now a.cut f.min-some.result lp.inv (room f).1 c.rotate_group.ensures;
     }
 
-pub rotate-groups-spec : {M : Type 1} → statement M
-rotate-groups-spec =
+pub rotate_groups_spec : {M : Type 1} → statement M
+rotate_groups_spec =
     tie.close
     (tie.spec
     invariant-loop
@@ -89,4 +89,4 @@ rotate-groups-spec =
     (λ c. search rules)
     loop-again
     (λ c. search rules)
-    (λ c. blockwise-all c.before.loop.invariant (omega arith)))
+    (λ c. blockwise-all c.loop-o.invariant (omega arith)))

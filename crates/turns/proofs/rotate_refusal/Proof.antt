@@ -30,47 +30,47 @@ good st =
 abbrev start : tie.After-position → tie.Start
 start c = c.before.before.before.before
 
-axes : (c : tie.After-position) (b : List ℤ) → rank (as_vector (array_of (lent (start c).args.rs b))) ≡ c.before.axes-of.result
+axes : (c : tie.After-position) (b : List ℤ) → rank (as_vector (array_of (lent (start c).args.rs b))) ≡ c.axes_of.result
 axes c b =
     let long : length (start c).args.rs.lens ≡ max_rank = search rules in
-    axes-are (start c).args.rs b (rank-of _ b long (start c).requires.1) c.before.axes-of.ensures
+    axes-are (start c).args.rs b (rank-of _ b long (start c).requires.1) c.axes_of.ensures
 
-found : (c : tie.After-position) → c.position.result ≡ found_of (start c).args.k (start c).args.g c.before.axes-of.result
+found : (c : tie.After-position) → c.position.result ≡ found_of (start c).args.k (start c).args.g c.axes_of.result
 found c = c.position.ensures ∙ read_found _ _ (start c).ranges.k (start c).ranges.g _
 
-returns : tie.Need-returns
+returns : tie.Need-returns-then-ls-gt1
 returns c b =
     let st = c.before.before in
     sym (rotate-own st.args.g st.args.k (left st) (lent st.args.rs b) _ refl ∙ rw (list-no (good st) (omega arith)))
 
-returns-2 : tie.Need-returns-2
+returns-2 : tie.Need-returns-in_default
 returns-2 c b =
-    let p = c.before.before in
+    let p = c.before in
     let st = start p in
-    let w = found_none st.args.k st.args.g p.before.axes-of.result (sym c.enum-told2.given.1 ∙ found p) in
+    let w = found_none st.args.k st.args.g p.axes_of.result (sym c.enum_told-in_default-1.given.1 ∙ found p) in
     sym (rotate-own st.args.g st.args.k (left st) (lent st.args.rs b) _ (axes p b) ∙ rw (list-yes (good st) (omega arith), w))
 
 -- L is a list, and K names an axis: what is left is LENGTH.
 rest : (c : tie.After-count) (b : List ℤ)
-    → let st = start c.before.before.before in
+    → let st = start c.before.before in
     own 25 (rotate st.args.g st.args.k (array_of (left st)) (array_of (lent st.args.rs b))).refusals
     ≡ cond (not (eqb (length (array_of (left st)).elements) 1)) (number LENGTH) 0
 rest c b =
-    let p = c.before.before.before in
+    let p = c.before.before in
     let st = start p in
-    let a = found_at st.args.k st.args.g p.before.axes-of.result _ (sym c.before.enum_told.given.1 ∙ found p) in
+    let a = found_at st.args.k st.args.g p.axes_of.result _ (sym c.enum_told-1.given.1 ∙ found p) in
     rotate-own st.args.g st.args.k (left st) (lent st.args.rs b) _ (axes p b) ∙ rw (list-yes (good st) (omega arith), a.inside)
 
-returns-3 : tie.Need-returns-3
+returns-3 : tie.Need-returns-then-count-eq1
 returns-3 c b =
-    sym (rest c.before b ∙ rw (counts-yes (good (start c.before.before.before.before)) 1 (sym c.before.count.ensures ∙ c.if2.true)))
+    sym (rest c.before b ∙ rw (counts-yes (good (start c.before.before.before)) 1 (sym c.count.ensures ∙ c.if-count-eq1.true)))
 
-returns-4 : tie.Need-returns-4
+returns-4 : tie.Need-returns-else-count-eq1
 returns-4 c b =
-    sym (rest c.before b ∙ rw (counts-no (good (start c.before.before.before.before)) 1 (λ e. c.if2.false (c.before.count.ensures ∙ e))))
+    sym (rest c.before b ∙ rw (counts-no (good (start c.before.before.before)) 1 (λ e. c.if-count-eq1.false (c.count.ensures ∙ e))))
 
-pub rotate-refusal-spec : {M : Type 1} → statement M
-rotate-refusal-spec =
+pub rotate_refusal_spec : {M : Type 1} → statement M
+rotate_refusal_spec =
     tie.close
     (tie.spec
     returns

@@ -11,10 +11,10 @@ use Rattle.turns.proofs.Groups.{Moved, first_run, Bounds, bounds, shift-step, mo
 use Rattle.turns.proofs.shift.Statement.{statement}
 use Rattle.turns.proofs.shift.Tie as tie
 
-abbrev invariant-loop : tie.invariant-loop
+abbrev invariant-loop : tie.invariant-loop-o
 invariant-loop r outer size from to before after out₀ part run stop end at₀ o₀ out at o = Blockwise outer size (cut_blocks r size (from + before)) out₀ out at o
 
-abbrev decreases-loop : tie.decreases-loop
+abbrev decreases-loop : tie.decreases-loop-o
 decreases-loop r outer size from to before after out₀ part run stop end at₀ o₀ out at o = outer - o
 
 -- The parts lie within the blocks.
@@ -22,59 +22,59 @@ limits : (st : tie.Start invariant-loop decreases-loop)
     → Bounds st.args.size st.args.from st.args.to st.args.before st.args.after × (st.args.size ≤ st.args.outer * st.args.size)
 limits st = (bounds st.requires.0, omega (arith, row_fits 0 st.args.outer st.args.size st.requires.1.some))
 
-abbrev start : tie.After-out invariant-loop decreases-loop → tie.Start invariant-loop decreases-loop
+abbrev start : tie.After-out-1 invariant-loop decreases-loop → tie.Start invariant-loop decreases-loop
 start c = c.before.before.before.before
 
 -- What the first run leaves.
-first : (c : tie.After-out invariant-loop decreases-loop)
+first : (c : tie.After-out-1 invariant-loop decreases-loop)
     → let a = (start c).args in
     let total = a.outer * a.size in
-    Moved a.r.now a.out.now (put_mid a.to (a.to + (total - (a.from + a.to)) - a.to) a.out.now c.before.copy_run.new.1.0) a.from
+    Moved a.r.now a.out.now (put_mid a.to (a.to + (total - (a.from + a.to)) - a.to) a.out.now c.before.copy_run.new.out) a.from
     a.to
     (a.to + (total - (a.from + a.to))) total
 first c =
     let st = start c in
     let a = st.args in
     let b = limits st in
-    first_run _ (omega (arith, b, st.pre.1.source)) (omega (arith, b)) st.pre.1.space c.before.copy_run.ensures
+    first_run _ (omega (arith, b, st.requires.1.source)) (omega (arith, b)) st.requires.1.space c.before.copy_run.ensures
 
 -- The block lies within both, and so do the parts of it; the buffer keeps its length.
-room : (c : tie.In-loop invariant-loop decreases-loop)
+room : (c : tie.In-loop-o invariant-loop decreases-loop)
     → let a = (start c.before.before).args in
-    (c.before.loop.at + a.size ≤ length a.r.now)
-    × (c.before.loop.at + a.size ≤ length c.before.loop.out)
+    (c.before.loop-o.at + a.size ≤ length a.r.now)
+    × (c.before.loop-o.at + a.size ≤ length c.before.loop-o.out)
     × Bounds a.size a.from a.to a.before a.after
 room c =
     let st = start c.before.before in
-    let f = c.before.loop.invariant in
+    let f = c.before.loop-o.invariant in
     let e = f.long ∙ (first c.before.before).long in
-    (blockwise-room f _ (omega arith) st.pre.1.source, omega (arith, blockwise-room f _ (omega arith) st.pre.1.space), (limits st).0)
+    (blockwise-room f _ (omega arith) st.requires.1.source, omega (arith, blockwise-room f _ (omega arith) st.requires.1.space), (limits st).0)
 
-loop-again : tie.Need-loop-preserved invariant-loop decreases-loop
+loop-again : tie.Need-loop-o-preserved invariant-loop decreases-loop
 loop-again c =
     let f = c.before.before.before.before in
     let p = f.before.before in
     let st = start p in
     let a = st.args in
-    let lp = f.before.loop in
+    let lp = f.loop-o in
     let target = lp.at + a.after in
     record {
       some = omega arith;
       at-is = omega (arith, lp.invariant.at-is);
       long =
-          same_len_mid target (target + (a.from + a.to) - target) lp.out c.before.copy-run2.new.1.0 c.before.copy-run2.auto.1.0
+          same_len_mid target (target + (a.from + a.to) - target) lp.out c.copy_run-in-loop-o.new.out c.copy_run-in-loop-o.auto.out
           ∙ lp.invariant.long;
-      done = shift-step st.pre.0 st.pre.1 (first p) (omega arith) lp.invariant c.before.copy-run2.ensures;
+      done = shift-step st.requires.0 st.requires.1 (first p) (omega arith) lp.invariant c.copy_run-in-loop-o.ensures;
     }
 
 returns : tie.Need-returns invariant-loop decreases-loop
 returns c =
     let a = (start c.before.before).args in
     moved_all a.outer a.size (cut_blocks a.r.now a.size (a.from + a.before)) (first c.before.before)
-    (blockwise-all c.before.loop.invariant (omega arith))
+    (blockwise-all c.loop-o.invariant (omega arith))
 
-pub shift-spec : {M : Type 1} → statement M
-shift-spec =
+pub shift_spec : {M : Type 1} → statement M
+shift_spec =
     tie.close
     (tie.spec
     invariant-loop
@@ -88,10 +88,10 @@ shift-spec =
     (λ c. search rules)
     (λ c. omega (arith, limits c))
     (λ c. omega (arith, limits c, c.requires.1))
-    (λ c. omega (arith, limits c.before, c.before.requires.1))
+    (λ c. omega (arith, limits c.before, c.requires.1))
     (λ c. search rules)
     (λ c. omega (arith, limits c.before))
-    (λ c. omega (arith, limits c.before, c.before.requires.1))
+    (λ c. omega (arith, limits c.before, c.requires.1))
     (λ c κs. search rules)
     (λ c. blockwise-none _ _ _ _)
     (λ c. omega (arith, room c))

@@ -19,38 +19,38 @@ use Rattle.turns.proofs.turn_blocks.Statement.{statement}
 use Rattle.turns.proofs.turn_blocks.Tie as tie
 
 -- All elements of the blocks.
-abbrev start : tie.After-modulo → tie.Start
+abbrev start : tie.After-modulo-rows → tie.Start
 start c = c.before.before.before.before
 
 -- The amount as rows.
-rows_is : (c : tie.After-modulo) → c.modulo.result ≡ cond (eqb (start c).args.n 0) 0 (modulo c.before.before.turn.given.0.0 (start c).args.n)
+rows_is : (c : tie.After-modulo-rows) → c.modulo-rows.result ≡ cond (eqb (start c).args.n 0) 0 (modulo c.before.before.turn-1.given.0.0 (start c).args.n)
 rows_is c =
-    let f : SFits w32 c.before.before.turn.given.0.0 = search rules in
-    c.modulo.ensures ∙ ap (λ z. cond (eqb (start c).args.n 0) 0 (modulo z (start c).args.n)) (to_z-of_z f)
+    let f : SFits w32 c.before.before.turn-1.given.0.0 = search rules in
+    c.modulo-rows.ensures ∙ ap (λ z. cond (eqb (start c).args.n 0) 0 (modulo z (start c).args.n)) (to_z-of_z f)
 
-small : (c : tie.After-modulo) → (c.modulo.result * (start c).args.inner ≤ (start c).args.n * (start c).args.inner)
+small : (c : tie.After-modulo-rows) → (c.modulo-rows.result * (start c).args.inner ≤ (start c).args.n * (start c).args.inner)
     × ((start c).args.n * (start c).args.inner ≤ length (start c).args.r.now)
 small c =
     let st = start c in
     let a = st.args in
-    (cut-le _ a.n _ st.pre.0 (rows_is c) a.inner, omega (arith, row_fits 0 a.outer (a.n * a.inner) st.pre.1.some, st.pre.1.source))
+    (cut-le _ a.n _ st.requires.0 (rows_is c) a.inner, omega (arith, row_fits 0 a.outer (a.n * a.inner) st.requires.1.some, st.requires.1.source))
 
-returns : tie.Need-returns
+returns : tie.Need-returns-in-Back
 returns c =
     let e = c.before.before.before in
-    let a = e.before.before.args in
-    c.before.reverse-blocks.ensures ∙ ap (λ (t : Turn). filled (turned_at t a.r.now a.n a.inner) (a.outer * a.n * a.inner) a.out.now)
-    (sym e.enum_told.given.1)
+    let a = e.args in
+    c.reverse_blocks.ensures ∙ ap (λ (t : Turn). filled (turned_at t a.r.now a.n a.inner) (a.outer * a.n * a.inner) a.out.now)
+    (sym e.enum_told-1.given.1)
 
-returns-2 : tie.Need-returns-2
+returns-2 : tie.Need-returns-in-By
 returns-2 c =
     let m = c.before.before.before in
     let a = (start m).args in
-    c.before.rotate-groups.ensures ∙ cut-turned a.r.now a.outer a.inner _ a.n _ (start m).requires.0 (rows_is m) a.out.now
-    ∙ ap (λ (t : Turn). filled (turned_at t a.r.now a.n a.inner) (a.outer * a.n * a.inner) a.out.now) (sym m.before.before.turn.given.1)
+    c.rotate_groups.ensures ∙ cut-turned a.r.now a.outer a.inner _ a.n _ (start m).requires.0 (rows_is m) a.out.now
+    ∙ ap (λ (t : Turn). filled (turned_at t a.r.now a.n a.inner) (a.outer * a.n * a.inner) a.out.now) (sym m.turn-1.given.1)
 
-pub turn-blocks-spec : {M : Type 1} → statement M
-turn-blocks-spec =
+pub turn_blocks_spec : {M : Type 1} → statement M
+turn_blocks_spec =
     tie.close
     (tie.spec
     (λ c. search rules)

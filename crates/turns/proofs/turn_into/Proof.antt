@@ -16,25 +16,25 @@ good st =
     lent-good _ _ long st.requires.form
 
 -- What is known around the axis of an array with elements.
-abbrev start : tie.After-around → tie.Start
+abbrev start : tie.After-around-w → tie.Start
 start c = c.before.before.before.before
 
-around : (c : tie.After-around) → Surrounds (start c).args.s (start c).args.axis c.around.result
-around c = surrounds (good (start c)) (omega (arith, (start c).requires.has)) (omega (arith, (start c).requires.count-is)) c.around.ensures
+around : (c : tie.After-around-w) → Surrounds (start c).args.s (start c).args.axis c.around-w.result
+around c = surrounds (good (start c)) (omega (arith, (start c).requires.has)) (omega (arith, (start c).requires.count-is)) c.around-w.ensures
 
-part-copy-run-end : tie.Need-slice-bounds-copy-run-end
-part-copy-run-end c = let g = good c.before.before in omega (arith, g.room, g.count-is, c.before.before.requires.count-is)
+part-copy-run-end : tie.Need-slice_bounds-copy_run-end
+part-copy-run-end c = let g = good c.before.before in omega (arith, g.room, g.count-is, c.requires.count-is)
 
-returns : tie.Need-returns
+returns : tie.Need-returns-then-s-eq0
 returns c =
     let t = c.before.before.before.before in
     let st = t.before.before in
-    into-scalar (good st) st.args.out.now st.args.axis _ t.if1.true st.requires.count-is st.requires.space c.before.copy_run.ensures
+    into-scalar (good st) st.args.out.now st.args.axis _ t.if-s-eq0.true st.requires.count-is st.requires.space c.copy_run.ensures
 
-returns-2 : tie.Need-returns-2
-returns-2 c = let st = c.before.before.before in into-none (good st) st.args.out.now st.args.axis _ (sym st.requires.count-is ∙ c.if2.true)
+returns-2 : tie.Need-returns-then-total-eq0
+returns-2 c = let st = c.before.before.before in into-none (good st) st.args.out.now st.args.axis _ (sym st.requires.count-is ∙ c.if-total-eq0.true)
 
-turn-blocks-requires : tie.Need-turn-blocks-requires
+turn-blocks-requires : tie.Need-turn_blocks-requires
 turn-blocks-requires c κs =
     let w = around c.before in
     let st = start c.before in
@@ -43,19 +43,19 @@ turn-blocks-requires c κs =
       record {
         some = w.outer-some;
         source = omega (arith, w.whole, g.room);
-        space = omega (arith, w.whole, g.count-is, st.pre.count-is, st.pre.space);
+        space = omega (arith, w.whole, g.count-is, st.requires.count-is, st.requires.space);
       },
     )
 
-returns-3 : tie.Need-returns-3
+returns-3 : tie.Need-returns-then-s-eq0
 returns-3 c =
     let a = c.before.before.before in
     let st = start a in
-    into-blocks (good st) st.args.out.now st.args.axis _ a.around.ensures (around a) (turn_position st.args.turn)
-    (λ i l. turn-lt st.args.turn _ i l) c.before.turn-blocks.ensures
+    into-blocks (good st) st.args.out.now st.args.axis _ a.around-w.ensures (around a) (turn_position st.args.turn)
+    (λ i l. turn-lt st.args.turn _ i l) c.turn_blocks.ensures
 
-pub turn-into-spec : {M : Type 1} → statement M
-turn-into-spec =
+pub turn_into_spec : {M : Type 1} → statement M
+turn_into_spec =
     tie.close
     (tie.spec
     (λ c. search rules)

@@ -12,25 +12,25 @@ use Rattle.copying.specs.Steps.{filled}
 use Rattle.vectors.proofs.count_up.Statement.{statement}
 use Rattle.vectors.proofs.count_up.Tie as tie
 
-abbrev invariant-loop : tie.invariant-loop
+abbrev invariant-loop : tie.invariant-loop-i
 invariant-loop first n out₀ x₀ i₀ out x i = (i ≤ n) × ((x ≡ first + i) × ((length out ≡ length out₀) × (out ≡ filled (λ j. pos (first + j)) i out₀)))
 
-abbrev decreases-loop : tie.decreases-loop
+abbrev decreases-loop : tie.decreases-loop-i
 decreases-loop first n out₀ x₀ i₀ out x i = n - i
 
-loop-holds : tie.Need-loop-init invariant-loop decreases-loop
+loop-holds : tie.Need-loop-i-init invariant-loop decreases-loop
 loop-holds c = (omega arith, (omega arith, (refl, filled_none _ _)))
 
-add-x : tie.Need-overflow-add-x invariant-loop decreases-loop
+add-x : tie.Need-overflow_add-x invariant-loop decreases-loop
 add-x c =
-    let lp = c.before.loop in
+    let lp = c.loop-i in
     let e : to_z w32 lp.x ≡ pos lp.x = read_pos lp.x (omega arith) in
     rw e (record { sfits = omega arith })
 
-loop-again : tie.Need-loop-preserved invariant-loop decreases-loop
+loop-again : tie.Need-loop-i-preserved invariant-loop decreases-loop
 loop-again c =
     let st = c.before.before in
-    let lp = c.before.loop in
+    let lp = c.loop-i in
     let e : to_z w32 lp.x ≡ pos lp.x = read_pos lp.x (omega arith) in
     let next : of_z w32 (to_z w32 lp.x +ℤ pos 1) ≡ st.args.first + (lp.i + 1) = rw e (omega arith) in
     let done : set lp.out lp.i (to_z w32 lp.x) ≡ filled (λ j. pos (st.args.first + j)) (lp.i + 1) st.args.out.now =
@@ -39,11 +39,11 @@ loop-again c =
 
 returns : tie.Need-returns invariant-loop decreases-loop
 returns c =
-    let e : c.before.loop.i ≡ c.before.before.args.n = omega arith in
-    c.before.loop.invariant.1.1.1 ∙ rw e
+    let e : c.loop-i.i ≡ c.args.n = omega arith in
+    c.loop-i.invariant.1.1.1 ∙ rw e
 
-pub count-up-spec : {M : Type 1} → statement M
-count-up-spec =
+pub count_up_spec : {M : Type 1} → statement M
+count_up_spec =
     tie.close
     (tie.spec
     invariant-loop

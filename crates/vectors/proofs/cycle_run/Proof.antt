@@ -5,34 +5,34 @@ use Rattle.vectors.proofs.Cycling.{Runs, runs_none, runs-next, runs-rest}
 use Rattle.vectors.proofs.cycle_run.Statement.{statement}
 use Rattle.vectors.proofs.cycle_run.Tie as tie
 
-abbrev invariant-loop : tie.invariant-loop
+abbrev invariant-loop : tie.invariant-loop-i
 invariant-loop src n out₀ m i₀ out i = Runs src out₀ n out i
 
-abbrev decreases-loop : tie.decreases-loop
+abbrev decreases-loop : tie.decreases-loop-i
 decreases-loop src n out₀ m i₀ out i = n - i
 
 -- A round of the loop, and its end.
-abbrev round : tie.After-copy-row-arg2 invariant-loop decreases-loop → tie.At-loop invariant-loop decreases-loop
+abbrev round : tie.After-copy_row-arg-in-loop-i-1 invariant-loop decreases-loop → tie.At-loop-i invariant-loop decreases-loop
 round c = c.before.before.before
 
-abbrev end : tie.After-copy-run-arg2 invariant-loop decreases-loop → tie.At-loop invariant-loop decreases-loop
+abbrev end : tie.After-copy_run-arg-2-1 invariant-loop decreases-loop → tie.At-loop-i invariant-loop decreases-loop
 end c = c.before.before.before
 
-loop-holds : tie.Need-loop-init invariant-loop decreases-loop
+loop-holds : tie.Need-loop-i-init invariant-loop decreases-loop
 loop-holds c = runs_none _ _ _
 
-loop-again : tie.Need-loop-preserved invariant-loop decreases-loop
+loop-again : tie.Need-loop-i-preserved invariant-loop decreases-loop
 loop-again c =
     let lp = round c.before.before in
-    runs-next lp.loop.inv lp.before.pre.1 _ (omega arith) c.before.copy-row.ensures
+    runs-next lp.loop-i.invariant lp.requires.1 _ (omega arith) c.copy_row.ensures
 
 returns : tie.Need-returns invariant-loop decreases-loop
 returns c =
     let lp = end c.before.before in
-    runs-rest lp.loop.inv lp.before.pre.1 _ (omega arith) c.before.copy_run.ensures
+    runs-rest lp.loop-i.invariant lp.requires.1 _ (omega arith) c.copy_run.ensures
 
-pub cycle-run-spec : {M : Type 1} → statement M
-cycle-run-spec =
+pub cycle_run_spec : {M : Type 1} → statement M
+cycle_run_spec =
     tie.close
     (tie.spec
     invariant-loop

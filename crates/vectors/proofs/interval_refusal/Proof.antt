@@ -30,37 +30,37 @@ abbrev start : tie.After-count → tie.Start
 start c = c.before.before.before
 
 -- R is a list of one element: what is left is DOMAIN.
-rest : (c : tie.After-negative) (G : ℤ)
-    → let st = start c.before.before.before in own 13 (interval G (right st)).refusals ≡ cond c.negative.result (number DOMAIN) 0
+rest : (c : tie.After-negative-below) (G : ℤ)
+    → let st = start c.before.before.before in own 13 (interval G (right st)).refusals ≡ cond c.negative-below.result (number DOMAIN) 0
 rest c G =
     let n = c.before.before.before in
     let st = start n in
-    let one = sym n.count.ensures ∙ c.before.before.if2.false in
-    let z : c.negative.result ≡ negative (ends (right st)) =
-    c.negative.ensures ∙ ap negative (read32 _ (sfits_of c.before.negative-arg.given) ∙ element-at (good st) 0 (omega arith)) in
+    let one = sym n.count.ensures ∙ c.if-count-ne1.false in
+    let z : c.negative-below.result ≡ negative (ends (right st)) =
+    c.negative-below.ensures ∙ ap negative (read32 _ (sfits_of c.negative-arg-1.given) ∙ element-at (good st) 0 (omega arith)) in
     interval-own G (right st) ∙ rw (list-yes (good st) (omega arith), counts-yes (good st) 1 one, z)
 
-returns : tie.Need-returns
+returns : tie.Need-returns-then-rs-gt1
 returns c G = let st = c.before.before in sym (interval-own G (right st) ∙ rw (list-no (good st) (omega arith)))
 
-returns-2 : tie.Need-returns-2
+returns-2 : tie.Need-returns-then-count-ne1
 returns-2 c G =
     let n = c.before in
     let st = start n in
-    let none = counts-no (good st) 1 (λ e. c.if2.true (n.count.ensures ∙ e)) in
+    let none = counts-no (good st) 1 (λ e. c.if-count-ne1.true (n.count.ensures ∙ e)) in
     sym (interval-own G (right st) ∙ rw (list-yes (good st) (omega arith), none))
 
-shared-slice-copy-out-negative : tie.Need-shared-slice-copy-out-negative
-shared-slice-copy-out-negative c = let g = good (start c.before) in omega (arith, c.before.count.ensures, g.count-is, g.room)
+shared-slice-copy-out-negative : tie.Need-bounds-r-0
+shared-slice-copy-out-negative c = let g = good (start c.before) in omega (arith, c.count.ensures, g.count-is, g.room)
 
-returns-3 : tie.Need-returns-3
-returns-3 c G = sym (rest c.before G ∙ rw c.if3.true)
+returns-3 : tie.Need-returns-then-below
+returns-3 c G = sym (rest c.before G ∙ rw c.if-below.true)
 
-returns-4 : tie.Need-returns-4
-returns-4 c G = sym (rest c.before G ∙ rw c.if3.false)
+returns-4 : tie.Need-returns-else-below
+returns-4 c G = sym (rest c.before G ∙ rw c.if-below.false)
 
-pub interval-refusal-spec : {M : Type 1} → statement M
-interval-refusal-spec =
+pub interval_refusal_spec : {M : Type 1} → statement M
+interval_refusal_spec =
     tie.close
     (tie.spec
     returns

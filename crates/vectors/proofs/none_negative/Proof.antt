@@ -14,40 +14,40 @@ use Rattle.vectors.proofs.none_negative.Tie as tie
 abbrev test : ℤ → Bool
 test z = not (negative z)
 
-abbrev invariant-loop : tie.invariant-loop
+abbrev invariant-loop : tie.invariant-loop-i
 invariant-loop l n i₀ i = (i ≤ n) × (every test l ≡ every test (drop i l))
 
-abbrev decreases-loop : tie.decreases-loop
+abbrev decreases-loop : tie.decreases-loop-i
 decreases-loop l n i₀ i = n - i
 
-abbrev round : tie.After-negative invariant-loop decreases-loop → tie.At-loop invariant-loop decreases-loop
+abbrev round : tie.After-negative invariant-loop decreases-loop → tie.At-loop-i invariant-loop decreases-loop
 round c = c.before.before.before
 
 -- The test is that of the element.
-sign : (c : tie.After-negative invariant-loop decreases-loop) → c.negative.result ≡ negative (get_or (round c).before.args.l.now (round c).loop.i (pos 0))
-sign c = c.negative.ensures ∙ ap negative (read32 _ (sfits_of c.before.negative-arg.given))
+sign : (c : tie.After-negative invariant-loop decreases-loop) → c.negative.result ≡ negative (get_or (round c).args.l.now (round c).loop-i.i (pos 0))
+sign c = c.negative.ensures ∙ ap negative (read32 _ (sfits_of c.negative-arg-1.given))
 
-loop-holds : tie.Need-loop-init invariant-loop decreases-loop
+loop-holds : tie.Need-loop-i-init invariant-loop decreases-loop
 loop-holds c = (omega arith, refl)
 
-returns : tie.Need-returns invariant-loop decreases-loop
+returns : tie.Need-returns-then-negative invariant-loop decreases-loop
 returns c =
     let lp = round c.before in
-    sym (lp.loop.inv.1 ∙ every-stop test lp.before.args.l.now lp.loop.i (pos 0) (omega arith) (ap not (sym (sign c.before) ∙ c.if1.true)))
+    sym (lp.loop-i.invariant.1 ∙ every-stop test lp.args.l.now lp.loop-i.i (pos 0) (omega arith) (ap not (sym (sign c.before) ∙ c.if-negative.true)))
 
-loop-again : tie.Need-loop-preserved invariant-loop decreases-loop
+loop-again : tie.Need-loop-i-preserved invariant-loop decreases-loop
 loop-again c =
     let lp = round c.before in
-    let next = every-next test lp.before.args.l.now lp.loop.i (pos 0) (omega arith) (ap not (sym (sign c.before) ∙ c.if1.false)) in
-    (omega arith, lp.loop.inv.1 ∙ next)
+    let next = every-next test lp.args.l.now lp.loop-i.i (pos 0) (omega arith) (ap not (sym (sign c.before) ∙ c.if-negative.false)) in
+    (omega arith, lp.loop-i.invariant.1 ∙ next)
 
-returns-2 : tie.Need-returns-2 invariant-loop decreases-loop
+returns-2 : tie.Need-returns invariant-loop decreases-loop
 returns-2 c =
     let lp = c.before in
-    sym (lp.loop.invariant.1 ∙ every-end test lp.before.args.l.now lp.loop.i (omega arith))
+    sym (lp.loop-i.invariant.1 ∙ every-end test lp.args.l.now lp.loop-i.i (omega arith))
 
-pub none-negative-spec : {M : Type 1} → statement M
-none-negative-spec =
+pub none_negative_spec : {M : Type 1} → statement M
+none_negative_spec =
     tie.close
     (tie.spec
     invariant-loop

@@ -16,27 +16,27 @@ use native.Mathlib.Omega.{arith}
 use Rattle.vectors.proofs.put_lengths.Statement.{statement}
 use Rattle.vectors.proofs.put_lengths.Tie as tie
 
-abbrev invariant-loop : tie.invariant-loop
+abbrev invariant-loop : tie.invariant-loop-i
 invariant-loop out₀ s rank i₀ out i = (i ≤ rank) × ((length out ≡ length out₀) × (out ≡ filled (λ j. pos (get_or s.lens j 0)) i out₀))
 
-abbrev decreases-loop : tie.decreases-loop
+abbrev decreases-loop : tie.decreases-loop-i
 decreases-loop out₀ s rank i₀ out i = rank - i
 
-rank-high : (st : tie.Start invariant-loop decreases-loop) → st.args.t1.rank ≤ max_rank
-rank-high st = good-rank st.args.t1 st.requires.0
+rank-high : (st : tie.Start invariant-loop decreases-loop) → st.args.s.rank ≤ max_rank
+rank-high st = good-rank st.args.s st.requires.0
 
-loop-holds : tie.Need-loop-init invariant-loop decreases-loop
+loop-holds : tie.Need-loop-i-init invariant-loop decreases-loop
 loop-holds c = (omega arith, (refl, filled_none _ _))
 
-element-copy-out-element : tie.Need-element-copy-out-element invariant-loop decreases-loop
+element-copy-out-element : tie.Need-bounds-s-i invariant-loop decreases-loop
 element-copy-out-element c = let h = rank-high c.before.before in search rules
 
-loop-again : tie.Need-loop-preserved invariant-loop decreases-loop
+loop-again : tie.Need-loop-i-preserved invariant-loop decreases-loop
 loop-again c =
     let at = c.before.before.before in
     let st = at.before in
-    let lp = at.loop in
-    let s = st.args.t1 in
+    let lp = at.loop-i in
+    let s = st.args.s in
     let long : length s.lens ≡ max_rank = search rules in
     let small = rule-length s.rank s.lens lp.i st.requires.0 (length-take-le s.rank s.lens (omega (arith, rank-high st))) (omega arith) in
     let n = get_or s.lens lp.i 0 in
@@ -47,11 +47,11 @@ loop-again c =
 
 returns : tie.Need-returns invariant-loop decreases-loop
 returns c =
-    let e : c.before.loop.i ≡ c.before.before.args.t1.rank = omega arith in
-    c.before.loop.invariant.1.1 ∙ rw e
+    let e : c.loop-i.i ≡ c.args.s.rank = omega arith in
+    c.loop-i.invariant.1.1 ∙ rw e
 
-pub put-lengths-spec : {M : Type 1} → statement M
-put-lengths-spec =
+pub put_lengths_spec : {M : Type 1} → statement M
+put_lengths_spec =
     tie.close
     (tie.spec
     invariant-loop

@@ -20,57 +20,57 @@ abbrev right : tie.Start → Operand
 right st = lent st.args.rs st.args.r.now
 
 -- FORM and ORIGIN, and what is known where neither was met.
-early-is : (c : tie.After-early-one) → c.early-one.result ≡ early (good_form (right c.before)) c.before.args.g
-early-is c = c.early-one.ensures ∙ ap (early _) (read32 _ c.before.ranges.g)
+early-is : (c : tie.After-early_one-early) → c.early_one-early.result ≡ early (good_form (right c.before)) c.args.g
+early-is c = c.early_one-early.ensures ∙ ap (early _) (read32 _ c.ranges.g)
 
-fine : (c : tie.Else1) → let st = c.before.before in FineOne st.args.g st.args.rs st.args.r.now
+fine : (c : tie.Else-early-ne0) → let st = c.before.before in FineOne st.args.g st.args.rs st.args.r.now
 fine c =
     let long : length c.before.before.args.rs.lens ≡ max_rank = search rules in
-    fine-one _ _ _ long (sym (early-is c.before) ∙ c.if1.false)
+    fine-one _ _ _ long (sym (early-is c.before) ∙ c.if-early-ne0.false)
 
 -- The result is a vector of R's count.
-abbrev start : tie.After-count → tie.Start
+abbrev start : tie.After-count-count → tie.Start
 start c = c.before.before.before
 
-vector : (c : tie.After-count) → let a = array_of (right (start c)) in Vector (ravel a) c.count.result (λ i. get_or a.elements i (pos 0))
-vector c = ravel-vector (fine c.before).operand c.count.ensures
+vector : (c : tie.After-count-count) → let a = array_of (right (start c)) in Vector (ravel a) c.count-count.result (λ i. get_or a.elements i (pos 0))
+vector c = ravel-vector (fine c.before).operand c.count-count.ensures
 
-count-is : (c : tie.After-count) → let n = c.count.result in n ≡ count_of (shape_of (n ∷ []))
-count-is c = let g = (fine c.before).operand in vector-counted _ (omega (arith, g.count-is, g.count_small, c.count.ensures))
+count-is : (c : tie.After-count-count) → let n = c.count-count.result in n ≡ count_of (shape_of (n ∷ []))
+count-is c = let g = (fine c.before).operand in vector-counted _ (omega (arith, g.count-is, g.count_small, c.count-count.ensures))
 
-ready : (c : tie.After-count) (K : ℤ) (L : Operand)
-    → let st = start c in Ready 12 1 st.args.g K L (right st) (ravel (array_of (right st))) (shape_of (c.count.result ∷ []))
+ready : (c : tie.After-count-count) (K : ℤ) (L : Operand)
+    → let st = start c in Ready 12 1 st.args.g K L (right st) (ravel (array_of (right st))) (shape_of (c.count-count.result ∷ []))
 ready c K L = record { names = ravel-names _ _ _ _; fine = (fine c.before).none; none = ravel-own _; stands = vector-stands (vector c) refl }
 
-returns : tie.Need-returns
-returns c K L = early-replied (ravel-names _ _ _ _) _ (early-is c.before.before) c.before.if1.true c.refused.ensures
+returns : tie.Need-returns-then-early-ne0
+returns c K L = early-replied (ravel-names _ _ _ _) _ (early-is c.before.before) c.if-early-ne0.true c.refused.ensures
 
-returns-2 : tie.Need-returns-2
+returns-2 : tie.Need-returns-then-late-ne0
 returns-2 c K L =
     let l = c.before.before in
-    late-replied (ready l.before K L) _ l.late.ensures (count-is l.before) c.before.if2.true c.refused2.ensures
+    late-replied (ready l.before K L) _ l.late-late.ensures (count-is l.before) c.if-late-ne0.true c.refused-then-late-ne0.ensures
 
-part-copy-run-end : tie.Need-slice-bounds-copy-run-end
+part-copy-run-end : tie.Need-slice_bounds-copy_run-end
 part-copy-run-end c =
     let n = c.before.before in
     let g = (fine n.before).operand in
-    omega (arith, g.room, g.count-is, n.count.ensures)
+    omega (arith, g.room, g.count-is, n.count-count.ensures)
 
-returns-3 : tie.Need-returns-3
+returns-3 : tie.Need-returns
 returns-3 c K L =
     let p = c.before.before.before in
     let e = p.before.before.before in
     let l = e.before in
     let n = l.before in
-    let t = late-fine _ l.late.ensures (count-is n) e.if2.false in
-    given-replied (ready n K L) _ l.late.ensures (count-is n) e.if2.false
-    (vector-given (vector n) c.before.vector.ensures c.given.ensures)
+    let t = late-fine _ l.late-late.ensures (count-is n) e.if-late-ne0.false in
+    given-replied (ready n K L) _ l.late-late.ensures (count-is n) e.if-late-ne0.false
+    (vector-given (vector n) c.vector.ensures c.given.ensures)
     (p.copy_run.ensures
-    ∙ ravel-copied (fine n.before).operand n.count.ensures _ (omega (arith, t.space, count-is n))
+    ∙ ravel-copied (fine n.before).operand n.count-count.ensures _ (omega (arith, t.space, count-is n))
     ∙ vector-out (vector n) _)
 
-pub ravel-spec : {M : Type 1} → statement M
-ravel-spec =
+pub ravel_spec : {M : Type 1} → statement M
+ravel_spec =
     tie.close
     (tie.spec
     (λ c κs. search rules)

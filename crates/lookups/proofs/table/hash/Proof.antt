@@ -25,15 +25,15 @@ key-small (negsuc n) f = by (ltb 2147483648 (suc n)) refl
     by true e = omega (arith, f.sfits)
     by false e = omega arith
 
-key-is : (c : tie.After-from-zero) → c.from_zero.result ≡ key c.before.args.x
-key-is c = c.from_zero.ensures ∙ ap key (read32 _ c.before.ranges.x)
+key-is : (c : tie.After-from_zero-key) → c.from_zero-key.result ≡ key c.args.x
+key-is c = c.from_zero-key.ensures ∙ ap key (read32 _ c.ranges.x)
 
-mul-result : tie.Need-overflow-mul-result
-mul-result c = omega (arith, key-is c, key-small _ c.before.ranges.x)
+mul-result : tie.Need-overflow_mul-result
+mul-result c = omega (arith, key-is c, key-small _ c.ranges.x)
 
 returns : tie.Need-returns
 unfolding hash_of
 returns c = (ap (λ k. k * 2654435769 / 65536 % buckets) (key-is c), omega arith)
 
-pub hash-spec : {M : Type 1} → statement M
-hash-spec = tie.close (tie.spec (λ c κs. search rules) mul-result returns)
+pub hash_spec : {M : Type 1} → statement M
+hash_spec = tie.close (tie.spec (λ c κs. search rules) mul-result returns)

@@ -10,33 +10,33 @@ use Rattle.lookups.proofs.Chaining.{Linking, linking-none, linking-one}
 use Rattle.lookups.proofs.table.link.Statement.{statement}
 use Rattle.lookups.proofs.table.link.Tie as tie
 
-abbrev invariant-loop : tie.invariant-loop
+abbrev invariant-loop : tie.invariant-loop-i
 invariant-loop l heads₀ links₀ i₀ heads links i = Linking l heads links i
 
-abbrev decreases-loop : tie.decreases-loop
+abbrev decreases-loop : tie.decreases-loop-i
 decreases-loop l heads₀ links₀ i₀ heads links i = i
 
-abbrev round : tie.After-hash invariant-loop decreases-loop → tie.At-loop invariant-loop decreases-loop
+abbrev round : tie.After-hash-h invariant-loop decreases-loop → tie.At-loop-i invariant-loop decreases-loop
 round c = c.before.before.before
 
-hash-is : (c : tie.After-hash invariant-loop decreases-loop) → c.hash.result ≡ hash_of (get_or (round c).before.args.l.now ((round c).loop.i - 1) (pos 0))
-hash-is c = c.hash.ensures.0 ∙ ap hash_of (read32 _ (sfits_of c.before.hash-arg.given))
+hash-is : (c : tie.After-hash-h invariant-loop decreases-loop) → c.hash-h.result ≡ hash_of (get_or (round c).args.l.now ((round c).loop-i.i - 1) (pos 0))
+hash-is c = c.hash-h.ensures.0 ∙ ap hash_of (read32 _ (sfits_of c.hash-arg-1.given))
 
-loop-holds : tie.Need-loop-init invariant-loop decreases-loop
+loop-holds : tie.Need-loop-i-init invariant-loop decreases-loop
 loop-holds c = linking-none c.requires
 
-loop-again : tie.Need-loop-preserved invariant-loop decreases-loop
+loop-again : tie.Need-loop-i-preserved invariant-loop decreases-loop
 loop-again c =
     let lp = round c.before in
-    rw (hash-is c.before) (linking-one lp.loop.inv lp.before.pre.small (omega arith))
+    rw (hash-is c.before) (linking-one lp.loop-i.invariant lp.requires.small (omega arith))
 
 returns : tie.Need-returns invariant-loop decreases-loop
 returns c =
-    let e : c.before.loop.i ≡ 0 = omega arith in
-    record { small = c.before.before.requires.small; linked = rw e at c.before.loop.invariant.linked }
+    let e : c.loop-i.i ≡ 0 = omega arith in
+    record { small = c.requires.small; linked = rw e at c.loop-i.invariant.linked }
 
-pub link-spec : {M : Type 1} → statement M
-link-spec =
+pub link_spec : {M : Type 1} → statement M
+link_spec =
     tie.close
     (tie.spec
     invariant-loop

@@ -24,27 +24,27 @@ abbrev sought : tie.Start → ℤ
 sought st = to_z w32 (of_z w32 st.args.x)
 
 -- The first position of x's chain, and the element that is tested.
-abbrev start : tie.After-wide-arg → tie.Start
+abbrev start : tie.After-wide-arg-1 → tie.Start
 start c = c.before.before.before
 
-abbrev tested : tie.After-same-arg → tie.After-min
+abbrev tested : tie.After-same-arg-1 → tie.After-min-q
 tested c = c.before.before.before
 
-abbrev headed : tie.After-same → tie.After-wide
+abbrev headed : tie.After-same-found → tie.After-wide-p
 headed c = (tested c.before).before
 
-abbrev asked : tie.After-row-known → tie.After-same
+abbrev asked : tie.After-row_known-1 → tie.After-same-found
 asked c = c.before.before.before
 
-on_chain : (c : tie.After-wide) → OnChain (start c.before).args.l.now (sought (start c.before)) c.wide.result
+on_chain : (c : tie.After-wide-p) → OnChain (start c.before).args.l.now (sought (start c.before)) c.wide-p.result
 on_chain c =
     let st = start c.before in
-    let first = c.wide.ensures.0 ∙ ap (λ h. get_or st.args.heads.now h 0) c.before.before.hash.ensures.0 in
-    rw first (head-on st.args.l.now (sought st) st.pre.linked)
+    let first = c.wide-p.ensures.0 ∙ ap (λ h. get_or st.args.heads.now h 0) c.hash-h.ensures.0 in
+    rw first (head-on st.args.l.now (sought st) st.requires.linked)
 
-same-is : (c : tie.After-same)
-    → let st = start (headed c).before in c.same.result ≡ int_same (sought st) (get_or st.args.l.now (tested c.before).min.result (pos 0))
-same-is c = c.same.ensures ∙ ap (int_same (sought (start (headed c).before))) (read32 _ (sfits_of c.before.same-arg.given))
+same-is : (c : tie.After-same-found)
+    → let st = start (headed c).before in c.same-found.result ≡ int_same (sought st) (get_or st.args.l.now (tested c.before).min-q.result (pos 0))
+same-is c = c.same-found.ensures ∙ ap (int_same (sought (start (headed c).before))) (read32 _ (sfits_of c.same-arg-1.given))
 
 -- The chain's first position p, and q, which is p or the list's last.
 module _ {l : List ℤ} {x : ℤ} {p : ℕ} (c : OnChain l x p) (q : ℕ) (near : q ≡ min p (length l - 1)) (some : 0 < length l) where
@@ -58,40 +58,40 @@ module _ {l : List ℤ} {x : ℤ} {p : ℕ} (c : OnChain l x p) (q : ℕ) (near 
       by (yes b) = let at : q ≡ p = omega arith in on-past (link_on c links t b (rw at at e)) (rw at at h)
       by (no b) = on-past c (omega arith)
 
-returns : tie.Need-returns
-returns c = omega (arith, first-le c.before.args.x c.before.args.l.now)
+returns : tie.Need-returns-then-n-eq0
+returns c = omega (arith, first-le c.args.x c.args.l.now)
 
-add-if4 : tie.Need-overflow-add-if4
+add-if4 : tie.Need-overflow_add-next
 add-if4 c =
-    let w = (asked c).before.before.wide2.ensures in
-    ⊎_elim (λ t. omega (arith, w)) (λ t. omega (arith, w)) c.before.before.if2.branch
+    let w = (asked c).wide-next.ensures in
+    ⊎_elim (λ t. omega (arith, w)) (λ t. omega (arith, w)) c.if-found.branch-raw
 
 follow-requires : tie.Need-follow-requires
 follow-requires c κs =
     let h = headed (asked c.before) in
     let st = start h.before in
-    record { small = st.pre.small; link = st.pre.linked.link; on = on_chain h }
+    record { small = st.requires.small; link = st.requires.linked.link; on = on_chain h }
 
-returns-2 : tie.Need-returns-2
-returns-2 c = let st = start (headed (asked c.before.before)).before in read_first _ st.fits.x _ c.follow.ensures
+returns-2 : tie.Need-returns-then-next-skip
+returns-2 c = let st = start (headed (asked c.before.before)).before in read_first _ st.ranges.x _ c.follow.ensures
 
-returns-3 : tie.Need-returns-3
+returns-3 : tie.Need-returns
 returns-3 c =
     let k = c.before.before in
     let s = asked c.before in
     let h = headed s in
     let st = start h.before in
-    let near = (tested s.before).min.ensures in
-    read_first _ st.fits.x _
+    let near = (tested s.before).min-q.ensures in
+    read_first _ st.ranges.x _
     (⊎_elim
-    (λ t. t.1 ∙ here (on_chain h) _ near (omega arith) (sym (same-is s) ∙ t.0.taken))
+    (λ t. t.1 ∙ here (on_chain h) _ near (omega arith) (sym (same-is s) ∙ t.0.true))
     (λ t.
-    let past : length st.args.l.now ≤ s.before.before.wide2.result =
-    ⊎_elim (λ u. no_way (sym t.0.left ∙ u.0.taken)) (λ u. omega (arith, u.1)) k.before.if2.branch in
+    let past : length st.args.l.now ≤ s.wide-next.result =
+    ⊎_elim (λ u. no_way (sym t.0.false ∙ u.0.true)) (λ u. omega (arith, u.1)) k.if-found.branch-raw in
     t.1
-    ∙ nowhere (on_chain h) _ near (omega arith) st.args.links.now st.pre.linked.link (sym (same-is s) ∙ t.0.left)
-    (omega (arith, past, s.before.before.wide2.ensures.0)))
-    k.if3.branch)
+    ∙ nowhere (on_chain h) _ near (omega arith) st.args.links.now st.requires.linked.link (sym (same-is s) ∙ t.0.false)
+    (omega (arith, past, s.wide-next.ensures.0)))
+    k.if-found-2.branch-raw)
 
 pub look_spec : {M : Type 1} → statement M
 look_spec =

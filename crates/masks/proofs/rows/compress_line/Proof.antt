@@ -13,41 +13,41 @@ use Rattle.masks.proofs.Kept.{Front, front-none, front-one, front-other, front-l
 use Rattle.masks.proofs.rows.compress_line.Statement.{statement}
 use Rattle.masks.proofs.rows.compress_line.Tie as tie
 
-abbrev invariant-loop : tie.invariant-loop
+abbrev invariant-loop : tie.invariant-loop-to
 invariant-loop l r out₀ to₀ i₀ out to i = Front l (kept_rows (ones l) 1 r) (pos 0) out₀ out to i
 
-abbrev decreases-loop : tie.decreases-loop
+abbrev decreases-loop : tie.decreases-loop-to
 decreases-loop l r out₀ to₀ i₀ out to i = length l - i
 
 -- A one is left.
-left : (c : tie.In-loop invariant-loop decreases-loop) → c.before.loop.i < length c.before.before.args.l.now
-left c = let lp = c.before.loop in front-left lp.invariant (omega (arith, lp.invariant.long))
+left : (c : tie.In-loop-to invariant-loop decreases-loop) → c.loop-to.i < length c.args.l.now
+left c = let lp = c.loop-to in front-left lp.invariant (omega (arith, lp.invariant.long))
 
-loop-again : tie.Need-loop-preserved invariant-loop decreases-loop
+loop-again : tie.Need-loop-to-preserved invariant-loop decreases-loop
 loop-again c =
     let at = c.before.before.before in
-    let lp = at.before.loop in
+    let lp = at.loop-to in
     let st = at.before.before in
     let more = left at in
     let room : lp.to < length st.args.out.now = omega (arith, lp.invariant.long) in
     ⊎_elim
     (λ w.
-    let one = test-one _ (sfits_of c.before.if12.given) w.0.taken in
+    let one = test-one _ (sfits_of c.t9-1.given) w.0.true in
     rw w.1
     (front-one lp.invariant more room _ one
     (line-one st.args.l.now st.args.r.now lp.i more one
-    ∙ sym (read32 (get_or st.args.r.now lp.i (pos 0)) (sfits_of c.before.before.out.given)))))
-    (λ w. rw w.1 (front-other lp.invariant more room _ (test-other _ (sfits_of c.before.if12.given) w.0.left)))
-    c.if1.branch
+    ∙ sym (read32 (get_or st.args.r.now lp.i (pos 0)) (sfits_of c.out-1.given)))))
+    (λ w. rw w.1 (front-other lp.invariant more room _ (test-other _ (sfits_of c.t9-1.given) w.0.false)))
+    c.if-l-i-eq1.branch-raw
 
 returns : tie.Need-returns invariant-loop decreases-loop
 returns c =
-    let lp = c.before.loop in
-    let a = c.before.before.args in
+    let lp = c.loop-to in
+    let a = c.args in
     line-all a.l.now a.r.now lp.invariant (omega arith) (omega (arith, lp.invariant.long))
 
-pub compress-line-spec : {M : Type 1} → statement M
-compress-line-spec =
+pub compress_line_spec : {M : Type 1} → statement M
+compress_line_spec =
     tie.close
     (tie.spec
     invariant-loop
@@ -63,5 +63,5 @@ compress-line-spec =
     (λ c. omega (arith, left c.before.before.before))
     (λ c. omega (arith, left c.before.before.before))
     loop-again
-    (λ c. c.before.loop.invariant.long)
+    (λ c. c.loop-to.invariant.long)
     returns)

@@ -11,33 +11,33 @@ use Rattle.masks.proofs.Opened.{Opened, opened-none, opened-all, opened_one, ope
 use Rattle.masks.proofs.rows.expand_line.Statement.{statement}
 use Rattle.masks.proofs.rows.expand_line.Tie as tie
 
-abbrev invariant-loop : tie.invariant-loop
+abbrev invariant-loop : tie.invariant-loop-i
 invariant-loop l r out₀ from₀ i₀ out from i = Opened l r 1 out₀ out from i i
 
-abbrev decreases-loop : tie.decreases-loop
+abbrev decreases-loop : tie.decreases-loop-i
 decreases-loop l r out₀ from₀ i₀ out from i = length l - i
 
 -- What is read lies in r.
-inside : (c : tie.Then1 invariant-loop decreases-loop) → let lp = c.before.before.before in lp.loop.from < length lp.before.args.r.now
+inside : (c : tie.Then-l-i-eq1 invariant-loop decreases-loop) → let lp = c.before.before.before in lp.loop-i.from < length lp.before.args.r.now
 inside c =
-    let one = test-one _ (sfits_of c.before.if12.given) c.if1.true in
-    omega (arith, opened_inside c.before.before.before.loop.invariant (omega arith) (omega arith) one (omega arith))
+    let one = test-one _ (sfits_of c.before.t9-1.given) c.if-l-i-eq1.true in
+    omega (arith, opened_inside c.before.before.before.loop-i.invariant (omega arith) (omega arith) one (omega arith))
 
-loop-again : tie.Need-loop-preserved invariant-loop decreases-loop
+loop-again : tie.Need-loop-i-preserved invariant-loop decreases-loop
 loop-again c =
     let at = c.before.before.before in
-    let lp = at.loop in
-    let fits = sfits_of c.before.if12.given in
+    let lp = at.loop-i in
+    let fits = sfits_of c.t9-1.given in
     ⊎_elim
     (λ w.
     rw (w.2, w.3)
-    (opened_one lp.invariant (omega arith) (omega arith) _ (test-one _ fits w.0.taken)
-    (read32 (get_or at.before.args.r.now lp.from (pos 0)) (sfits_of w.1.given))))
-    (λ w. rw (w.1, w.2) (opened-zero lp.invariant (omega arith) (omega arith) _ (test-other _ fits w.0.left) refl))
-    c.if1.branch
+    (opened_one lp.invariant (omega arith) (omega arith) _ (test-one _ fits w.0.true)
+    (read32 (get_or at.args.r.now lp.from (pos 0)) (sfits_of w.1.given))))
+    (λ w. rw (w.1, w.2) (opened-zero lp.invariant (omega arith) (omega arith) _ (test-other _ fits w.0.false) refl))
+    c.if-l-i-eq1.branch-raw
 
-pub expand-line-spec : {M : Type 1} → statement M
-expand-line-spec =
+pub expand_line_spec : {M : Type 1} → statement M
+expand_line_spec =
     tie.close
     (tie.spec
     invariant-loop
@@ -55,5 +55,5 @@ expand-line-spec =
     (λ c. search rules)
     (λ c. search rules)
     loop-again
-    (λ c. c.before.loop.invariant.written.long)
-    (λ c. opened-all c.before.loop.invariant (omega arith) (omega arith)))
+    (λ c. c.loop-i.invariant.written.long)
+    (λ c. opened-all c.loop-i.invariant (omega arith) (omega arith)))

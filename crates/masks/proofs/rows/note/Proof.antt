@@ -11,43 +11,43 @@ use Rattle.masks.proofs.Kept.{Front, front-none, front-le, front-one, front-othe
 use Rattle.masks.proofs.rows.note.Statement.{statement}
 use Rattle.masks.proofs.rows.note.Tie as tie
 
-abbrev invariant-loop : tie.invariant-loop
+abbrev invariant-loop : tie.invariant-loop-i
 invariant-loop l at₀ q₀ i₀ at q i = Front l (λ j. get_or (ones l) j 0) 0 at₀ at q i
 
-abbrev decreases-loop : tie.decreases-loop
+abbrev decreases-loop : tie.decreases-loop-i
 decreases-loop l at₀ q₀ i₀ at q i = length l - i
 
 -- There is room for the position.
-room : (c : tie.In-loop invariant-loop decreases-loop) → c.before.loop.q < few
-room c = omega (arith, front-le c.before.loop.invariant, c.before.before.requires.0)
+room : (c : tie.In-loop-i invariant-loop decreases-loop) → c.loop-i.q < few
+room c = omega (arith, front-le c.loop-i.invariant, c.requires.0)
 
-loop-again : tie.Need-loop-preserved invariant-loop decreases-loop
+loop-again : tie.Need-loop-i-preserved invariant-loop decreases-loop
 loop-again c =
     let at = c.before.before in
-    let lp = at.before.loop in
+    let lp = at.loop-i in
     let st = at.before.before in
     let more : lp.i < length st.args.l.now = omega arith in
     let free : lp.q < length st.args.at.now = omega (arith, room at, st.requires.1) in
     ⊎_elim
     (λ w.
-    let one = test-one _ (sfits_of c.before.if12.given) w.0.taken in
+    let one = test-one _ (sfits_of c.t11-1.given) w.0.true in
     rw w.1 (front-one lp.invariant more free _ one (one-at st.args.l.now lp.i more one)))
-    (λ w. rw w.1 (front-other lp.invariant more free _ (test-other _ (sfits_of c.before.if12.given) w.0.left)))
-    c.if1.branch
+    (λ w. rw w.1 (front-other lp.invariant more free _ (test-other _ (sfits_of c.t11-1.given) w.0.false)))
+    c.if-l-i-eq1.branch-raw
 
 returns : tie.Need-returns invariant-loop decreases-loop
 returns c q h =
-    let lp = c.before.loop in
-    sym (lp.invariant.front q (omega (arith, lp.invariant.at, before-all c.before.before.args.l.now lp.i (omega arith))))
+    let lp = c.loop-i in
+    sym (lp.invariant.front q (omega (arith, lp.invariant.at, before-all c.args.l.now lp.i (omega arith))))
 
-pub note-spec : {M : Type 1} → statement M
-note-spec =
+pub note_spec : {M : Type 1} → statement M
+note_spec =
     tie.close
     (tie.spec
     invariant-loop
     decreases-loop
     (λ c. front-none _ _ _ _)
-    (λ c. omega (arith, c.before.before.requires.0))
+    (λ c. omega (arith, c.requires.0))
     (λ c. omega (arith, room c))
     (λ c. omega (arith, room c))
     (λ c. search rules)

@@ -16,42 +16,42 @@ use Rattle.masks.proofs.Written.{Written, written_none, written_one}
 use Rattle.masks.proofs.rows.spread.Statement.{statement}
 use Rattle.masks.proofs.rows.spread.Tie as tie
 
-abbrev invariant-loop : tie.invariant-loop
+abbrev invariant-loop : tie.invariant-loop-i
 invariant-loop x l out₀ i₀ out i = (i ≤ length l) × Written (λ j. cond (one_at l j) (to_z w32 x) (pos 0)) 1 out₀ out i i
 
-abbrev decreases-loop : tie.decreases-loop
+abbrev decreases-loop : tie.decreases-loop-i
 decreases-loop x l out₀ i₀ out i = length l - i
 
-loop-holds : tie.Need-loop-init invariant-loop decreases-loop
+loop-holds : tie.Need-loop-i-init invariant-loop decreases-loop
 loop-holds c = (omega arith, written_none _ 1 _)
 
-loop-again : tie.Need-loop-preserved invariant-loop decreases-loop
+loop-again : tie.Need-loop-i-preserved invariant-loop decreases-loop
 loop-again c =
     let at = c.before.before.before in
-    let inv = at.loop.invariant.1 in
-    let x = to_z w32 (of_z w32 at.before.args.x) in
-    let fits = sfits_of c.before.if12.given in (
+    let inv = at.loop-i.invariant.1 in
+    let x = to_z w32 (of_z w32 at.args.x) in
+    let fits = sfits_of c.t8-1.given in (
       omega arith,
       ⊎_elim
-          (λ w. rw w.1 (written_one inv (omega arith) _ (sym (ap (λ b. cond b x (pos 0)) (test-one _ fits w.0.taken)))))
-          (λ w. rw w.1 (written_one inv (omega arith) _ (sym (ap (λ b. cond b x (pos 0)) (test-other _ fits w.0.left)))))
-          c.if1.branch,
+          (λ w. rw w.1 (written_one inv (omega arith) _ (sym (ap (λ b. cond b x (pos 0)) (test-one _ fits w.0.true)))))
+          (λ w. rw w.1 (written_one inv (omega arith) _ (sym (ap (λ b. cond b x (pos 0)) (test-other _ fits w.0.false)))))
+          c.if-l-i-eq1.branch-raw,
     )
 
-same_length : tie.Need-same-length invariant-loop decreases-loop
-same_length c = c.before.loop.invariant.1.long
+same_length : tie.Need-shape_of-out invariant-loop decreases-loop
+same_length c = c.loop-i.invariant.1.long
 
 returns : tie.Need-returns invariant-loop decreases-loop
 returns c =
     let st = c.before.before in
     let a = st.args in
-    let e : c.before.loop.i ≡ length a.l.now = omega arith in
-    c.before.loop.invariant.1.filling
-    ∙ ap (λ y. filled (λ j. cond (one_at a.l.now j) y (pos 0)) c.before.loop.i a.out.now) (read32 a.x st.ranges.x)
+    let e : c.loop-i.i ≡ length a.l.now = omega arith in
+    c.loop-i.invariant.1.filling
+    ∙ ap (λ y. filled (λ j. cond (one_at a.l.now j) y (pos 0)) c.loop-i.i a.out.now) (read32 a.x st.ranges.x)
     ∙ ap (λ y. filled (λ j. cond (one_at a.l.now j) a.x (pos 0)) y a.out.now) e
 
-pub spread-spec : {M : Type 1} → statement M
-spread-spec =
+pub spread_spec : {M : Type 1} → statement M
+spread_spec =
     tie.close
     (tie.spec
     invariant-loop

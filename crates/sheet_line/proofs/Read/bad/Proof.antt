@@ -3,7 +3,7 @@ use Rattle.sheet_line.proofs.Read.bad.Statement.{statement}
 use Rattle.sheet_line.proofs.Read.bad.Tie as tie
 
 returns : tie.Need-returns
-returns c = rw (c.before.scalar.ensures, c.scalar2.ensures)
+returns c = rw (c.scalar-left.ensures, c.scalar-right.ensures)
 
-pub bad-spec : {M : Type 1} → statement M
-bad-spec = tie.close (tie.spec (λ c κs. search rules) (λ c κs. search rules) returns)
+pub bad_spec : {M : Type 1} → statement M
+bad_spec = tie.close (tie.spec (λ c κs. search rules) (λ c κs. search rules) returns)

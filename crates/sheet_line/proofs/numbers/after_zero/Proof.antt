@@ -4,24 +4,24 @@ use Rattle.sheet_line.proofs.Cursor.{line-ends, blank-ends, number-ends, zero-st
 use Rattle.sheet_line.proofs.numbers.after_zero.Statement.{statement}
 use Rattle.sheet_line.proofs.numbers.after_zero.Tie as tie
 
-returns : tie.Need-returns
+returns : tie.Need-returns-then-line-at
 returns c =
-    let a = c.before.before.before.args in
+    let a = c.args in
     rw c.whole.ensures (number-ends a.line.now a.at (magnitude false 0) (line-ends a.line.now a.at (omega arith)))
 
-returns-2 : tie.Need-returns-2
+returns-2 : tie.Need-returns-then-line-at-eq32
 returns-2 c =
-    let a = c.before.before.before.before.before.args in
-    let blank = blank-ends a.line.now a.at (omega arith) c.before.if2.true in
-    rw c.whole2.ensures (number-ends a.line.now a.at (magnitude false 0) blank)
+    let a = c.args in
+    let blank = blank-ends a.line.now a.at (omega arith) c.if-line-at-eq32.true in
+    rw c.whole-then-line-at-eq32.ensures (number-ends a.line.now a.at (magnitude false 0) blank)
 
-returns-3 : tie.Need-returns-3
+returns-3 : tie.Need-returns
 returns-3 c =
-    let a = c.before.before.before.before.args in
-    rw (zero-stops a.line.now a.at (omega arith) c.if2.false false)
+    let a = c.args in
+    rw (zero-stops a.line.now a.at (omega arith) c.if-line-at-eq32.false false)
 
-pub after-zero-spec : {M : Type 1} → statement M
-after-zero-spec =
+pub after_zero_spec : {M : Type 1} → statement M
+after_zero_spec =
     tie.close
     (tie.spec
     (λ c. search rules)

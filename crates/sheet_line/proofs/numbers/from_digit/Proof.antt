@@ -6,35 +6,35 @@ use Rattle.sheet_line.proofs.Cursor.{is_digit, no_digit, first-none, first-zero,
 use Rattle.sheet_line.proofs.numbers.from_digit.Statement.{statement}
 use Rattle.sheet_line.proofs.numbers.from_digit.Tie as tie
 
-digit : (c : tie.Else1) → digit_of c.before.before.before.args.b ≡ some c.before.digit_value.result
-digit c = is_digit c.before.before.before.args.b c.before.digit_value.result c.before.digit_value.ensures c.if1.false
+digit : (c : tie.Else-d-gt9) → digit_of c.args.b ≡ some c.digit_value-d.result
+digit c = is_digit c.args.b c.digit_value-d.result c.digit_value-d.ensures c.if-d-gt9.false
 
-returns : tie.Need-returns
+returns : tie.Need-returns-then-d-gt9
 returns c =
-    let d = c.before.digit_value in
-    let a = c.before.before.before.args in
-    rw (first-none a.b a.negative (no_digit a.b d.result d.ensures c.if1.true))
+    let d = c.digit_value-d in
+    let a = c.args in
+    rw (first-none a.b a.negative (no_digit a.b d.result d.ensures c.if-d-gt9.true))
 
-returns-2 : tie.Need-returns-2
+returns-2 : tie.Need-returns-then-d-gt0
 returns-2 c =
     let e = c.before.before in
-    let a = e.before.before.before.args in
-    rw (first-is a.negative a.b e.before.digit_value.result (digit e) (λ t. c.before.if2.true)) c.after-digit.ensures
+    let a = e.args in
+    rw (first-is a.negative a.b e.digit_value-d.result (digit e) (λ t. c.if-d-gt0.true)) c.after_digit.ensures
 
-returns-3 : tie.Need-returns-3
+returns-3 : tie.Need-returns-then-negative
 returns-3 c =
     let e = c.before.before in
-    let a = e.before.before.before.args in
-    rw (minus-zero a.b e.before.digit_value.result (digit e) a.negative (omega arith) c.if3.true)
+    let a = e.args in
+    rw (minus-zero a.b e.digit_value-d.result (digit e) a.negative (omega arith) c.if-negative.true)
 
-returns-4 : tie.Need-returns-4
+returns-4 : tie.Need-returns
 returns-4 c =
     let e = c.before.before.before in
-    let a = e.before.before.before.args in
-    rw (first-zero a.b e.before.digit_value.result (digit e) a.negative (omega arith) c.before.if3.false) c.after-zero.ensures
+    let a = e.args in
+    rw (first-zero a.b e.digit_value-d.result (digit e) a.negative (omega arith) c.if-negative.false) c.after_zero.ensures
 
-pub from-digit-spec : {M : Type 1} → statement M
-from-digit-spec =
+pub from_digit_spec : {M : Type 1} → statement M
+from_digit_spec =
     tie.close
     (tie.spec
     (λ c κs. search rules)

@@ -4,35 +4,35 @@ use Rattle.sheet_line.proofs.Readers.{held, number_read, number-lacks, SoFar, so
 use Rattle.sheet_line.proofs.operand.elements_at.Statement.{statement}
 use Rattle.sheet_line.proofs.operand.elements_at.Tie as tie
 
-abbrev invariant-loop : tie.invariant-loop
+abbrev invariant-loop : tie.invariant-loop-i
 invariant-loop line at count out₀ place₀ i₀ out place i =
     (i ≤ count) × ((length out ≡ length out₀) × ((drop count out ≡ drop count out₀) × SoFar next_number line at count out place i))
 
-abbrev decreases-loop : tie.decreases-loop
+abbrev decreases-loop : tie.decreases-loop-i
 decreases-loop line at count out₀ place₀ i₀ out place i = count - i
 
-returns : tie.Need-returns invariant-loop decreases-loop
+returns : tie.Need-returns-in_default invariant-loop decreases-loop
 returns c =
-    let n = c.before.before in
-    let lp = n.before.before.loop in
-    ((so-far-stop lp.invariant.1.1.1 (omega arith) (number-lacks n.number_at.ensures c.enum_told.given.1)).is, lp.invariant.1.1.0)
+    let n = c.before in
+    let lp = n.loop-i in
+    ((so-far-stop lp.invariant.1.1.1 (omega arith) (number-lacks n.number_at.ensures c.in_default.is)).is, lp.invariant.1.1.0)
 
-loop-again : tie.Need-loop-preserved invariant-loop decreases-loop
+loop-again : tie.Need-loop-i-preserved invariant-loop decreases-loop
 loop-again c =
-    let n = c.before.before.before in
-    let lp = n.before.before.loop in
-    let z = c.before.z.given in
-    let read = number_read n.number_at.ensures z.1 (search rules) in
-    let rest = drop-set-lt n.before.before.before.before.args.count lp.out lp.i (held z.0.0) (omega arith) ∙ lp.invariant.1.1.0 in
+    let n = c.before in
+    let lp = n.loop-i in
+    let z = c in
+    let read = number_read n.number_at.ensures c.in-Is.is (search rules) in
+    let rest = drop-set-lt n.args.count lp.out lp.i (held c.in-Is.z) (omega arith) ∙ lp.invariant.1.1.0 in
     (omega arith, (length-set lp.out lp.i _ ∙ lp.invariant.1.0, (rest, so_far_more lp.invariant.1.1.1 (omega arith) (omega arith) read)))
 
-returns-2 : tie.Need-returns-2 invariant-loop decreases-loop
+returns-2 : tie.Need-returns invariant-loop decreases-loop
 returns-2 c =
-    let lp = c.before.loop in
+    let lp = c.loop-i in
     ((so-far-all lp.invariant.1.1.1 (omega arith)).is, lp.invariant.1.1.0)
 
-pub elements-at-spec : {M : Type 1} → statement M
-elements-at-spec =
+pub elements_at_spec : {M : Type 1} → statement M
+elements_at_spec =
     tie.close
     (tie.spec
     invariant-loop

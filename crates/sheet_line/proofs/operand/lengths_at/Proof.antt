@@ -6,38 +6,38 @@ use Rattle.sheet_line.proofs.Operands.{small-zeros, small-set}
 use Rattle.sheet_line.proofs.operand.lengths_at.Statement.{statement}
 use Rattle.sheet_line.proofs.operand.lengths_at.Tie as tie
 
-abbrev invariant-loop : tie.invariant-loop
+abbrev invariant-loop : tie.invariant-loop-i
 invariant-loop line at rank lens₀ place₀ i₀ lens place i =
     (i ≤ rank) × ((length lens ≡ max_rank) × ((small (take i lens) ≡ true) × SoFar (natural max_held) line at rank lens place i))
 
-abbrev decreases-loop : tie.decreases-loop
+abbrev decreases-loop : tie.decreases-loop-i
 decreases-loop line at rank lens₀ place₀ i₀ lens place i = rank - i
 
-returns : tie.Need-returns invariant-loop decreases-loop
+returns : tie.Need-returns-in_default invariant-loop decreases-loop
 returns c =
-    let n = c.before.before in
-    let lp = n.before.before.loop in
-    let stop = so-far-stop lp.invariant.1.1.1 (omega arith) (natural-lacks _ n.natural-at.ensures.0 c.enum_told.given.1) in
-    (stop.is, small-zeros n.before.before.before.before.args.rank max_rank)
+    let n = c.before in
+    let lp = n.loop-i in
+    let stop = so-far-stop lp.invariant.1.1.1 (omega arith) (natural-lacks _ n.natural_at.ensures.0 c.in_default.is) in
+    (stop.is, small-zeros n.args.rank max_rank)
 
-loop-again : tie.Need-loop-preserved invariant-loop decreases-loop
+loop-again : tie.Need-loop-i-preserved invariant-loop decreases-loop
 loop-again c =
-    let n = c.before.before.before in
-    let lp = n.before.before.loop in
-    let x = c.before.n.given in
-    let more = so_far_more lp.invariant.1.1.1 (omega arith) (omega arith) (natural-read _ n.natural-at.ensures.0 x.1) in
-    let bound : x.0.0 ≤ max_held = rw x.1 at n.natural-at.ensures.1 in
-    let fit = small-set lp.i x.0.0 lp.lens lp.invariant.1.1.0 (omega arith) (omega arith) in
-    (omega arith, (length-set lp.lens lp.i x.0.0 ∙ lp.invariant.1.0, (fit, more)))
+    let n = c.before in
+    let lp = n.loop-i in
+    let x = c in
+    let more = so_far_more lp.invariant.1.1.1 (omega arith) (omega arith) (natural-read _ n.natural_at.ensures.0 c.in-Is.is) in
+    let bound : c.in-Is.n ≤ max_held = rw c.in-Is.is at n.natural_at.ensures.1 in
+    let fit = small-set lp.i c.in-Is.n lp.lens lp.invariant.1.1.0 (omega arith) (omega arith) in
+    (omega arith, (length-set lp.lens lp.i c.in-Is.n ∙ lp.invariant.1.0, (fit, more)))
 
-returns-2 : tie.Need-returns-2 invariant-loop decreases-loop
+returns-2 : tie.Need-returns invariant-loop decreases-loop
 returns-2 c =
-    let lp = c.before.loop in
-    let e : lp.i ≡ c.before.before.before.args.rank = omega arith in
+    let lp = c.loop-i in
+    let e : lp.i ≡ c.args.rank = omega arith in
     ((so-far-all lp.invariant.1.1.1 e).is, rw (← e) lp.invariant.1.1.0)
 
-pub lengths-at-spec : {M : Type 1} → statement M
-lengths-at-spec =
+pub lengths_at_spec : {M : Type 1} → statement M
+lengths_at_spec =
     tie.close
     (tie.spec
     invariant-loop
