@@ -43,10 +43,10 @@ claims t = (
   cut.Post,
 )
 
-abbrev cut-Inv-loop : cut-lts.invariant-loop
+abbrev cut-Inv-loop : cut-lts.invariant-loop-i
 cut-Inv-loop table at r out₀ block step len start stop first rest i₀ out i = (i ≤ len) × (out ≡ filled (cut_at table r at) (start + i * block) out₀)
 
-abbrev cut-μ-loop : cut-lts.decreases-loop
+abbrev cut-μ-loop : cut-lts.decreases-loop-i
 cut-μ-loop table at r out₀ block step len start stop first rest i₀ out i = len - i
 
 module _ (t : ℕ) where
@@ -54,22 +54,22 @@ module _ (t : ℕ) where
   Start = cut-lts.Start (claims t) (cut-at t) cut.Post cut-Inv-loop cut-μ-loop
 
   abbrev In-loop : Type 0
-  In-loop = cut-lts.In-loop (claims t) (cut-at t) cut.Post cut-Inv-loop cut-μ-loop
+  In-loop = cut-lts.In-loop-i (claims t) (cut-at t) cut.Post cut-Inv-loop cut-μ-loop
 
   -- Not by rows, the first numbers read, the zeros written, and the window's start found.
-  abbrev alone : cut-lts.Else1 (claims t) (cut-at t) cut.Post cut-Inv-loop cut-μ-loop → Start
+  abbrev alone : cut-lts.Else-by_rows (claims t) (cut-at t) cut.Post cut-Inv-loop cut-μ-loop → Start
   alone c = c.before.before.before
 
-  abbrev opened : cut-lts.After-shared-slice-known4 (claims t) (cut-at t) cut.Post cut-Inv-loop cut-μ-loop → Start
+  abbrev opened : cut-lts.After-shared_slice_known-4-1 (claims t) (cut-at t) cut.Post cut-Inv-loop cut-μ-loop → Start
   opened c = alone c.before.before.before
 
-  abbrev cleared : cut-lts.After-clear-outside (claims t) (cut-at t) cut.Post cut-Inv-loop cut-μ-loop → Start
+  abbrev cleared : cut-lts.After-clear_outside (claims t) (cut-at t) cut.Post cut-Inv-loop cut-μ-loop → Start
   cleared c = opened c.before.before.before
 
-  abbrev placed : cut-lts.After-shared-slice-known6 (claims t) (cut-at t) cut.Post cut-Inv-loop cut-μ-loop → Start
+  abbrev placed : cut-lts.After-shared_slice_known-6-1 (claims t) (cut-at t) cut.Post cut-Inv-loop cut-μ-loop → Start
   placed c = cleared c.before.before
 
-  abbrev entered : In-loop → cut-lts.After-shared-slice-known6 (claims t) (cut-at t) cut.Post cut-Inv-loop cut-μ-loop
+  abbrev entered : In-loop → cut-lts.After-shared_slice_known-6-1 (claims t) (cut-at t) cut.Post cut-Inv-loop cut-μ-loop
   entered c = c.before.before.before
 
   abbrev called : cut-lts.After-cut (claims t) (cut-at t) cut.Post cut-Inv-loop cut-μ-loop → In-loop
@@ -81,23 +81,23 @@ module _ (t : ℕ) where
   -- The position of a turn lies in both buffers, and `out` keeps its length.
   turn : (c : In-loop)
       → let s = placed (entered c) in
-      Reaches s.args.table.now s.args.at (length s.args.r.now) (length s.args.out.now) c.before.loop.i
-  turn c = let s = placed (entered c) in cut-room s.args.r.now (known s) c.before.loop.i (omega arith)
+      Reaches s.args.table.now s.args.at (length s.args.r.now) (length s.args.out.now) c.before.loop-i.i
+  turn c = let s = placed (entered c) in cut-room s.args.r.now (known s) c.before.loop-i.i (omega arith)
 
-  long : (c : cut-lts.At-loop (claims t) (cut-at t) cut.Post cut-Inv-loop cut-μ-loop)
-      → length c.loop.out ≡ length (placed c.before.before).args.out.now
+  long : (c : cut-lts.At-loop-i (claims t) (cut-at t) cut.Post cut-Inv-loop cut-μ-loop)
+      → length c.loop-i.out ≡ length (placed c.before.before).args.out.now
   long c =
       let k = c.before.before in
-      cut-long _ (known (placed k)) k.before.before.clear-outside.ensures c.loop.invariant.0 c.loop.invariant.1
+      cut-long _ (known (placed k)) k.clear_outside.ensures c.loop-i.invariant.0 c.loop-i.invariant.1
 
-  more : (c : cut-lts.Else2 (claims t) (cut-at t) cut.Post cut-Inv-loop cut-μ-loop) → 5 < length (placed c.before).args.table.now
-  more c = lt_of_le-ne (known (placed c.before)).five (λ e. c.if2.false (sym e))
+  more : (c : cut-lts.Else-rest-eq-WIDTH (claims t) (cut-at t) cut.Post cut-Inv-loop cut-μ-loop) → 5 < length (placed c.before).args.table.now
+  more c = lt_of_le-ne (known (placed c.before)).five (λ e. c.if-rest-eq-WIDTH.false (sym e))
 
-  returns-2 : cut-lts.Need-returns-2 (claims t) (cut-at t) cut.Post cut-Inv-loop cut-μ-loop
+  returns-2 : cut-lts.Need-returns-then-rest-eq-WIDTH (claims t) (cut-at t) cut.Post cut-Inv-loop cut-μ-loop
   returns-2 c =
       let l = c.before.before.before in
       let k = l.before.before in
-      cut-last _ (known (placed k)) k.before.before.clear-outside.ensures l.before.if2.true c.before.copy_run.ensures
+      cut-last _ (known (placed k)) k.clear_outside.ensures l.if-rest-eq-WIDTH.true c.copy_run.ensures
 
   cut-requires : cut-lts.Need-cut-requires (claims t) (cut-at t) cut.Post cut-Inv-loop cut-μ-loop
   cut-requires c κs =
@@ -105,37 +105,37 @@ module _ (t : ℕ) where
       let k = entered i in
       let s = placed k in
       let m = more i.before.before in (
-        omega (arith, s.pre.0, later-long s.args.table.now, m),
-        cut-rest s.args.r.now (known s) k.before.before.clear-outside.ensures m (omega arith) i.before.loop.invariant.1,
+        omega (arith, s.requires.0, later-long s.args.table.now, m),
+        cut-rest s.args.r.now (known s) k.before.before.clear_outside.ensures m (omega arith) i.loop-i.invariant.1,
       )
 
-  loop-again : cut-lts.Need-loop-preserved (claims t) (cut-at t) cut.Post cut-Inv-loop cut-μ-loop
+  loop-again : cut-lts.Need-loop-i-preserved (claims t) (cut-at t) cut.Post cut-Inv-loop cut-μ-loop
   loop-again c =
       let i = called c.before in
       let k = entered i in (
         omega arith,
-        cut_step _ (known (placed k)) k.before.before.clear-outside.ensures (more i.before.before) (omega arith) i.before.loop.inv.1
-            c.before.cut.ensures,
+        cut_step _ (known (placed k)) k.before.before.clear_outside.ensures (more i.before.before) (omega arith) i.before.loop-i.invariant.1
+            c.cut.ensures,
       )
 
-  returns-3 : cut-lts.Need-returns-3 (claims t) (cut-at t) cut.Post cut-Inv-loop cut-μ-loop
+  returns-3 : cut-lts.Need-returns (claims t) (cut-at t) cut.Post cut-Inv-loop cut-μ-loop
   returns-3 c =
-      let lp = c.before.loop in
+      let lp = c.loop-i in
       let k = c.before.before.before in
       let s = placed k in
       let all : lp.i ≡ get_or s.args.table.now 2 0 = omega arith in
-      cut-end _ (known s) k.before.before.clear-outside.ensures all lp.invariant.1
+      cut-end _ (known s) k.clear_outside.ensures all lp.invariant.1
 
-pub +cut-spec : {M : Type 1} → statement M
-+cut-spec = close μ-cut λ t. cut-lts.spec (claims t)
+pub +cut_spec : {M : Type 1} → statement M
++cut_spec = close μ-cut λ t. cut-lts.spec (claims t)
     (cut-at t)
     cut.Post
     cut-Inv-loop
     cut-μ-loop
     (λ c κs. search rules)
-    (λ c κs. let b = c.before.before in (b.by_rows.ensures c.before.if1.true, b.before.before.requires.1))
-    (λ c. ap length c.before.cut-rows.ensures ∙ length-tab _ _)
-    (λ c. c.before.cut-rows.ensures)
+    (λ c κs. let b = c.before.before in (b.by_rows.ensures c.before.if-by_rows.true, b.before.before.requires.1))
+    (λ c. ap length c.before.cut_rows.ensures ∙ length-tab _ _)
+    (λ c. c.before.cut_rows.ensures)
     (λ c. omega (arith, (known t (alone t c.before)).five))
     (λ c. omega (arith, (known t (alone t c.before.before)).five))
     (λ c. omega (arith, (known t (opened t c)).five))
@@ -156,11 +156,11 @@ pub +cut-spec : {M : Type 1} → statement M
     (λ c. omega (arith, (known t (placed t c.before.before)).room))
     (λ c. omega (arith, (known t (placed t c.before.before)).room))
     (λ c. search rules)
-    (λ c. let k = c.before.before in omega (arith, (known t (placed t k)).room, k.before.before.clear-outside.ensures.long))
+    (λ c. let k = c.before.before in omega (arith, (known t (placed t k)).room, k.before.before.clear_outside.ensures.long))
     (λ c κs. search rules)
     (λ c. search rules)
     (returns-2 t)
-    (λ c. (omega arith, cut-begin _ (known t (placed t c.before)) c.before.before.before.clear-outside.ensures))
+    (λ c. (omega arith, cut-begin _ (known t (placed t c.before)) c.before.before.before.clear_outside.ensures))
     (λ c. omega (arith, (turn t c).0))
     (λ c. omega (arith, (turn t c).0))
     (λ c. omega (arith, (turn t c).0))
@@ -174,7 +174,7 @@ pub +cut-spec : {M : Type 1} → statement M
     (λ c. search rules)
     (λ c. omega (arith, (turn t c.before).0, long t c.before.before))
     (cut-requires t)
-    (λ c. omega (arith, (entered t (called t c.before)).shared-slice-known6.given 2))
+    (λ c. omega (arith, (entered t (called t c.before)).shared_slice_known-6-1.given 2))
     (λ c. search rules)
     (loop-again t)
     (λ c. long t c.before)

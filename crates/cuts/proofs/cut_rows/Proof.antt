@@ -70,7 +70,7 @@ loop-again c =
     let z = entered i in
     let st = cleared z in (
       omega arith,
-      rows_step st.args.r.now (known st) st.requires.0 (λ e. eqb-true _ _ e) z.clear_rows.ensures (omega arith) lp.inv.1
+      rows_step st.args.r.now (known st) st.requires.0 (λ e. eqb-true _ _ e) z.clear_rows.ensures (omega arith) lp.invariant.1
           c.copy_run.ensures,
     )
 

@@ -38,8 +38,8 @@ loop-again c =
     let bit = c.is_bit.result in (
       omega arith,
       ⊎_elim
-          (λ w. all-lost is_bit l lp.i lp.all lp.inv.1 (pos 0) (omega arith) (sym (test c.before) ∙ not-true bit w.0.true) w.1)
-          (λ w. all-kept is_bit l lp.i lp.all lp.inv.1 (pos 0) (omega arith) (sym (test c.before) ∙ not-false bit w.0.false) w.1)
+          (λ w. all-lost is_bit l lp.i lp.all lp.invariant.1 (pos 0) (omega arith) (sym (test c.before) ∙ not-true bit w.0.true) w.1)
+          (λ w. all-kept is_bit l lp.i lp.all lp.invariant.1 (pos 0) (omega arith) (sym (test c.before) ∙ not-false bit w.0.false) w.1)
           c.if-not-is_bit.branch-raw,
     )
 

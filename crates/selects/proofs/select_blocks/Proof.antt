@@ -66,10 +66,10 @@ loop-again c =
     let lp = f.loop-o in
     let m = length a.l.now in
     let long = part-long lp.out lp.at (m * a.inner) (room f).1 in
-    blockwise-next lp.inv c.select_block.new.out (omega arith) c.select_block.auto.out
+    blockwise-next lp.invariant c.select_block.new.out (omega arith) c.select_block.auto.out
     (put-block (λ i. true) (position_at (origin st) a.l.now) a.n m a.inner a.r.now lp.o
     (λ i h w. within-lt (get_or a.l.now i (pos 0) -ℤ origin st) a.n ((positions st).inside i h))
-    lp.out a.out.now _ (lp.o * (a.n * a.inner)) lp.at lp.inv.done lp.inv.at-is refl
+    lp.out a.out.now _ (lp.o * (a.n * a.inner)) lp.at lp.invariant.done lp.invariant.at-is refl
     (c.select_block.ensures ∙ filled-whole _ (m * a.inner) _ (omega arith)))
 
 pub select_blocks_spec : {M : Type 1} → statement M

@@ -60,8 +60,8 @@ loop-again c =
     let a = (looped p).args in
     let lp = (looped p).loop-q in
     let i = room p in
-    blockwise-at (blockwise-next lp.inv c.copy_row.new.out (omega arith) c.copy_row.auto.out
-    (row_more (origin (looped p).before) a.l.now a.r.now a.inner lp.inv _ _ (known p).is i.0 (omega (arith, lp.inv.long))
+    blockwise-at (blockwise-next lp.invariant c.copy_row.new.out (omega arith) c.copy_row.auto.out
+    (row_more (origin (looped p).before) a.l.now a.r.now a.inner lp.invariant _ _ (known p).is i.0 (omega (arith, lp.invariant.long))
     c.copy_row.ensures))
 
 pub select_rows_spec : {M : Type 1} → statement M

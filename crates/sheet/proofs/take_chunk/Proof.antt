@@ -49,7 +49,7 @@ returns c =
     let now = known c.before in
     let lp = (turn now).before.loop in
     let taken = now.take-line.ensures in (
-      (omega (arith, taken.0.0, lp.inv.begun_kept), omega (arith, taken.0.1, lp.inv.text-kept)),
+      (omega (arith, taken.0.0, lp.invariant.begun_kept), omega (arith, taken.0.1, lp.invariant.text-kept)),
       λ on. no_way (sym on ∙ c.if1.true),
     )
 
@@ -68,19 +68,19 @@ loop-again c =
     record {
       ordered = on.0.0;
       within = on.0.1;
-      begun_kept = kept.0 ∙ lp.inv.begun_kept;
-      l-kept = kept.1.0 ∙ lp.inv.l-kept;
-      r-kept = kept.1.1.0 ∙ lp.inv.r-kept;
-      out-kept = kept.1.1.1.0 ∙ lp.inv.out-kept;
-      text-kept = kept.1.1.1.1.0 ∙ lp.inv.text-kept;
-      held-len = omega (arith, e.0.0, lp.inv.begun_kept);
-      held-waiting = omega (arith, e.0.1, lp.inv.text-kept);
+      begun_kept = kept.0 ∙ lp.invariant.begun_kept;
+      l-kept = kept.1.0 ∙ lp.invariant.l-kept;
+      r-kept = kept.1.1.0 ∙ lp.invariant.r-kept;
+      out-kept = kept.1.1.1.0 ∙ lp.invariant.out-kept;
+      text-kept = kept.1.1.1.1.0 ∙ lp.invariant.text-kept;
+      held-len = omega (arith, e.0.0, lp.invariant.begun_kept);
+      held-waiting = omega (arith, e.0.1, lp.invariant.text-kept);
       free = on.1.0;
       found = on.1.1;
       midway = λ bytes o.
-          let m = lp.inv.midway bytes o in
+          let m = lp.invariant.midway bytes o in
           line_taken a.start lp.held taken.result lp.begun last.0 a.text.now lp.text last.1.1.1.1.0 a.chunk.now bytes
-          lp.at lp.end lp.inv.ordered lp.inv.within lp.inv.free m more (lp.inv.found more) kept.0
+          lp.at lp.end lp.invariant.ordered lp.invariant.within lp.invariant.free m more (lp.invariant.found more) kept.0
           (e.1 c.before.if1.false m.begun m.holds);
     }
 

@@ -24,7 +24,7 @@ loop-again c =
     let l = c.before.before in
     (omega arith, l.loop-i.invariant.1 ∙ used-next l.args.used _ l.loop-i.i (omega arith) (not-false _ c.if-not-used-i.false))
 
-returns-2 : tie.Need-returns-then-not-used-i invariant-loop decreases-loop
+returns-2 : tie.Need-returns invariant-loop decreases-loop
 returns-2 c =
     let l = c.before in
     sym (l.loop-i.invariant.1 ∙ used-end l.args.used l.args.axes l.loop-i.i (omega arith))

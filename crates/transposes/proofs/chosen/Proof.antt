@@ -47,7 +47,7 @@ axis-is c = found_at _ _ _ _ (sym c.in-At.is ∙ found (searched c))
 
 returns : tie.Need-returns-in_default invariant-loop decreases-loop
 returns c =
-    let p = c.before in
+    let p = c.before.before in
     let l = turn p in
     rw (read32 _ l.ranges.g) at
     (choosing-stop l.loop-i.invariant c.nowhere.result (omega arith) (sym c.in_default.is ∙ found p) c.nowhere.ensures)

@@ -16,7 +16,7 @@ returns c = placed-swap c.put_plane.ensures
 put-strips-requires : tie.Need-put_strips-requires
 put-strips-requires c κs = (omega arith, reach-swap (start c.before).requires)
 
-returns-3 : tie.Need-returns-then-last-lt-TILE
+returns-3 : tie.Need-returns
 returns-3 c = placed-swap c.put_strips.ensures
 
 pub put_block_spec : {M : Type 1} → statement M

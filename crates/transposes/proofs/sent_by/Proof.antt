@@ -54,7 +54,7 @@ returns-2 c b =
     ∙ rw (list-yes (good st) (omega arith), counts-no (good st) (rank r) (λ e. c.if-count-rank.true (n.count.ensures ∙ e ∙ axes st b))))
     (λ z. omega arith)
 
-returns-3 : tie.Need-returns-then-ls-gt1
+returns-3 : tie.Need-returns
 returns-3 c b =
     let e = c.before.before in
     let st = start e.before in

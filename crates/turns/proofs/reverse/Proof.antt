@@ -19,12 +19,12 @@ abbrev right : tie.Start → Operand
 right st = lent st.args.rs st.args.r.now
 
 -- FORM and ORIGIN, and what is known where neither was met.
-early-is : (c : tie.After-early_one-early) → c.early_one-early.result ≡ early (good_form (right c.before)) c.before.args.g
-early-is c = c.early_one-early.ensures ∙ ap (early _) (read32 _ c.before.ranges.g)
+early-is : (c : tie.After-early_one-early) → c.early_one-early.result ≡ early (good_form (right c.before)) c.args.g
+early-is c = c.early_one-early.ensures ∙ ap (early _) (read32 _ c.ranges.g)
 
-fine : (c : tie.Else-early-ne0) → FineOne c.before.before.args.g c.before.before.args.rs c.before.before.args.r.now
+fine : (c : tie.Else-early-ne0) → FineOne c.args.g c.args.rs c.args.r.now
 fine c =
-    let long : length c.before.before.args.rs.lens ≡ max_rank = search rules in
+    let long : length c.args.rs.lens ≡ max_rank = search rules in
     fine-one _ _ _ long (sym (early-is c.before) ∙ c.if-early-ne0.false)
 
 -- AXIS, and the axis that was found.
@@ -41,11 +41,11 @@ axes : (c : tie.After-position) → rank (as_vector (array_of (right (start c)))
 axes c = axes-are (start c).args.rs (start c).args.r.now (fine (asked c)).operand.rank_is c.axes_of.ensures
 
 abbrev searched : tie.In-At → tie.After-position
-searched c = c.before.before.before
+searched c = c.before
 
 axis-is : (c : tie.In-At)
-    → IsAt (start (searched c)).args.k (start (searched c)).args.g (searched c).axes_of.result c.before.axis-1.given.0.0
-axis-is c = found_at _ _ _ _ (sym c.before.axis-1.given.1 ∙ found (searched c))
+    → IsAt (start (searched c)).args.k (start (searched c)).args.g (searched c).axes_of.result c.in-At.axis
+axis-is c = found_at _ _ _ _ (sym c.in-At.is ∙ found (searched c))
 
 ready : (c : tie.In-At) (L : Operand)
     → let st = start (searched c) in
@@ -74,7 +74,7 @@ returns-2 : tie.Need-returns-in_default
 returns-2 c L =
     let p = c.before.before in
     let f = fine (asked p) in
-    let w = found_none (start p).args.k (start p).args.g p.axes_of.result (sym c.enum_told-1.given.1 ∙ found p) in
+    let w = found_none (start p).args.k (start p).args.g p.axes_of.result (sym c.in_default.is ∙ found p) in
     own-replied (reverse-names _ _ _ _) _ f.none
     (sym (reverse-own _ _ L (right (start p)) _ (axes p) ∙ rw w)) (λ z. omega arith) c.refused-in_default.ensures
 
@@ -93,11 +93,11 @@ turn-into-requires c κs =
       has = omega (arith, (axis-is (placed l)).below, (searched (placed l)).axes_of.ensures);
     }
 
-returns-4 : tie.Need-returns-then-early-ne0
+returns-4 : tie.Need-returns
 returns-4 c L =
     let t = c.before.before.before in
     let l = t.before.before.before in
-    given-replied (ready (placed l) L) _ l.late-late.ensures l.before.count-count.ensures t.before.before.if-late-ne0.false
+    given-replied (ready (placed l) L) _ l.late-late.ensures l.count-count.ensures t.if-late-ne0.false
     (as-result (ready (placed l) L) (roomy t.before.before).good c.as_result.ensures c.given.ensures)
     (t.turn_into.ensures ∙ reverse-out _ _ _ _ (axis-is (placed l)).is _)
 

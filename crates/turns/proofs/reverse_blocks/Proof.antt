@@ -26,11 +26,11 @@ start c = c.before.before
 
 -- The block lies within both.
 room : (c : tie.In-loop-o invariant-loop decreases-loop)
-    → (c.before.loop-o.at + (start c).args.n * (start c).args.inner ≤ length (start c).args.r.now)
-    × (c.before.loop-o.at + (start c).args.n * (start c).args.inner ≤ length c.before.loop-o.out)
+    → (c.loop-o.at + (start c).args.n * (start c).args.inner ≤ length (start c).args.r.now)
+    × (c.loop-o.at + (start c).args.n * (start c).args.inner ≤ length c.loop-o.out)
 room c =
     let p = (start c).requires in
-    let b = c.before.loop-o.invariant in
+    let b = c.loop-o.invariant in
     (blockwise-room b _ (omega arith) p.source, rw b.long (blockwise-room b _ (omega arith) p.space))
 
 reverse-block-requires : tie.Need-reverse_block-requires invariant-loop decreases-loop

@@ -19,12 +19,12 @@ invariant-loop r n inner out₀ to₀ i₀ out to i = (i ≤ n) × ((to + i * in
 abbrev decreases-loop : tie.decreases-loop-i
 decreases-loop r n inner out₀ to₀ i₀ out to i = i
 
-row : (c : tie.In-loop-i invariant-loop decreases-loop) → c.before.loop-i.i * c.before.before.args.inner
-    ≡ (c.before.loop-i.i - 1) * c.before.before.args.inner + c.before.before.args.inner
-row c = row_before c.before.loop-i.i c.before.before.args.inner (omega arith)
+row : (c : tie.In-loop-i invariant-loop decreases-loop) → c.loop-i.i * c.args.inner
+    ≡ (c.loop-i.i - 1) * c.args.inner + c.args.inner
+row c = row_before c.loop-i.i c.args.inner (omega arith)
 
 -- Where the row starts.
-from_is : (c : tie.After-min-from invariant-loop decreases-loop) → c.min-from.result ≡ (c.before.before.loop-i.i - 1) * c.before.before.before.args.inner
+from_is : (c : tie.After-min-from invariant-loop decreases-loop) → c.min-from.result ≡ (c.loop-i.i - 1) * c.args.inner
 from_is c = c.min-from.ensures ∙ min-eq_left (omega (arith, row c.before))
 
 loop-again : tie.Need-loop-i-preserved invariant-loop decreases-loop

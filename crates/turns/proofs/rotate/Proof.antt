@@ -26,8 +26,8 @@ abbrev right : tie.Start → Operand
 right st = lent st.args.rs st.args.r.now
 
 -- FORM and ORIGIN, and what is known where neither was met.
-early-is : (c : tie.After-early_two-early) → c.early_two-early.result ≡ early (good_form (left c.before) && good_form (right c.before)) c.before.args.g
-early-is c = c.early_two-early.ensures ∙ ap (early _) (read32 _ c.before.ranges.g)
+early-is : (c : tie.After-early_two-early) → c.early_two-early.result ≡ early (good_form (left c.before) && good_form (right c.before)) c.args.g
+early-is c = c.early_two-early.ensures ∙ ap (early _) (read32 _ c.ranges.g)
 
 fine : (c : tie.Else-early-ne0) → let st = c.before.before in FineTwo st.args.g st.args.ls st.args.l.now st.args.rs st.args.r.now
 fine c =
@@ -109,17 +109,17 @@ turn-into-requires c κs =
       has = within-below _ _ _ _ (axes-are _ _ g.rank_is refl) (axis-is z) (known e).inside;
     }
 
-returns-4 : tie.Need-returns-then-early-ne0
+returns-4 : tie.Need-returns
 returns-4 c =
     let t = c.before.before.before in
     let z = t.before.before.before in
     let l = z.before.before in
     let e = l.before.before in
     let st = start e.before in
-    given-replied (ready e) _ l.late-late.ensures l.before.count-count.ensures z.before.if-late-ne0.false
+    given-replied (ready e) _ l.late-late.ensures l.count-count.ensures z.if-late-ne0.false
     (as-result (ready e) (roomy z.before).good c.as_result.ensures c.given.ensures)
     (t.turn_into.ensures ∙ rotate-out _ _ _ _ (axis-is z) st.args.out.now _ _
-    (to_z-of_z {w = w32} (sfits_of t.before.before.turn_into-arg-1.given) ∙ element-at (fine e.before.before).left 0 (omega (arith, one e))))
+    (to_z-of_z {w = w32} (sfits_of t.turn_into-arg-1.given) ∙ element-at (fine e.before.before).left 0 (omega (arith, one e))))
 
 pub rotate_spec : {M : Type 1} → statement M
 rotate_spec =

@@ -56,12 +56,12 @@ loop-again c =
     let lp = (turn f).loop-o in
     record {
       some = omega (arith, f.min-some.ensures);
-      at-is = omega (arith, lp.inv.at-is);
+      at-is = omega (arith, lp.invariant.at-is);
       long =
           same_len_mid lp.at (lp.at + f.min-some.result * a.size - lp.at) lp.out c.rotate_group.new.out
           c.rotate_group.auto.out
-          ∙ lp.inv.long;
-      done = group-step a.r.now a.cut f.min-some.result lp.inv (room f).1 c.rotate_group.ensures;
+          ∙ lp.invariant.long;
+      done = group-step a.r.now a.cut f.min-some.result lp.invariant (room f).1 c.rotate_group.ensures;
     }
 
 pub rotate_groups_spec : {M : Type 1} → statement M

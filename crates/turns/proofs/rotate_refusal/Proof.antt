@@ -47,7 +47,7 @@ returns-2 : tie.Need-returns-in_default
 returns-2 c b =
     let p = c.before in
     let st = start p in
-    let w = found_none st.args.k st.args.g p.axes_of.result (sym c.enum_told-in_default-1.given.1 ∙ found p) in
+    let w = found_none st.args.k st.args.g p.axes_of.result (sym c.in_default.is ∙ found p) in
     sym (rotate-own st.args.g st.args.k (left st) (lent st.args.rs b) _ (axes p b) ∙ rw (list-yes (good st) (omega arith), w))
 
 -- L is a list, and K names an axis: what is left is LENGTH.
@@ -58,7 +58,7 @@ rest : (c : tie.After-count) (b : List ℤ)
 rest c b =
     let p = c.before.before in
     let st = start p in
-    let a = found_at st.args.k st.args.g p.axes_of.result _ (sym c.enum_told-1.given.1 ∙ found p) in
+    let a = found_at st.args.k st.args.g p.axes_of.result _ (sym c.in-At.is ∙ found p) in
     rotate-own st.args.g st.args.k (left st) (lent st.args.rs b) _ (axes p b) ∙ rw (list-yes (good st) (omega arith), a.inside)
 
 returns-3 : tie.Need-returns-then-count-eq1

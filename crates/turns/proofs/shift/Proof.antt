@@ -29,24 +29,24 @@ start c = c.before.before.before.before
 first : (c : tie.After-out-1 invariant-loop decreases-loop)
     → let a = (start c).args in
     let total = a.outer * a.size in
-    Moved a.r.now a.out.now (put_mid a.to (a.to + (total - (a.from + a.to)) - a.to) a.out.now c.before.copy_run.new.out) a.from
+    Moved a.r.now a.out.now (put_mid a.to (a.to + (total - (a.from + a.to)) - a.to) a.out.now c.copy_run.new.out) a.from
     a.to
     (a.to + (total - (a.from + a.to))) total
 first c =
     let st = start c in
     let a = st.args in
     let b = limits st in
-    first_run _ (omega (arith, b, st.requires.1.source)) (omega (arith, b)) st.requires.1.space c.before.copy_run.ensures
+    first_run _ (omega (arith, b, st.requires.1.source)) (omega (arith, b)) st.requires.1.space c.copy_run.ensures
 
 -- The block lies within both, and so do the parts of it; the buffer keeps its length.
 room : (c : tie.In-loop-o invariant-loop decreases-loop)
     → let a = (start c.before.before).args in
-    (c.before.loop-o.at + a.size ≤ length a.r.now)
-    × (c.before.loop-o.at + a.size ≤ length c.before.loop-o.out)
+    (c.loop-o.at + a.size ≤ length a.r.now)
+    × (c.loop-o.at + a.size ≤ length c.loop-o.out)
     × Bounds a.size a.from a.to a.before a.after
 room c =
     let st = start c.before.before in
-    let f = c.before.loop-o.invariant in
+    let f = c.loop-o.invariant in
     let e = f.long ∙ (first c.before.before).long in
     (blockwise-room f _ (omega arith) st.requires.1.source, omega (arith, blockwise-room f _ (omega arith) st.requires.1.space), (limits st).0)
 

@@ -20,12 +20,12 @@ use Rattle.turns.proofs.turn_blocks.Tie as tie
 
 -- All elements of the blocks.
 abbrev start : tie.After-modulo-rows → tie.Start
-start c = c.before.before.before.before
+start c = c.before.before
 
 -- The amount as rows.
-rows_is : (c : tie.After-modulo-rows) → c.modulo-rows.result ≡ cond (eqb (start c).args.n 0) 0 (modulo c.before.before.turn-1.given.0.0 (start c).args.n)
+rows_is : (c : tie.After-modulo-rows) → c.modulo-rows.result ≡ cond (eqb (start c).args.n 0) 0 (modulo c.in-By.z (start c).args.n)
 rows_is c =
-    let f : SFits w32 c.before.before.turn-1.given.0.0 = search rules in
+    let f : SFits w32 c.in-By.z = search rules in
     c.modulo-rows.ensures ∙ ap (λ z. cond (eqb (start c).args.n 0) 0 (modulo z (start c).args.n)) (to_z-of_z f)
 
 small : (c : tie.After-modulo-rows) → (c.modulo-rows.result * (start c).args.inner ≤ (start c).args.n * (start c).args.inner)
@@ -40,14 +40,14 @@ returns c =
     let e = c.before.before.before in
     let a = e.args in
     c.reverse_blocks.ensures ∙ ap (λ (t : Turn). filled (turned_at t a.r.now a.n a.inner) (a.outer * a.n * a.inner) a.out.now)
-    (sym e.enum_told-1.given.1)
+    (sym e.in-Back.is)
 
 returns-2 : tie.Need-returns-in-By
 returns-2 c =
     let m = c.before.before.before in
     let a = (start m).args in
     c.rotate_groups.ensures ∙ cut-turned a.r.now a.outer a.inner _ a.n _ (start m).requires.0 (rows_is m) a.out.now
-    ∙ ap (λ (t : Turn). filled (turned_at t a.r.now a.n a.inner) (a.outer * a.n * a.inner) a.out.now) (sym m.turn-1.given.1)
+    ∙ ap (λ (t : Turn). filled (turned_at t a.r.now a.n a.inner) (a.outer * a.n * a.inner) a.out.now) (sym m.in-By.is)
 
 pub turn_blocks_spec : {M : Type 1} → statement M
 turn_blocks_spec =

@@ -47,7 +47,7 @@ turn-blocks-requires c κs =
       },
     )
 
-returns-3 : tie.Need-returns-then-s-eq0
+returns-3 : tie.Need-returns
 returns-3 c =
     let a = c.before.before.before in
     let st = start a in
