@@ -16,6 +16,6 @@ by_rows_spec =
     (λ c. search rules)
     (λ c. search rules)
     (λ c. search rules)
-    (λ c. lt_of_le-ne (omega arith) (λ e. eqb-false _ 0 c.if-small-eq0.false (sym e)))
+    (λ c. lt_of_le-ne (omega arith) (λ e. eqb-false _ 0 c.if-small-eq0.false-raw (sym e)))
     (λ c. search rules)
     (λ c. search rules))

@@ -22,7 +22,7 @@ start c = c.before.before.before
 
 known : (c : tie.After-cut_axes-used)
     → let a = (start c).args in
-    Front a.kind a.rank a.lens a.result a.l.now a.r.now a.out.now c.cut_axes-used.result
+    Front a.kind a.rank a.lens a.res a.l.now a.r.now a.out.now c.cut_axes-used.result
 known c =
     let st = start c in
     let long : length st.args.lens ≡ max_rank = search rules in
@@ -33,8 +33,8 @@ returns-3 : tie.Need-returns-then-used-eq0
 returns-3 c = let t = c.before.before.before in fill-whole (known t.before) t.if-used-eq0.true c.copy_run.ensures
 
 -- Their windows.
-abbrev tabled : tie.After-table → tie.After-cut_axes-used
-tabled c = c.before.before.before
+abbrev tabled : tie.After-table_of-table → tie.After-cut_axes-used
+tabled c = c.before.before
 
 cut-requires : tie.Need-cut-requires
 cut-requires c κs = let t = c.before.before in fill-fits (known (tabled t)) _ t.table_of-table.ensures (omega arith)

@@ -79,7 +79,7 @@ shape_is c =
     c.with_length-shape.ensures
     ∙ ap₂ (λ (a : Run) (b : Run). with_length p.higher-hs.result p.from_zero-axis.result (a.width + b.width))
     (sided c).run_of-left.ensures (sided c).run_of-right.ensures
-    ∙ with-length-is _ _ _ k.higher-hs.high k.left.has
+    ∙ with-length-is _ _ _ k.higher.high k.left.has
     ∙ ap shape_of (lengths-are k)
 
 ready : (c : tie.After-with_length-shape)
@@ -101,7 +101,7 @@ roomy : (c : tie.Else-late-ne0) → Roomy (made c).with_length-shape.result (len
 roomy c = late-fine _ c.late-late.ensures c.count-count.ensures c.if-late-ne0.false
 
 total-is : (c : tie.Else-late-ne0) → c.count-count.result ≡ count (means (start (placed (made c)))).lengths
-total-is c = c.count-count.ensures ∙ stands-count (ready (made c)).stands (roomy c).well-formed
+total-is c = c.count-count.ensures ∙ stands-count (ready (made c)).stands (roomy c).good
 
 returns : tie.Need-returns-then-early-ne0
 returns c = early-replied (catenate-names _ _ _ _) _ (early-is c.before.before) c.if-early-ne0.true c.refused.ensures
@@ -154,8 +154,8 @@ catenate_spec =
     returns-2
     (λ c κs. search rules)
     (λ c κs. search rules)
-    (λ c κs. let k = known c in omega (arith, k.left.has, k.higher-hs.high))
-    (λ c κs. let k = known c.before in omega (arith, k.left.has, k.higher-hs.high))
+    (λ c κs. let k = known c in omega (arith, k.left.has, k.higher.high))
+    (λ c κs. let k = known c.before in omega (arith, k.left.has, k.higher.high))
     add-with-length
     (λ c κs. search rules)
     (λ c κs. search rules)

@@ -57,7 +57,7 @@ axis-is c = found_at _ _ _ _ (sym c.in-At.is ∙ found (searched c))
 
 -- Ranks that fit.
 fits : (c : tie.After-position) → fit (start c).args.ls.rank (start c).args.rs.rank ≡ true
-fits c = let t = fitting c in sym t.ranks_fit.ensures ∙ not-false _ t.if-not-ranks_fit.false
+fits c = let t = fitting c in sym t.ranks_fit.ensures ∙ not-false _ t.if-not-ranks_fit.false-raw
 
 compared : (c : tie.In-At) (s : Shape) → Good s → Beside s.rank (hs (searched c)).rank
     → Compared s (hs (searched c)) c.in-At.axis
@@ -74,7 +74,7 @@ rest c x y = let p = searched c in catenate-rest (high p) (start p).args.g (star
 returns : tie.Need-returns-then-not-ranks_fit
 returns c x y =
     let st = c.before.before in
-    let w = sym c.ranks_fit.ensures ∙ not-true _ c.if-not-ranks_fit.true in
+    let w = sym c.ranks_fit.ensures ∙ not-true _ c.if-not-ranks_fit.true-raw in
     sym (catenate-own (known st _ refl) st.args.g st.args.k x y ∙ rw w)
 
 returns-2 : tie.Need-returns-in_default
@@ -99,8 +99,8 @@ returns-4 : tie.Need-returns-else-agrees
 returns-4 c x y =
     let a = c.before in
     ⊎_elim
-    (λ w. sym (rest a.before x y ∙ rw (← (a.agrees.ensures x), ← (w.1.ensures y), w.0.true, w.2.false)))
-    (λ w. sym (rest a.before x y ∙ rw (← (a.agrees.ensures x), w.left)))
+    (λ w. sym (rest a.before x y ∙ rw (← (a.agrees.ensures x), ← (w.agrees-then-agrees.ensures y), w.if-agrees.true, w.if-agrees-2.false)))
+    (λ w. sym (rest a.before x y ∙ rw (← (a.agrees.ensures x), w.if-agrees.false)))
     c.else-agrees.branch-raw
 
 pub catenate_refusal_spec : {M : Type 1} → statement M

@@ -53,7 +53,7 @@ loop-again c =
     let put = c.put_run in (
       omega (arith, lp.invariant.0),
       run_more st.args.run st.args.src.now st.requires lp.invariant.1 (omega arith) lp.at lp.invariant.0 _ _
-          (part-long lp.out lp.at _ (room f)) put.auto.1.1.1.0 put.ensures,
+          (part-long lp.out lp.at _ (room f)) put.auto.out put.ensures,
     )
 
 pub put_runs_spec : {M : Type 1} → statement M

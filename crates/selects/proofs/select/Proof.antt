@@ -98,7 +98,7 @@ roomy : (c : tie.Else-late-ne0) → Roomy (made c).selected-shape.result (length
 roomy c = late-fine _ c.late-late.ensures c.count-count.ensures c.if-late-ne0.false
 
 total-is : (c : tie.Else-late-ne0) → c.count-count.result ≡ count (means (start (made c).before)).lengths
-total-is c = c.count-count.ensures ∙ stands-count (ready (made c)).stands (roomy c).well-formed
+total-is c = c.count-count.ensures ∙ stands-count (ready (made c)).stands (roomy c).good
 
 returns : tie.Need-returns-then-early-ne0
 returns c = early-replied (select-names _ _ _ _) _ (early-is c.before.before) c.if-early-ne0.true c.refused.ensures

@@ -24,16 +24,16 @@ loop-holds c = (omega arith, (omega arith, (refl, filled_none _ _)))
 add-x : tie.Need-overflow_add-x invariant-loop decreases-loop
 add-x c =
     let lp = c.loop-i in
-    let e : to_z w32 lp.x ≡ pos lp.x = read_pos lp.x (omega arith) in
+    let e : to_z w32 lp.x-bits ≡ pos lp.x-bits = read_pos lp.x-bits (omega arith) in
     rw e (record { sfits = omega arith })
 
 loop-again : tie.Need-loop-i-preserved invariant-loop decreases-loop
 loop-again c =
     let st = c.before.before in
     let lp = c.loop-i in
-    let e : to_z w32 lp.x ≡ pos lp.x = read_pos lp.x (omega arith) in
-    let next : of_z w32 (to_z w32 lp.x +ℤ pos 1) ≡ st.args.first + (lp.i + 1) = rw e (omega arith) in
-    let done : set lp.out lp.i (to_z w32 lp.x) ≡ filled (λ j. pos (st.args.first + j)) (lp.i + 1) st.args.out.now =
+    let e : to_z w32 lp.x-bits ≡ pos lp.x-bits = read_pos lp.x-bits (omega arith) in
+    let next : of_z w32 (to_z w32 lp.x-bits +ℤ pos 1) ≡ st.args.first + (lp.i + 1) = rw e (omega arith) in
+    let done : set lp.out lp.i (to_z w32 lp.x-bits) ≡ filled (λ j. pos (st.args.first + j)) (lp.i + 1) st.args.out.now =
     rw lp.invariant.1.1.1 (filled-one _ (pos 0) _ lp.i _ (omega arith) (e ∙ ap pos lp.invariant.1.0)) in
     (omega arith, (next, (simp length-set lp.invariant.1.1.0, done)))
 

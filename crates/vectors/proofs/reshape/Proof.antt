@@ -114,13 +114,13 @@ written c =
     let total = (settled n).count-total.result in
     ⊎_elim
     (λ w.
-    let long : length xs ≤ 0 = omega (arith, elements n, w.0.keys1) in
-    w.4 ∙ few-put xs _ _ _ _ (omega arith) (total-fits n) (sym (get_or-eq_default xs (pos 0) {n = 0} long)) w.2.ensures)
+    let long : length xs ≤ 0 = omega (arith, elements n, w.in-0.is) in
+    w.out-is ∙ few-put xs _ _ _ _ (omega arith) (total-fits n) (sym (get_or-eq_default xs (pos 0) {n = 0} long)) w.fill_run.ensures)
     (⊎_elim {C = c.match-n.out ≡ filled (cycled xs) total st.args.out.now}
     (λ w.
-    let one = read32 _ (sfits_of w.1.given) ∙ element-at g 0 (omega (arith, n.count-n.ensures, w.0.keys2)) in
-    w.5 ∙ few-put xs _ _ _ _ (omega (arith, elements n, w.0.keys2)) (total-fits n) one w.3.ensures)
-    (λ w. w.5 ∙ w.3.ensures ∙ ap (λ ys. filled (cycled ys) total st.args.out.now) (lent-part _ _ g _ n.count-n.ensures)))
+    let one = read32 _ (sfits_of w.fill_run-arg-in-1-1.given) ∙ element-at g 0 (omega (arith, n.count-n.ensures, w.in-1.is)) in
+    w.out-is ∙ few-put xs _ _ _ _ (omega (arith, elements n, w.in-1.is)) (total-fits n) one w.fill_run-in-1.ensures)
+    (λ w. w.out-is ∙ w.cycle_run.ensures ∙ ap (λ ys. filled (cycled ys) total st.args.out.now) (lent-part _ _ g _ n.count-n.ensures)))
     c.match-n.branch-raw
 
 shared-slice-copy-out-fill-run : tie.Need-bounds-r-0
