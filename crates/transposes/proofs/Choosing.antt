@@ -125,7 +125,7 @@ every-same p q (x ∷ xs) h = ap₂ ◌&&◌ (h x) (every-same p q xs h)
 
 -- What 26 has found in the first i elements of L: each names an axis.
 module _ (G : ℤ) (l : List ℤ) where
-  abbrev named-axes : List ℕ
+  abbrev pub named-axes : List ℕ
   named-axes = map (from_zero G) l
 
   abbrev inside-from : ℕ → Bool
@@ -151,7 +151,7 @@ choosing-none G l = record {
 }
 
 -- What `chosen` answers.
-abbrev Named : ℤ → List ℤ → Sent → Type 0
+abbrev pub Named : ℤ → List ℤ → Sent → Type 0
 Named G l s = Sending s (cond (not (in_domain G (length l) l)) (number DOMAIN) 0) (named-axes G l)
 
 module _ {G : ℤ} {l : List ℤ} {used : List Bool} {to : List ℕ} {axes i : ℕ} (f : Choosing G l used to axes i) where

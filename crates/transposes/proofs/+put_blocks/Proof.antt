@@ -94,7 +94,7 @@ pub +put_blocks_spec : {M : Type 1} → statement M
     invariant-loop
     decreases-loop
     (λ c. omega (arith, c.before.before.before.requires.1.some))
-    (λ c. omega (arith, (begun t c).requires.1.some, (begun t c).requires.1.axes))
+    (λ c. omega (arith, c.requires.1.some, c.requires.1.axes))
     (λ c κs. search rules)
     (put-block-requires t)
     (λ c. search rules)

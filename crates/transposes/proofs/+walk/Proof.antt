@@ -124,7 +124,7 @@ pub +walk_spec : {M : Type 1} → statement M
     let e = c.before.before.before in
     c.before.line.ensures ∙ walked_none e.before.before.before.requires.1 e.if-rank-eq0.true _)
     (λ c. search rules)
-    (λ c. omega (arith, (begun t c).requires.1.axes))
+    (λ c. omega (arith, c.requires.1.axes))
     (λ c κs. let p = (begun t c.before.before).requires.1 in (p.some, reach-line p c.before.if-rank-eq1.true))
     (λ c. search rules)
     (λ c.
@@ -151,7 +151,7 @@ pub +walk_spec : {M : Type 1} → statement M
     (λ c. search rules)
     (λ c. omega (arith, turn t c.before.before, c.before.before.before.loop-i.invariant.long))
     (walk-requires t)
-    (λ c. let n = turned t c in omega (arith, n.loop-test, (walk_rows (rows t (many t n.before))).few))
+    (λ c. let n = turned t c in omega (arith, n.loop-i-test, (walk_rows (rows t (many t n.before))).few))
     (λ c. search rules)
     (loop-again t)
     (λ c. search rules)

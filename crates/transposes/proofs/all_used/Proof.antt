@@ -17,12 +17,12 @@ decreases-loop axes used i₀ i = axes - i
 returns : tie.Need-returns-then-not-used-i invariant-loop decreases-loop
 returns c =
     let l = c.before.before in
-    sym (l.loop-i.invariant.1 ∙ used-stop l.args.used _ l.loop-i.i (omega arith) (not-true _ c.if-not-used-i.true))
+    sym (l.loop-i.invariant.1 ∙ used-stop l.args.used _ l.loop-i.i (omega arith) (not-true _ c.if-not-used-i.true-raw))
 
 loop-again : tie.Need-loop-i-preserved invariant-loop decreases-loop
 loop-again c =
     let l = c.before.before in
-    (omega arith, l.loop-i.invariant.1 ∙ used-next l.args.used _ l.loop-i.i (omega arith) (not-false _ c.if-not-used-i.false))
+    (omega arith, l.loop-i.invariant.1 ∙ used-next l.args.used _ l.loop-i.i (omega arith) (not-false _ c.if-not-used-i.false-raw))
 
 returns-2 : tie.Need-returns invariant-loop decreases-loop
 returns-2 c =

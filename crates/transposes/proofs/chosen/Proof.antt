@@ -1,4 +1,4 @@
-use mathlib.Core.Path.{◌≡◌, refl, sym, ap, ◌∙◌}
+use mathlib.Core.Path.{◌≡◌, refl, sym, ap, subst, ◌∙◌}
 use mathlib.Core.Logic.{⊎_elim}
 use Prim.Native.Nat.{◌-◌}
 use native.Mathlib.Omega.{arith}
@@ -10,7 +10,7 @@ use mir.Val.{to_z, of_z}
 use mir.Facts.{to_z-of_z}
 use Rattle.signed.proofs.Reading.{read32}
 use Rattle.signed.proofs.Finding.{found_of, IsAt, found_at}
-use Rattle.transposes.proofs.Choosing.{Choosing, choosing-none, choosing-more, choosing-stop, choosing-no, choosing-yes}
+use Rattle.transposes.proofs.Choosing.{Choosing, Named, choosing-none, choosing-more, choosing-stop, choosing-no, choosing-yes}
 use Rattle.transposes.proofs.chosen.Statement.{statement}
 use Rattle.transposes.proofs.chosen.Tie as tie
 
@@ -61,13 +61,14 @@ loop-again c =
 returns-2 : tie.Need-returns-then-all_used invariant-loop decreases-loop
 returns-2 c =
     let l = c.before.before.before in
-    rw (read32 _ l.ranges.g) at (choosing-yes l.loop-i.invariant (omega arith) _ c.all_used.ensures c.if-all_used.true refl refl refl)
+    subst (λ (G : ℤ). Named G c.args.l.now (record { own = 0; axes = c.loop-i.axes; to = c.loop-i.to })) (read32 _ l.ranges.g)
+    (choosing-yes l.loop-i.invariant (omega arith) _ c.all_used.ensures c.if-all_used.true refl refl refl)
 
 returns-3 : tie.Need-returns-else-all_used invariant-loop decreases-loop
 returns-3 c =
     let a = c.before.before in
     let l = a.before.before in
-    rw (read32 _ l.ranges.g) at
+    subst (λ (G : ℤ). Named G c.args.l.now c.nowhere-else-all_used.result) (read32 _ l.ranges.g)
     (choosing-no l.loop-i.invariant (omega arith) c.nowhere-else-all_used.result a.all_used.ensures c.if-all_used.false c.nowhere-else-all_used.ensures)
 
 pub chosen_spec : {M : Type 1} → statement M

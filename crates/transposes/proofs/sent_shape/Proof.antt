@@ -24,12 +24,12 @@ known c =
 abbrev start : tie.In-loop-i invariant-loop decreases-loop → tie.Start invariant-loop decreases-loop
 start c = c.before.before.before
 
-few : (c : tie.In-loop-i invariant-loop decreases-loop) → c.loop-i.i - 1 < max_rank
-few c = let p = known (start c) in omega (arith, c.loop-i.invariant.few, p.rank_is, p.high)
+few : (c : tie.At-loop-i invariant-loop decreases-loop) → c.loop-i.i - 1 < max_rank
+few c = let p = known c.before.before in omega (arith, c.loop-i.invariant.few, p.rank_is, p.high)
 
 -- The axis to which the length goes.
-axis : (c : tie.After-n-1 invariant-loop decreases-loop) → get_or (start c.before).args.sent.to (c.loop-i.i - 1) 0 < max_rank
-axis c = axis-lt (known (start c.before)) _ (omega arith) c.loop-i.invariant.few
+axis : (c : tie.In-loop-i invariant-loop decreases-loop) → get_or (start c).args.sent.to (c.loop-i.i - 1) 0 < max_rank
+axis c = axis-lt (known (start c)) _ (omega arith) c.loop-i.invariant.few
 
 loop-again : tie.Need-loop-i-preserved-then-n-lens invariant-loop decreases-loop
 loop-again c = let n = c.before.before in shorter (known (start n)) n.loop-i.invariant (omega arith) (omega arith)
@@ -52,14 +52,14 @@ sent_shape_spec =
     decreases-loop
     (λ c. shortest-none (known c.before))
     (λ c. search rules)
-    (λ c. omega (arith, few c))
-    few
-    (λ c. omega (arith, few c))
-    few
-    (λ c. omega (arith, axis c))
-    axis
+    (λ c. omega (arith, few c.before))
+    (λ c. few c.before)
+    (λ c. omega (arith, few c.before))
+    (λ c. few c.before)
     (λ c. omega (arith, axis c.before))
     (λ c. axis c.before)
+    (λ c. omega (arith, axis c.before.before))
+    (λ c. axis c.before.before)
     (λ c. search rules)
     loop-again
     (λ c. search rules)

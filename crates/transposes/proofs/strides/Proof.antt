@@ -23,12 +23,12 @@ known c =
 abbrev start : tie.In-loop-i invariant-loop decreases-loop → tie.Start invariant-loop decreases-loop
 start c = c.before.before.before
 
-few : (c : tie.In-loop-i invariant-loop decreases-loop) → c.loop-i.i - 1 < max_rank
-few c = let p = known (start c) in omega (arith, c.loop-i.invariant.few, p.rank_is, p.high)
+few : (c : tie.At-loop-i invariant-loop decreases-loop) → c.loop-i.i - 1 < max_rank
+few c = let p = known c.before.before in omega (arith, c.loop-i.invariant.few, p.rank_is, p.high)
 
 -- The axis to which the stride goes.
-axis : (c : tie.In-loop-i invariant-loop decreases-loop) → get_or (start c).args.sent.to (c.loop-i.i - 1) 0 < max_rank
-axis c = axis-lt (known (start c)) _ (omega arith) c.loop-i.invariant.few
+axis : (c : tie.At-loop-i invariant-loop decreases-loop) → 0 < c.loop-i.i → get_or c.args.sent.to (c.loop-i.i - 1) 0 < max_rank
+axis c some = axis-lt (known c.before.before) _ (omega arith) c.loop-i.invariant.few
 
 -- No number is large.
 steps : (c : tie.In-loop-i invariant-loop decreases-loop)
@@ -54,15 +54,15 @@ strides_spec =
     decreases-loop
     (λ c. summed-none (known c.before))
     (λ c. search rules)
-    (λ c. omega (arith, few c))
-    few
-    (λ c. omega (arith, axis c))
-    axis
+    (λ c. omega (arith, few c.before))
+    (λ c. few c.before)
+    (λ c. omega (arith, axis c.before (omega arith)))
+    (λ c. axis c.before (omega arith))
     (λ c. omega (arith, steps c, sums c (get_or (start c).args.sent.to (c.loop-i.i - 1) 0)))
-    (λ c. omega (arith, axis c))
-    axis
-    (λ c. omega (arith, few c))
-    few
+    (λ c. omega (arith, axis c.before (omega arith)))
+    (λ c. axis c.before (omega arith))
+    (λ c. omega (arith, few c.before))
+    (λ c. few c.before)
     (λ c. omega (arith, steps c.before))
     (λ c. search rules)
     loop-again

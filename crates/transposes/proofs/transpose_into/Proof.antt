@@ -20,7 +20,7 @@ abbrev start : tie.After-strides-steps → tie.Start
 start c = c.before.before.before
 
 abbrev counted : tie.After-walk-arg-3-1 → tie.After-strides-steps
-counted c = c.before.before.before.before.before
+counted c = c.before.before.before
 
 walk-requires : tie.Need-walk-requires
 walk-requires c κs =
@@ -38,18 +38,18 @@ transpose_into_spec =
     (λ c. search rules)
     (λ c. search rules)
     (λ c.
-    let st = start c.before in
+    let st = start c in
     let n : length st.args.shape.lens ≡ max_rank = search rules in
     omega (arith, axes-high (known st) st.requires))
     (λ c. search rules)
     (λ c. search rules)
     (λ c.
-    let w = c.before.before.before in
+    let w = c.before in
     let n : length w.strides-steps.result ≡ max_rank = search rules in
     omega (arith, axes-high (known (start w)) (start w).requires))
     (λ c. search rules)
     (λ c. search rules)
-    (λ c. let s = c.before.before in omega (arith, (start s.before.before).requires.space))
+    (λ c. omega (arith, c.requires.space))
     walk-requires
     (λ c. search rules)
     (λ c. let w = counted c.before.before in into-all (known (start w)) (start w).requires _ w.strides-steps.ensures _ _ c.walk.ensures))
