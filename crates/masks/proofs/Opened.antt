@@ -86,9 +86,9 @@ module _ {l r : List ℤ} {c : ℕ} {out₀ out : List ℤ} {from i e : ℕ} (k 
       }
 
 -- The rows of r for a stretch of ones after a gap.
-pub opened_rows : {l r : List ℤ} {c : ℕ} {out₀ out : List ℤ} {from to i first next : ℕ} → Opened l r c out₀ out from to i
+pub opened_rows_lem : {l r : List ℤ} {c : ℕ} {out₀ out : List ℤ} {from to i first next : ℕ} → Opened l r c out₀ out from to i
     → Stretch false l i first → Stretch true l first next → length r ≡ length (ones l) * c → from + (next * c - first * c) ≤ length r
-opened_rows {l = l} {c = c} {i = i} {first = first} {next = next} k a b all =
+opened_rows_lem {l = l} {c = c} {i = i} {first = first} {next = next} k a b all =
     let most = mul-le-mul_right {m = before next l} {n = length (ones l)} c (before-most l next) in
     let here : before next l * c ≡ (before i l + (next - first)) * c = ap (λ x. x * c) (ones-pass b ∙ ap (λ x. x + (next - first)) (others-pass a)) in
     omega (arith, k.source, rows-size first next c b.starts, most, here)

@@ -6,7 +6,6 @@ use lib.IntN.{pos}
 use lib.ListN.{length, get_or, drop}
 use mathlib.Core.Logic.{⊎_elim}
 use borrow.Author.Rules.{rules, sfits_of}
-use borrow.Author.Tests.{not-true, not-false}
 use Rattle.meaning.specs.Terms.{every, is_bit}
 use Rattle.signed.proofs.Reading.{read32}
 use Rattle.meaning.proofs.Every.{all-kept, all-lost, all_end}
@@ -34,12 +33,11 @@ loop-holds c = (omega arith, refl)
 loop-again : tie.Need-loop-i-preserved invariant-loop decreases-loop
 loop-again c =
     let lp = (passed c.before).loop-i in
-    let l = (passed c.before).args.l.now in
-    let bit = c.is_bit.result in (
+    let l = (passed c.before).args.l.now in (
       omega arith,
       ⊎_elim
-          (λ w. all-lost is_bit l lp.i lp.all lp.invariant.1 (pos 0) (omega arith) (sym (test c.before) ∙ not-true bit w.0.true) w.1)
-          (λ w. all-kept is_bit l lp.i lp.all lp.invariant.1 (pos 0) (omega arith) (sym (test c.before) ∙ not-false bit w.0.false) w.1)
+          (λ w. all-lost is_bit l lp.i lp.all lp.invariant.1 (pos 0) (omega arith) (sym (test c.before) ∙ w.if-not-is_bit.true) w.all-is)
+          (λ w. all-kept is_bit l lp.i lp.all lp.invariant.1 (pos 0) (omega arith) (sym (test c.before) ∙ w.if-not-is_bit.false) w.all-is)
           c.if-not-is_bit.branch-raw,
     )
 

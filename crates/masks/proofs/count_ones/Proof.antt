@@ -28,8 +28,8 @@ loop-again c =
     let fits = sfits_of c.t7-1.given in (
       omega arith,
       ⊎_elim
-          (λ w. omega (arith, w.1, before-one l lp.i (omega arith) (test-one _ fits w.0.true)))
-          (λ w. omega (arith, w.1, before-other l lp.i (omega arith) (test-other _ fits w.0.false)))
+          (λ w. omega (arith, w.n-is, before-one l lp.i (omega arith) (test-one _ fits w.if-l-i-eq1.true)))
+          (λ w. omega (arith, w.n-is, before-other l lp.i (omega arith) (test-other _ fits w.if-l-i-eq1.false)))
           c.if-l-i-eq1.branch-raw,
     )
 

@@ -14,20 +14,20 @@ use Rattle.masks.proofs.mask_fits.Tie as tie
 abbrev kept : tie.Joined-l-eq1 → tie.Start
 kept c = c.before.before
 
-either : (c : tie.Joined-l-eq1) → let a = (kept c).args in c.if-l-eq1.if2 ≡ (eqb (length a.l.now) 1 || eqb a.n 1)
+either : (c : tie.Joined-l-eq1) → let a = (kept c).args in c.if-l-eq1.t-7 ≡ (eqb (length a.l.now) 1 || eqb a.n 1)
 either c =
     let n = length (kept c).args.l.now in
-    ⊎_elim (λ w. w.1 ∙ rw (eq-eqb n 1 w.0.true)) (λ w. w.1 ∙ rw (ne_eqb n 1 w.0.false)) c.if-l-eq1.branch-raw
+    ⊎_elim (λ w. w.t-7-is ∙ rw (eq-eqb n 1 w.if-l-eq1.true)) (λ w. w.t-7-is ∙ rw (ne_eqb n 1 w.if-l-eq1.false)) c.if-l-eq1.branch-raw
 
 returns : tie.Need-returns-then-n-eq1
 unfolding mask_fits
-returns c = rw c.in-Compress.is (c.if-n-eq1.true ∙ sym (or_left _ _ (sym (either c.before) ∙ c.if-n-eq1.true)))
+returns c = rw c.in-Compress.is (c.if-n-eq1.true-raw ∙ sym (or_left _ _ (sym (either c.before) ∙ c.if-n-eq1.true-raw)))
 
 returns-2 : tie.Need-returns-else-n-eq1
 unfolding mask_fits
 returns-2 c =
     let a = (kept c.before).args in
-    rw c.in-Compress.is (sym (ap (λ x. x || eqb (length a.l.now) a.n) (sym (either c.before) ∙ c.if-n-eq1.false)))
+    rw c.in-Compress.is (sym (ap (λ x. x || eqb (length a.l.now) a.n) (sym (either c.before) ∙ c.if-n-eq1.false-raw)))
 
 returns-3 : tie.Need-returns-then-repeated
 unfolding mask_fits

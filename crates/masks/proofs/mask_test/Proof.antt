@@ -3,7 +3,6 @@ use mathlib.Core.List.{[], ◌∷◌}
 use mathlib.Core.Bool.{Bool}
 use Prim.Native.Nat.{ℕ}
 use borrow.Author.Rules.{rules}
-use borrow.Author.Tests.{not-true, not-false}
 use Rattle.meaning.specs.Refusal.{◌unless◌, precedence, winner, meets}
 use Rattle.meaning.specs.Refusal.Refusal.{LENGTH, DOMAIN}
 use Rattle.answer.specs.Answer.{own}
@@ -25,27 +24,27 @@ told c {f = f} {d = d} x p q =
 
 returns : tie.Need-returns-then-not-fits
 unfolding precedence winner meets
-returns c = let e = c.before in told e.before e.in-Compress.is (not-true _ c.if-not-fits.true) refl
+returns c = let e = c.before in told e.before e.in-Compress.is c.if-not-fits.true refl
 
 returns-2 : tie.Need-returns-then-not-bits
 unfolding precedence winner meets
-returns-2 c = let e = c.before in told e.before e.in-Expand.is refl (not-true _ c.if-not-bits.true)
+returns-2 c = let e = c.before in told e.before e.in-Expand.is refl c.if-not-bits.true
 
 returns-3 : tie.Need-returns-then-bits
 unfolding precedence winner meets
-returns-3 c = let e = c.before.before in told e.before e.in-Compress.is (not-false _ c.if-not-fits.false) c.if-bits.true
+returns-3 c = let e = c.before.before in told e.before e.in-Compress.is c.if-not-fits.false c.if-bits.true
 
 returns-4 : tie.Need-returns-else-bits
 unfolding precedence winner meets
-returns-4 c = let e = c.before.before in told e.before e.in-Compress.is (not-false _ c.if-not-fits.false) c.if-bits.false
+returns-4 c = let e = c.before.before in told e.before e.in-Compress.is c.if-not-fits.false c.if-bits.false
 
 returns-5 : tie.Need-returns-then-fits
 unfolding precedence winner meets
-returns-5 c = let e = c.before.before in told e.before e.in-Expand.is c.if-fits.true (not-false _ c.if-not-bits.false)
+returns-5 c = let e = c.before.before in told e.before e.in-Expand.is c.if-fits.true c.if-not-bits.false
 
 returns-6 : tie.Need-returns-else-fits
 unfolding precedence winner meets
-returns-6 c = let e = c.before.before in told e.before e.in-Expand.is c.if-fits.false (not-false _ c.if-not-bits.false)
+returns-6 c = let e = c.before.before in told e.before e.in-Expand.is c.if-fits.false c.if-not-bits.false
 
 pub mask_test_spec : {M : Type 1} → statement M
 mask_test_spec =

@@ -97,7 +97,7 @@ returns-3 : tie.Need-returns-then-late-ne0
 returns-3 c =
     let l = c.before.before in
     let w = measured l in
-    late-replied (known-ready (known (counted w)) w.width_of_lem.ensures l.with_length-shape.ensures) _ l.late-late.ensures
+    late-replied (known-ready (known (counted w)) w.width_of-m.ensures l.with_length-shape.ensures) _ l.late-late.ensures
     l.count-count.ensures c.if-late-ne0.true c.refused-then-late-ne0.ensures
 
 abbrev repeated : tie.After-mask_into-arg-2-1 → tie.After-repeats-repeated
@@ -109,7 +109,7 @@ mask-into-requires c κs =
     let l = e.before in
     let w = measured l in
     rw (repeated c).repeats-repeated.ensures
-    (known-masked (known (counted w)) w.width_of_lem.ensures l.with_length-shape.ensures l.count-count.ensures (roomy e))
+    (known-masked (known (counted w)) w.width_of-m.ensures l.with_length-shape.ensures l.count-count.ensures (roomy e))
 
 returns-4 : tie.Need-returns
 returns-4 c =
@@ -120,10 +120,10 @@ returns-4 c =
     let w = measured l in
     let d = known (counted w) in
     let shape = l.with_length-shape.ensures in
-    given-replied (known-ready d w.width_of_lem.ensures shape) _ l.late-late.ensures l.count-count.ensures e.if-late-ne0.false
-    (c.given.ensures ∙ ap accepted (shape_is d w.width_of_lem.ensures shape))
+    given-replied (known-ready d w.width_of-m.ensures shape) _ l.late-late.ensures l.count-count.ensures e.if-late-ne0.false
+    (c.given.ensures ∙ ap accepted (shape_is d w.width_of-m.ensures shape))
     ((rw p.repeats-repeated.ensures at t.mask_into.ensures)
-    ∙ known_out d w.width_of_lem.ensures shape l.count-count.ensures (roomy e) (start (counted w)).args.out.now)
+    ∙ known_out d w.width_of-m.ensures shape l.count-count.ensures (roomy e) (start (counted w)).args.out.now)
 
 pub masked_spec : {M : Type 1} → statement M
 masked_spec =

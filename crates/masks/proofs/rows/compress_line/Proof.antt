@@ -32,12 +32,12 @@ loop-again c =
     let room : lp.to < length st.args.out.now = omega (arith, lp.invariant.long) in
     ⊎_elim
     (λ w.
-    let one = test-one _ (sfits_of c.t9-1.given) w.0.true in
-    rw w.1
+    let one = test-one _ (sfits_of c.t9-1.given) w.if-l-i-eq1.true in
+    rw w.to-is
     (front-one lp.invariant more room _ one
     (line-one st.args.l.now st.args.r.now lp.i more one
     ∙ sym (read32 (get_or st.args.r.now lp.i (pos 0)) (sfits_of c.out-1.given)))))
-    (λ w. rw w.1 (front-other lp.invariant more room _ (test-other _ (sfits_of c.t9-1.given) w.0.false)))
+    (λ w. rw w.to-is (front-other lp.invariant more room _ (test-other _ (sfits_of c.t9-1.given) w.if-l-i-eq1.false)))
     c.if-l-i-eq1.branch-raw
 
 returns : tie.Need-returns invariant-loop decreases-loop

@@ -30,10 +30,10 @@ loop-again c =
     let fits = sfits_of c.t9-1.given in
     ⊎_elim
     (λ w.
-    rw (w.2, w.3)
-    (opened_one lp.invariant (omega arith) (omega arith) _ (test-one _ fits w.0.true)
-    (read32 (get_or at.args.r.now lp.from (pos 0)) (sfits_of w.1.given))))
-    (λ w. rw (w.1, w.2) (opened-zero lp.invariant (omega arith) (omega arith) _ (test-other _ fits w.0.false) refl))
+    rw (w.out-is, w.from-is)
+    (opened_one lp.invariant (omega arith) (omega arith) _ (test-one _ fits w.if-l-i-eq1.true)
+    (read32 (get_or at.args.r.now lp.from (pos 0)) (sfits_of w.out-1.given))))
+    (λ w. rw (w.out-is, w.from-is) (opened-zero lp.invariant (omega arith) (omega arith) _ (test-other _ fits w.if-l-i-eq1.false) refl))
     c.if-l-i-eq1.branch-raw
 
 pub expand_line_spec : {M : Type 1} → statement M

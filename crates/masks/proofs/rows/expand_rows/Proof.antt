@@ -5,7 +5,7 @@ use Prim.Native.Nat.{◌+◌, ◌-◌, ◌*◌, ◌≤◌}
 use lib.ListN.{length}
 use borrow.Rule.Slice.PartMut.{put_mid}
 use Rattle.masks.proofs.Stretches.{rows-within, stretch-more}
-use Rattle.masks.proofs.Opened.{Opened, opened-none, opened-all, opened-gap, opened-run, opened_rows}
+use Rattle.masks.proofs.Opened.{Opened, opened-none, opened-all, opened-gap, opened-run, opened_rows_lem}
 use Rattle.masks.proofs.rows.expand_rows.Statement.{statement}
 use Rattle.masks.proofs.rows.expand_rows.Tie as tie
 
@@ -32,7 +32,7 @@ rows c = rows-within _ _ c.past-next.ensures (omega arith)
 inside : (c : tie.After-past-next invariant-loop decreases-loop)
     → let a = (passed c).args in
     (passed c).loop-i.from + (c.past-next.result * a.inner - c.past-first.result * a.inner) ≤ length a.r.now
-inside c = opened_rows (passed c).loop-i.invariant c.past-first.ensures c.past-next.ensures (omega arith)
+inside c = opened_rows_lem (passed c).loop-i.invariant c.past-first.ensures c.past-next.ensures (omega arith)
 
 loop-holds : tie.Need-loop-i-init invariant-loop decreases-loop
 loop-holds c = rw (zero-mul c.args.inner) (opened-none _ _ _ _)

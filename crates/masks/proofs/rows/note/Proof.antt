@@ -23,16 +23,16 @@ room c = omega (arith, front-le c.loop-i.invariant, c.requires.0)
 
 loop-again : tie.Need-loop-i-preserved invariant-loop decreases-loop
 loop-again c =
-    let at = c.before.before in
+    let at = c.before.before.before in
     let lp = at.loop-i in
     let st = at.before.before in
     let more : lp.i < length st.args.l.now = omega arith in
     let free : lp.q < length st.args.at.now = omega (arith, room at, st.requires.1) in
     ⊎_elim
     (λ w.
-    let one = test-one _ (sfits_of c.t11-1.given) w.0.true in
-    rw w.1 (front-one lp.invariant more free _ one (one-at st.args.l.now lp.i more one)))
-    (λ w. rw w.1 (front-other lp.invariant more free _ (test-other _ (sfits_of c.t11-1.given) w.0.false)))
+    let one = test-one _ (sfits_of c.t11-1.given) w.if-l-i-eq1.true in
+    rw w.q-is (front-one lp.invariant more free _ one (one-at st.args.l.now lp.i more one)))
+    (λ w. rw w.q-is (front-other lp.invariant more free _ (test-other _ (sfits_of c.t11-1.given) w.if-l-i-eq1.false)))
     c.if-l-i-eq1.branch-raw
 
 returns : tie.Need-returns invariant-loop decreases-loop
@@ -49,10 +49,10 @@ note_spec =
     (λ c. front-none _ _ _ _)
     (λ c. omega (arith, c.requires.0))
     (λ c. omega (arith, room c))
-    (λ c. omega (arith, room c))
+    (λ c. omega (arith, room c.before))
     (λ c. search rules)
     (λ c. search rules)
-    (λ c. omega (arith, room c.before.before))
+    (λ c. omega (arith, room c.before.before.before))
     (λ c. search rules)
     (λ c. search rules)
     loop-again

@@ -33,8 +33,8 @@ loop-again c =
     let fits = sfits_of c.t8-1.given in (
       omega arith,
       ⊎_elim
-          (λ w. rw w.1 (written_one inv (omega arith) _ (sym (ap (λ b. cond b x (pos 0)) (test-one _ fits w.0.true)))))
-          (λ w. rw w.1 (written_one inv (omega arith) _ (sym (ap (λ b. cond b x (pos 0)) (test-other _ fits w.0.false)))))
+          (λ w. rw w.out-is (written_one inv (omega arith) _ (sym (ap (λ b. cond b x (pos 0)) (test-one _ fits w.if-l-i-eq1.true)))))
+          (λ w. rw w.out-is (written_one inv (omega arith) _ (sym (ap (λ b. cond b x (pos 0)) (test-other _ fits w.if-l-i-eq1.false)))))
           c.if-l-i-eq1.branch-raw,
     )
 
