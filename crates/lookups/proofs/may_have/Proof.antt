@@ -37,8 +37,8 @@ loop-again : tie.Need-loop-i-preserved invariant-loop decreases-loop
 loop-again c =
     let lp = round c.before in (
       omega arith,
-      ⊎_elim (λ w f. no_way (sym f ∙ w.1))
-          (λ w f. passed-next (lp.loop-i.invariant.1 (sym w.1 ∙ f)) (omega arith) (sym (same-is c.before) ∙ w.0.false)) c.if-same.branch-raw,
+      ⊎_elim (λ w f. no_way (sym f ∙ w.has-is))
+          (λ w f. passed-next (lp.loop-i.invariant.1 (sym w.has-is ∙ f)) (omega arith) (sym (same-is c.before) ∙ w.if-same.false)) c.if-same.branch-raw,
     )
 
 returns : tie.Need-returns invariant-loop decreases-loop

@@ -37,7 +37,7 @@ loop-again : tie.Need-loop-j-preserved invariant-loop decreases-loop
 loop-again c =
     let lp = round c.before in
     let v = lp.loop-j.invariant in
-    let stored = read32 _ (sfits_of c.entry.type-inv) ∙ c.entry.ensures in
+    let stored = read32 _ (sfits_of c.entry.type_inv) ∙ c.entry.ensures in
     (simp length-set v.0, entered-next v.1 _ (omega arith) lp.requires.0.space (at-is c.before) stored)
 
 returns : tie.Need-returns invariant-loop decreases-loop

@@ -44,7 +44,7 @@ loop-again : tie.Need-loop-j-preserved invariant-loop decreases-loop
 loop-again c =
     let p = c.before in
     let v = (round p.before.before).loop-j.invariant in
-    let stored = read32 _ (sfits_of c.entry.type-inv) ∙ c.entry.ensures in
+    let stored = read32 _ (sfits_of c.entry.type_inv) ∙ c.entry.ensures in
     (simp length-set v.0, entered-next v.1 _ (omega arith) (start p.before.before).requires.space (at-is p) stored)
 
 returns-2 : tie.Need-returns invariant-loop decreases-loop

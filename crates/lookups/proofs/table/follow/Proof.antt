@@ -47,12 +47,12 @@ returns-2 c = let lp = round c.before.before.before in read_first _ lp.ranges.x 
 
 loop-less : tie.Need-loop-p-smaller invariant-loop decreases-loop
 loop-less c =
-    let lp = round (other c.before.before).before in
+    let lp = round (other c.before.before.before).before in
     omega (arith, c.wide-p.ensures.0, (lp.requires.link lp.loop-p.p (omega arith) (omega arith)).after)
 
 loop-again : tie.Need-loop-p-preserved invariant-loop decreases-loop
 loop-again c =
-    let e = other c.before.before in
+    let e = other c.before.before.before in
     let lp = round e.before in
     let st = lp.before in
     rw c.wide-p.ensures.0

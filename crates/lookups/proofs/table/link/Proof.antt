@@ -27,8 +27,9 @@ loop-holds c = linking-none c.requires
 
 loop-again : tie.Need-loop-i-preserved invariant-loop decreases-loop
 loop-again c =
-    let lp = round c.before in
-    rw (hash-is c.before) (linking-one lp.loop-i.invariant lp.requires.small (omega arith))
+    let h = c.before.before.before in
+    let lp = round h in
+    rw (hash-is h) (linking-one lp.loop-i.invariant lp.requires.small (omega arith))
 
 returns : tie.Need-returns invariant-loop decreases-loop
 returns c =

@@ -25,10 +25,10 @@ sought st = to_z w32 (of_z w32 st.args.x)
 
 -- The first position of x's chain, and the element that is tested.
 abbrev start : tie.After-wide-arg-1 → tie.Start
-start c = c.before.before.before
+start c = c.before.before.before.before
 
 abbrev tested : tie.After-same-arg-1 → tie.After-min-q
-tested c = c.before.before.before
+tested c = c.before.before.before.before
 
 abbrev headed : tie.After-same-found → tie.After-wide-p
 headed c = (tested c.before).before
@@ -64,7 +64,7 @@ returns c = omega (arith, first-le c.args.x c.args.l.now)
 add-if4 : tie.Need-overflow_add-next
 add-if4 c =
     let w = (asked c).wide-next.ensures in
-    ⊎_elim (λ t. omega (arith, w)) (λ t. omega (arith, w)) c.if-found.branch-raw
+    ⊎_elim (λ t. omega (arith, w, t.skip-is)) (λ t. omega (arith, w, t.skip-is)) c.if-found.branch-raw
 
 follow-requires : tie.Need-follow-requires
 follow-requires c κs =
@@ -84,12 +84,12 @@ returns-3 c =
     let near = (tested s.before).min-q.ensures in
     read_first _ st.ranges.x _
     (⊎_elim
-    (λ t. t.1 ∙ here (on_chain h) _ near (omega arith) (sym (same-is s) ∙ t.0.true))
+    (λ t. t.at-is ∙ here (on_chain h) _ near (omega arith) (sym (same-is s) ∙ t.if-found-2.true))
     (λ t.
     let past : length st.args.l.now ≤ s.wide-next.result =
-    ⊎_elim (λ u. no_way (sym t.0.false ∙ u.0.true)) (λ u. omega (arith, u.1)) k.if-found.branch-raw in
-    t.1
-    ∙ nowhere (on_chain h) _ near (omega arith) st.args.links.now st.requires.linked.link (sym (same-is s) ∙ t.0.false)
+    ⊎_elim (λ u. no_way (sym t.if-found-2.false ∙ u.if-found.true)) (λ u. omega (arith, u.skip-is)) k.if-found.branch-raw in
+    t.at-is
+    ∙ nowhere (on_chain h) _ near (omega arith) st.args.links.now st.requires.linked.link (sym (same-is s) ∙ t.if-found-2.false)
     (omega (arith, past, s.wide-next.ensures.0)))
     k.if-found-2.branch-raw)
 
