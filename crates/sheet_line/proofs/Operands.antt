@@ -1,5 +1,6 @@
 -- An operand, by what was taken of it.
-use Rattle.std.proofs.Common.{◌≡◌, ℕ, zero, suc, ◌+◌, ◌<◌, ◌≤◌, min, true, false, cond, leb, List, length, take, drop, set, replicate, ℤ, sym, refl, ap, ◌∙◌, add-one, arith, take-append-drop, length-take-le, take-suc-set, le-leb}
+use Rattle.std.proofs.Common.{◌≡◌, ℕ, zero, suc, ◌+◌, ◌<◌, ◌≤◌, min, true, false, cond, leb, List, length, take, drop, set, replicate, ℤ, sym, refl, ap, ◌∙◌}
+use Rattle.std.proofs.Common.{add-one, arith, take-append-drop, length-take-le, take-suc-set, le-leb}
 use borrow.Author.Tests.{lt-leb}
 use Rattle.shape.specs.declared.Shape.{Shape}
 use Rattle.shape.specs.Shape.{max_rank, max_count, small, count, counted, count_of, shape_of, scalar, made_of}

@@ -1,5 +1,6 @@
 -- Readers one after the other, from a place of a line on.
-use Rattle.std.proofs.Common.{◌≡◌, ℕ, suc, ◌+◌, ◌-◌, ◌<◌, ◌≤◌, true, false, List, [], ◌∷◌, ◌++◌, length, take, set, ℤ, pos, negsuc, nat_abs, sym, refl, ap, ◌∙◌, append_assoc, append-nil, add-one, arith, take-suc-set, to_z-of_z, w32, SFits, to_z, of_z, le-leb}
+use Rattle.std.proofs.Common.{◌≡◌, ℕ, suc, ◌+◌, ◌-◌, ◌<◌, ◌≤◌, true, false, List, [], ◌∷◌, ◌++◌, length, take, set, ℤ, pos, negsuc, nat_abs, sym, refl, ap, ◌∙◌}
+use Rattle.std.proofs.Common.{append_assoc, append-nil, add-one, arith, take-suc-set, to_z-of_z, w32, SFits, to_z, of_z, le-leb}
 use native.Mathlib.Nat.{sub-zero}
 use mathlib.Core.Option.{Option, none, some}
 use borrow.Author.Tests.{lt-leb}

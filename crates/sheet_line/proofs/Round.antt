@@ -1,5 +1,6 @@
 -- A line of numbers is exactly the printing of what is read from it.
-use Rattle.std.proofs.Common.{◌≡◌, ℕ, zero, suc, ◌+◌, ◌-◌, ◌*◌, ◌<◌, Bool, true, false, cond, ◌&&◌, eqb, ltb, leb, List, [], ◌∷◌, ◌++◌, map, length, ℤ, pos, negsuc, sym, refl, ◌∙◌, append-nil, arith, ltb-false, ltb-true, eqb-true, leb-true}
+use Rattle.std.proofs.Common.{◌≡◌, ℕ, zero, suc, ◌+◌, ◌-◌, ◌*◌, ◌<◌, Bool, true, false, cond, ◌&&◌, eqb, ltb, leb, List, [], ◌∷◌, ◌++◌, map, length, ℤ, pos}
+use Rattle.std.proofs.Common.{negsuc, sym, refl, ◌∙◌, append-nil, arith, ltb-false, ltb-true, eqb-true, leb-true}
 use mathlib.Core.Option.{none, some}
 use lib.Seq.{append_snoc}
 use borrow.Author.Tests.{eqb-false}

@@ -1,5 +1,6 @@
 -- A line that says a call is the printing of the call's numbers.
-use Rattle.std.proofs.Common.{◌≡◌, ℕ, zero, suc, ◌≤◌, Bool, true, false, cond, leb, List, [], ◌∷◌, ◌++◌, map, length, ℤ, pos, negsuc, sym, refl, ap, ◌∙◌, append_assoc, append-nil, map-id, le-leb}
+use Rattle.std.proofs.Common.{◌≡◌, ℕ, zero, suc, ◌≤◌, Bool, true, false, cond, leb, List, [], ◌∷◌, ◌++◌, map, length, ℤ, pos, negsuc, sym, refl, ap, ◌∙◌}
+use Rattle.std.proofs.Common.{append_assoc, append-nil, map-id, le-leb}
 use mathlib.Core.Option.{some}
 use Rattle.shape.specs.Shape.{max_rank, count}
 use Rattle.shape.proofs.Bools.{both}

@@ -1,5 +1,6 @@
 -- The reading of printed numbers.
-use Rattle.std.proofs.Common.{◌≡◌, ℕ, zero, suc, ◌+◌, ◌-◌, ◌*◌, ◌/◌, ◌%◌, ◌<◌, ◌≤◌, Bool, true, false, List, ◌∷◌, ◌++◌, ℤ, pos, negsuc, refl, ◌∙◌, arith, ne_eqb, le-leb}
+use Rattle.std.proofs.Common.{◌≡◌, ℕ, zero, suc, ◌+◌, ◌-◌, ◌*◌, ◌/◌, ◌%◌, ◌<◌, ◌≤◌, Bool, true, false, List, ◌∷◌, ◌++◌, ℤ, pos, negsuc, refl, ◌∙◌, arith}
+use Rattle.std.proofs.Common.{ne_eqb, le-leb}
 use native.Mathlib.Decide.{dec_lt}
 use mathlib.Core.Option.{some}
 use lib.Seq.{append_snoc}

@@ -1,4 +1,4 @@
-use Rattle.std.proofs.Common.{◌≡◌, ℕ, true, List, length, refl, ap₂, ⊎_elim, rules, leb-false, leb-true}
+use Rattle.std.proofs.Common.{◌≡◌, ℕ, true, List, refl, ap₂, ⊎_elim, rules}
 use borrow.Author.Tests.{not-true, not-false}
 use Rattle.sheet_line.specs.Call.{Head, Call, give, call, room}
 use Rattle.sheet_line.specs.Steps.{held_in}
@@ -45,7 +45,7 @@ after-head c = head_read _ _ c.head_at.ensures c.in-Is.is (search rules) (search
 after-left : (c : tie.Else-not-left)
     → let st = start (short (headed c)) in
     let o = (left c).operand_at-left in
-    Reads (line st) (call (room_l st) (room_r st)) 0 (right_on (room_r st) (head_of (headed c)) (held_in o.last.1.1.0 o.result)) o.result.next
+    Reads (line st) (call (room_l st) (room_r st)) 0 (right_on (room_r st) (head_of (headed c)) (held_in o.new.out o.result)) o.result.next
 after-left c =
     let o = (left c).operand_at-left in
     reads_on (after-head (headed c)) (then-reads (right_on _ _) (operand_read o.ensures (not-false o.result.good c.if-not-left.false)))
@@ -54,7 +54,7 @@ abbrev called : tie.After-operand_at-right → Call
 called c =
     let L = (left (halved c)).operand_at-left in
     let R = c.operand_at-right in
-    record { head = head_of (headed (halved c)); left = held_in L.last.1.1.0 L.result; right = held_in R.new.1.1.0 R.result }
+    record { head = head_of (headed (halved c)); left = held_in L.new.out L.result; right = held_in R.new.out R.result }
 
 after-right : (c : tie.After-operand_at-right) → c.operand_at-right.result.good ≡ true
     → let st = start (short (headed (halved c))) in Reads (line st) (call (room_l st) (room_r st)) 0 (give (called c)) c.operand_at-right.result.next
@@ -91,10 +91,10 @@ returns-4 c =
     let st = start (short (headed e)) in
     let few = (short (headed e)).if-line-gt-MAX_LINE.false in
     let R = p.operand_at-right in
-    bad-line (line st) st.args.l.now _ st.args.r.now _ ((left e).operand_at-left.kept.1.1.0, R.auto.1.1.0) c.bad-then-not-right.ensures
+    bad-line (line st) st.args.l.now _ st.args.r.now _ ((left e).operand_at-left.auto.out, R.auto.out) c.bad-then-not-right.ensures
     (⊎_elim
-    (λ w. no_call _ _ (line st) few (lacks-on (after-left e) (then-lacks _ (operand-lacks R.ensures (not-true R.result.good w.taken)))))
-    (λ w. left_over _ _ (line st) few (after-right p (not-false R.result.good w.0.false)) (leb-true R.result.next (length (line st)) w.2.true))
+    (λ w. no_call _ _ (line st) few (lacks-on (after-left e) (then-lacks _ (operand-lacks R.ensures (not-true R.result.good w.if-not-right.true)))))
+    (λ w. left_over _ _ (line st) few (after-right p (not-false R.result.good w.if-not-right.false)) w.if-right-line.true)
     c.then-not-right.branch-raw)
 
 returns-5 : tie.Need-returns
@@ -107,8 +107,8 @@ returns-5 c =
     let R = p.operand_at-right in
     let is-left : L.result.good ≡ true = not-false L.result.good (halved p).if-not-left.false in
     let is_right : R.result.good ≡ true = not-false R.result.good e.if-not-right.false in
-    let all = line-call _ _ (line st) (short h).if-line-gt-MAX_LINE.false (after-right p is_right) (leb-false R.result.next (length (line st)) e.if-right-line.false) in
-    good-line (line st) st.args.l.now _ st.args.r.now _ (L.kept.1.1.0, R.auto.1.1.0) (called p)
+    let all = line-call _ _ (line st) (short h).if-line-gt-MAX_LINE.false (after-right p is_right) e.if-right-line.false in
+    good-line (line st) st.args.l.now _ st.args.r.now _ (L.auto.out, R.auto.out) (called p)
     (ap₂ (answered _ _ _) L.ensures.shape R.ensures.shape)
     all (L.ensures.stored is-left) (R.ensures.stored is_right)
 

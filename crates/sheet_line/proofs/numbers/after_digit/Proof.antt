@@ -49,7 +49,10 @@ loop-again c =
 ends : (c : tie.Left-loop-i invariant-loop decreases-loop) → Ends (line c.before) c.loop-i.i
 ends c =
     let lp = c.before in
-    ⊎_elim (λ w. line-ends (line lp) lp.loop-i.i (omega arith)) (λ w. blank-ends (line lp) lp.loop-i.i w.0.true w.4.false) c.loop-i-test.branch-raw
+    ⊎_elim
+    (λ w. line-ends (line lp) lp.loop-i.i (omega arith))
+    (λ w. blank-ends (line lp) lp.loop-i.i w.loop-i-test.true w.if-b-ne32.false)
+    c.loop-i-test.branch-raw
 
 returns-3 : tie.Need-returns invariant-loop decreases-loop
 returns-3 c =

@@ -20,9 +20,9 @@ after-sign c =
     let l = line c.before in
     let i = at c.before in
     ⊎_elim
-    (λ w. rw (w.3, w.4, eq-eqb (get_or l i 0) minus w.0.true, minus-on l i (omega arith) w.0.true)
-    (first_byte true l (i + 1) w.1.false (λ t. no_way (sym t))))
-    (λ w. rw (w.1, w.2, ne_eqb (get_or l i 0) minus w.0.false) (first_byte false l i (omega arith) (λ t. w.0.false)))
+    (λ w. rw (w.b-is, w.next-is, eq-eqb (get_or l i 0) minus w.if-b-eq45.true, minus-on l i (omega arith) w.if-b-eq45.true)
+    (first_byte true l (i + 1) w.if-line-next.false (λ t. no_way (sym t))))
+    (λ w. rw (w.b-is, w.next-is, ne_eqb (get_or l i 0) minus w.if-b-eq45.false) (first_byte false l i (omega arith) (λ t. w.if-b-eq45.false)))
     c.if-b-eq45.branch-raw
 
 returns : tie.Need-returns-then-line-at
@@ -35,7 +35,7 @@ returns-2 c =
     rw (left_here l i (omega arith), minus-on l i (omega arith) c.if-b-eq45.true, minus-alone l (i + 1) c.if-line-next.true)
 
 from-digit-requires : tie.Need-from_digit-requires
-from-digit-requires c κs = ⊎_elim (λ w. omega (arith, w.1.false, w.4)) (λ w. omega (arith, w.2)) c.if-b-eq45.branch-raw
+from-digit-requires c κs = ⊎_elim (λ w. omega (arith, w.if-line-next.false, w.next-is)) (λ w. omega (arith, w.next-is)) c.if-b-eq45.branch-raw
 
 returns-3 : tie.Need-returns
 returns-3 c =

@@ -1,4 +1,3 @@
-use borrow.Author.Tests.{not-true, not-false}
 use Rattle.std.proofs.Common.{◌≡◌, true, false, pos, arith, to_z-of_z, w32, to_z, rules}
 use mir.Facts.{to_z_pos}
 use Rattle.sheet_line.proofs.Magnitudes.{magnitude-fits, magnitude-over, least, no-largest, opposite-fits, opposite, itself}
@@ -14,12 +13,12 @@ returns c = rw (magnitude-over c.args.negative c.args.magnitude c.if-magnitude-g
 returns-2 : tie.Need-returns-then-not-negative
 returns-2 c =
     let st = c.before.before.before in
-    rw (no-largest st.args.negative st.args.magnitude (not-true st.args.negative c.if-not-negative.true) c.if-magnitude-eq-MAX_MAGNITUDE.true)
+    rw (no-largest st.args.negative st.args.magnitude c.if-not-negative.true c.if-magnitude-eq-MAX_MAGNITUDE.true)
 
 returns-3 : tie.Need-returns-then-magnitude-eq-MAX_MAGNITUDE
 returns-3 c =
     let st = c.before.before.before in
-    rw (least st.args.negative st.args.magnitude (not-false st.args.negative c.if-not-negative.false) c.if-magnitude-eq-MAX_MAGNITUDE.true)
+    rw (least st.args.negative st.args.magnitude c.if-not-negative.false c.if-magnitude-eq-MAX_MAGNITUDE.true)
 
 sub-value : tie.Need-overflow_sub-value
 sub-value c = rw (read-magnitude c.before) (opposite-fits c.args.magnitude (omega arith))

@@ -1,4 +1,4 @@
-use Rattle.std.proofs.Common.{◌≡◌, ℕ, ◌<◌, ◌≤◌, List, length, take, ⊎_elim, arith, rules, ltb-false, ltb-true}
+use Rattle.std.proofs.Common.{◌≡◌, ℕ, ◌<◌, ◌≤◌, List, length, take, ⊎_elim, arith, rules}
 use borrow.Author.Tests.{not-true, not-false}
 use Rattle.shape.specs.Shape.{max_rank, count}
 use Rattle.sheet_line.specs.Call.{operand, room}
@@ -54,16 +54,14 @@ made-is c =
 
 over : (c : tie.Joined-then-count-gt-MAX_HELD) → limit (start (ranked (measured c.before))) < count (lengths (measured c.before))
 over c =
-    let n = c.count-count.result in
-    let out = (start (ranked (measured c.before))).args.out.now in
     let m = made-is c.before in
-    ⊎_elim (λ w. omega (arith, m.held)) (λ w. omega (arith, ltb-true (length out) n w.1.true, m.held)) c.then-count-gt-MAX_HELD.branch-raw
+    ⊎_elim (λ w. omega (arith, m.held)) (λ w. omega (arith, w.if-out-count.true, m.held)) c.then-count-gt-MAX_HELD.branch-raw
 
 count-is : (c : tie.Else-out-count) → c.count-count.result ≡ count (lengths (measured c.before.before))
 count-is c = omega (arith, (made-is c.before.before).held)
 
 has_room : (c : tie.Else-out-count) → c.count-count.result ≤ length (start (ranked (measured c.before.before))).args.out.now
-has_room c = ltb-false (length (start (ranked (measured c.before.before))).args.out.now) c.count-count.result c.if-out-count.false
+has_room c = c.if-out-count.false
 
 after-count : (c : tie.Else-out-count)
     → let e = measured c.before.before in
