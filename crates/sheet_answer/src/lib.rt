@@ -1,4 +1,6 @@
 // The answer to one line of a sheet, printed.
+#![tactic(auto)]
+
 mod answer;
 mod print;
 

@@ -6,5 +6,5 @@ use Rattle.sheet_answer.proofs.print.digit_pairs.Tie as tie
 returns : tie.Need-returns
 returns c = pairs _ refl refl
 
-pub digit-pairs-spec : {M : Type 1} → statement M
-digit-pairs-spec = tie.close (tie.spec returns)
+pub digit_pairs_spec : {M : Type 1} → statement M
+digit_pairs_spec = tie.close (tie.spec returns)

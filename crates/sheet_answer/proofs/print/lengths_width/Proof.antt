@@ -5,22 +5,22 @@ use Rattle.sheet_answer.proofs.Parts.{Summed, sum-none, sum_more, sum-all}
 use Rattle.sheet_answer.proofs.print.lengths_width.Statement.{statement}
 use Rattle.sheet_answer.proofs.print.lengths_width.Tie as tie
 
-abbrev invariant-loop : tie.invariant-loop
+abbrev invariant-loop : tie.invariant-loop-i
 invariant-loop lens sum₀ i₀ sum i = Summed digits lens 22 sum i
 
-abbrev decreases-loop : tie.decreases-loop
+abbrev decreases-loop : tie.decreases-loop-i
 decreases-loop lens sum₀ i₀ sum i = i
 
-loop-again : tie.Need-loop-preserved invariant-loop decreases-loop
+loop-again : tie.Need-loop-i-preserved invariant-loop decreases-loop
 loop-again c =
     let w = c.width.ensures in
-    sum_more c.before.before.before.loop.invariant 0 (omega arith) (omega arith) (omega arith)
+    sum_more c.loop-i.invariant 0 (omega arith) (omega arith) (omega arith)
 
 returns : tie.Need-returns invariant-loop decreases-loop
-returns c = let t = sum-all c.before.loop.invariant (omega arith) in (t.0, omega arith)
+returns c = let t = sum-all c.loop-i.invariant (omega arith) in (t.0, omega arith)
 
-pub lengths-width-spec : {M : Type 1} → statement M
-lengths-width-spec =
+pub lengths_width_spec : {M : Type 1} → statement M
+lengths_width_spec =
     tie.close
     (tie.spec
     invariant-loop

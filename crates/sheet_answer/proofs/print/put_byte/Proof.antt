@@ -8,5 +8,5 @@ use Rattle.sheet_answer.proofs.print.put_byte.Tie as tie
 returns : tie.Need-returns
 returns c = write_byte c.args.text.now (c.args.end - 1) c.args.end c.args.b (omega arith) (omega arith)
 
-pub put-byte-spec : {M : Type 1} → statement M
-put-byte-spec = tie.close (tie.spec (λ c. search rules) (λ c. search rules) (λ c. search rules) returns)
+pub put_byte_spec : {M : Type 1} → statement M
+put_byte_spec = tie.close (tie.spec (λ c. search rules) (λ c. search rules) (λ c. search rules) returns)

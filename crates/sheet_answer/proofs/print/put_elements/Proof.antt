@@ -12,39 +12,39 @@ use Rattle.sheet_answer.proofs.Parts.{Put, put-none, put-room, put-more, put_all
 use Rattle.sheet_answer.proofs.print.put_elements.Statement.{statement}
 use Rattle.sheet_answer.proofs.print.put_elements.Tie as tie
 
-abbrev invariant-loop : tie.invariant-loop
+abbrev invariant-loop : tie.invariant-loop-i
 invariant-loop text₀ end out pairs at₀ i₀ text at i = Put decimal out text₀ text at end i
 
-abbrev decreases-loop : tie.decreases-loop
+abbrev decreases-loop : tie.decreases-loop-i
 decreases-loop text₀ end out pairs at₀ i₀ text at i = i
 
 -- The element that is read before the loop's i.
-abbrev element : tie.At-loop invariant-loop decreases-loop → ℤ
-element c = get_or c.before.before.args.out.now (c.loop.i - 1) (pos 0)
+abbrev element : tie.At-loop-i invariant-loop decreases-loop → ℤ
+element c = get_or c.args.out.now (c.loop-i.i - 1) (pos 0)
 
-read : (c : tie.After-z invariant-loop decreases-loop) → let z = element c.before.before in to_z w32 (of_z w32 z) ≡ z
-read c = read32 (element c.before.before) (sfits_of c.z.given)
+read : (c : tie.After-z-1 invariant-loop decreases-loop) → let z = element c.before.before in to_z w32 (of_z w32 z) ≡ z
+read c = read32 (element c.before.before) (sfits_of c.z-1.given)
 
-put-element-requires : tie.Need-put-element-requires invariant-loop decreases-loop
+put-element-requires : tie.Need-put_element-at-requires invariant-loop decreases-loop
 put-element-requires c κs =
     let lp = c.before.before.before in
-    let w = lp.loop.invariant.written in
+    let w = lp.loop-i.invariant.written in
     let st = lp.before.before in
-    rw (read c.before) (put-room lp.loop.invariant (pos 0) (omega arith) st.requires.0, (omega arith, st.requires.1.1))
+    rw (read c.before) (put-room lp.loop-i.invariant (pos 0) (omega arith) st.requires.0, (omega arith, st.requires.1.1))
 
-loop-again : tie.Need-loop-preserved invariant-loop decreases-loop
+loop-again : tie.Need-loop-i-preserved invariant-loop decreases-loop
 loop-again c =
     let put = c.before.before in
     let z = put.before.before in
-    put-more z.before.before.loop.invariant (pos 0) (omega arith) (rw (read z) at put.put-element.ensures)
+    put-more z.loop-i.invariant (pos 0) (omega arith) (rw (read z) at put.put_element-at.ensures)
 
-pub put-elements-spec : {M : Type 1} → statement M
-put-elements-spec =
+pub put_elements_spec : {M : Type 1} → statement M
+put_elements_spec =
     tie.close
     (tie.spec
     invariant-loop
     decreases-loop
-    (λ c. put-none decimal _ c.before.requires.1.0)
+    (λ c. put-none decimal _ c.requires.1.0)
     (λ c. search rules)
     (λ c. search rules)
     (λ c. search rules)
@@ -52,4 +52,4 @@ put-elements-spec =
     (λ c. search rules)
     loop-again
     (λ c. search rules)
-    (λ c. put_all c.before.loop.invariant (omega arith)))
+    (λ c. put_all c.loop-i.invariant (omega arith)))

@@ -9,11 +9,11 @@ returns c =
     let blank = line.before.before.before.before in
     let first = blank.before.before.before.before in
     let second = first.before.before.before.before in
-    let word = write-more second.put_byte.ensures first.put-byte2.ensures in
-    write-more (write-more word blank.put-byte3.ensures) line.put-digits.ensures
+    let word = write-more second.put_byte-second.ensures first.put_byte-first.ensures in
+    write-more (write-more word blank.put_byte-start.ensures) line.put_digits.ensures
 
-pub put-head-spec : {M : Type 1} → statement M
-put-head-spec =
+pub put_head_spec : {M : Type 1} → statement M
+put_head_spec =
     tie.close
     (tie.spec
     (λ c κs. search rules)

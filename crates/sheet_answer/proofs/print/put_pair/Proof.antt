@@ -11,10 +11,10 @@ returns c =
     let n = st.args.n in
     let small = st.requires.1.1.0 in
     let table = st.requires.1.1.1 in
-    rw (table.tens n small, table.ones n small) at (write-more ones.put_byte.ensures tens.put-byte2.ensures)
+    rw (table.tens n small, table.ones n small) at (write-more ones.put_byte-second.ensures tens.put_byte.ensures)
 
-pub put-pair-spec : {M : Type 1} → statement M
-put-pair-spec =
+pub put_pair_spec : {M : Type 1} → statement M
+put_pair_spec =
     tie.close
     (tie.spec
     (λ c. search rules)

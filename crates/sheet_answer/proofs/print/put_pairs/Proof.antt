@@ -8,46 +8,46 @@ use Rattle.sheet_answer.proofs.Writing.{digits-pair, digits-two, Spelt, spell-no
 use Rattle.sheet_answer.proofs.print.put_pairs.Statement.{statement}
 use Rattle.sheet_answer.proofs.print.put_pairs.Tie as tie
 
-abbrev invariant-loop : tie.invariant-loop
+abbrev invariant-loop : tie.invariant-loop-rest
 invariant-loop text₀ end n pairs i₀ rest₀ text i rest = Spelt text₀ text i end n rest
 
-abbrev decreases-loop : tie.decreases-loop
+abbrev decreases-loop : tie.decreases-loop-rest
 decreases-loop text₀ end n pairs i₀ rest₀ text i rest = rest
 
-room : (c : tie.At-loop invariant-loop decreases-loop) → (0 < c.loop.i) × (c.loop.i ≤ length c.loop.text)
-room c = spell-room c.loop.invariant c.before.before.requires.0
+room : (c : tie.At-loop-rest invariant-loop decreases-loop) → (0 < c.loop-rest.i) × (c.loop-rest.i ≤ length c.loop-rest.text)
+room c = spell-room c.loop-rest.invariant c.requires.0
 
-pair : (c : tie.At-loop invariant-loop decreases-loop) {n : ℕ} → 10 ≤ c.loop.rest → n < 100
-    → (1 < c.loop.i) × ((c.loop.i ≤ length c.loop.text) × ((n < 100) × Pairs c.before.before.args.pairs.now))
+pair : (c : tie.At-loop-rest invariant-loop decreases-loop) {n : ℕ} → 10 ≤ c.loop-rest.rest → n < 100
+    → (1 < c.loop-rest.i) × ((c.loop-rest.i ≤ length c.loop-rest.text) × ((n < 100) × Pairs c.args.pairs.now))
 pair c h k =
     let st = c.before.before in
-    (spell-room-two c.loop.invariant st.requires.0 h, ((room c).1, (k, st.requires.1.1)))
+    (spell-room-two c.loop-rest.invariant st.requires.0 h, ((room c).1, (k, st.requires.1.1)))
 
-loop-again : tie.Need-loop-preserved invariant-loop decreases-loop
+loop-again : tie.Need-loop-rest-preserved invariant-loop decreases-loop
 loop-again c =
     let put = c.before.before in
     let test = put.before.before in
-    spell-more test.before.loop.invariant put.put-pair.ensures _ (digits-two _ test.loop-test.true)
+    spell-more test.loop-rest.invariant put.put_pair-i.ensures _ (digits-two _ test.loop-rest-test.true)
 
-returns : tie.Need-returns invariant-loop decreases-loop
+returns : tie.Need-returns-then-rest-ge10 invariant-loop decreases-loop
 returns c =
     let put = c.before.before in
     let test = put.before.before in
-    spell_last test.before.before.loop.invariant put.put-pair2.ensures (digits-pair _ test.if1.true test.before.loop-test.false)
+    spell_last test.loop-rest.invariant put.put_pair.ensures (digits-pair _ test.if-rest-ge10.true test.loop-rest-test.false)
 
-returns-2 : tie.Need-returns-2 invariant-loop decreases-loop
+returns-2 : tie.Need-returns invariant-loop decreases-loop
 returns-2 c =
     let put = c.before.before in
     let test = put.before.before in
-    spell_last test.before.before.loop.invariant put.put_byte.ensures (digits-one _ test.if1.false)
+    spell_last test.loop-rest.invariant put.put_byte.ensures (digits-one _ test.if-rest-ge10.false)
 
-pub put-pairs-spec : {M : Type 1} → statement M
-put-pairs-spec =
+pub put_pairs_spec : {M : Type 1} → statement M
+put_pairs_spec =
     tie.close
     (tie.spec
     invariant-loop
     decreases-loop
-    (λ c. spell-none _ c.before.requires.1.0)
+    (λ c. spell-none _ c.requires.1.0)
     (λ c κs. pair c.before.before (omega arith) (omega arith))
     (λ c. omega arith)
     loop-again

@@ -7,7 +7,7 @@ returns : tie.Need-returns
 returns c =
     let blank = c.before.before in
     let digits = blank.before.before.before.before in
-    write-more digits.put-digits.ensures blank.put_byte.ensures
+    write-more digits.put_digits-at.ensures blank.put_byte.ensures
 
-pub put-part-spec : {M : Type 1} → statement M
-put-part-spec = tie.close (tie.spec (λ c κs. search rules) (λ c κs. search rules) (λ c. search rules) returns)
+pub put_part_spec : {M : Type 1} → statement M
+put_part_spec = tie.close (tie.spec (λ c κs. search rules) (λ c κs. search rules) (λ c. search rules) returns)

@@ -10,8 +10,8 @@ returns c =
     let st = fifth.before.before.before.before.before in
     omega (arith, width-reached 9 st.args.n st.requires)
 
-pub short-width-spec : {M : Type 1} → statement M
-short-width-spec =
+pub short_width_spec : {M : Type 1} → statement M
+short_width_spec =
     tie.close
     (tie.spec
     (λ c κs. search rules)

@@ -4,8 +4,8 @@ use borrow.Author.Rules.{rules}
 use Rattle.sheet_answer.proofs.print.width.Statement.{statement}
 use Rattle.sheet_answer.proofs.print.width.Tie as tie
 
-returns-2 : tie.Need-returns-2
-returns-2 c = omega (arith, width_above 10 c.before.before.args.n (omega arith))
+returns-2 : tie.Need-returns
+returns-2 c = omega (arith, width_above 10 c.args.n (omega arith))
 
 pub width_spec : {M : Type 1} → statement M
 width_spec =
