@@ -23,27 +23,27 @@ arm : (st : tie.Start) (L : Operand) {n : ℕ} {a : Answer} {out : List ℤ} →
     → Replied a out (reply st.args.primitive st.args.g st.args.k L (right st) st.args.out.now)
 arm st L e r = keyed st.requires e st.ranges.g st.ranges.k L (right st) st.args.out.now r
 
-returns : tie.Need-returns
-returns c L = let m = c.before.before.before in arm m.before L m.match.keys1 (c.before.shape_of.ensures _ L)
+returns : tie.Need-returns-in-11
+returns c L = let m = c.before.before.before in arm m.before L m.in-11.in-11-own.keys1 (c.shape_of.ensures _ L)
 
-returns-2 : tie.Need-returns-2
-returns-2 c L = let m = c.before.before.before in arm m.before L m.match.keys2 (c.before.ravel.ensures _ L)
+returns-2 : tie.Need-returns-in-12
+returns-2 c L = let m = c.before.before.before in arm m.before L m.in-12.in-12-own.keys2 (c.ravel.ensures _ L)
 
-returns-3 : tie.Need-returns-3
-returns-3 c L = let m = c.before.before.before in arm m.before L m.match.keys3 (c.before.interval.ensures _ L)
+returns-3 : tie.Need-returns-in-13
+returns-3 c L = let m = c.before.before.before in arm m.before L m.in-13.in-13-own.keys3 (c.interval.ensures _ L)
 
-returns-4 : tie.Need-returns-4
-returns-4 c L = let m = c.before.before.before in arm m.before L m.match.keys4 (c.before.reverse.ensures L)
+returns-4 : tie.Need-returns-in-14
+returns-4 c L = let m = c.before.before.before in arm m.before L m.in-14.in-14-own.keys4 (c.reverse.ensures L)
 
-returns-5 : tie.Need-returns-5
-returns-5 c L = let m = c.before.before.before in arm m.before L m.match.keys5 (c.before.transpose.ensures _ L)
+returns-5 : tie.Need-returns-in-15
+returns-5 c L = let m = c.before.before.before in arm m.before L m.in-15.in-15-own.keys5 (c.transpose.ensures _ L)
 
 -- No number of the range is left.
-returns-6 : tie.Need-returns-6
-returns-6 c L = absurd (no_arm c.before.before.requires 5 (omega arith) c.before.match.rest)
+returns-6 : tie.Need-returns-in_default
+returns-6 c L = absurd (no_arm c.requires 5 (omega arith) c.in_default.in_default-own.rest)
 
-pub call-one-spec : {M : Type 1} → statement M
-call-one-spec =
+pub call_one_spec : {M : Type 1} → statement M
+call_one_spec =
     tie.close
     (tie.spec
     (λ c κs. search rules)

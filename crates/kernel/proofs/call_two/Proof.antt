@@ -26,45 +26,45 @@ arm : (st : tie.Start) {n : ℕ} {a : Answer} {out : List ℤ} → of_z w32 st.a
     → Replied a out (reply st.args.primitive st.args.g st.args.k (left st) (right st) st.args.out.now)
 arm st e r = keyed st.requires e st.ranges.g st.ranges.k (left st) (right st) st.args.out.now r
 
-returns : tie.Need-returns
-returns c = let m = c.before.before.before in arm m.before m.match.keys1 (c.before.reshape.ensures _)
+returns : tie.Need-returns-in-21
+returns c = let m = c.before.before.before in arm m.before m.in-21.in-21-own.keys1 (c.reshape.ensures _)
 
-returns-2 : tie.Need-returns-2
-returns-2 c = let m = c.before.before.before in arm m.before m.match.keys2 c.before.catenate.ensures
+returns-2 : tie.Need-returns-in-22
+returns-2 c = let m = c.before.before.before in arm m.before m.in-22.in-22-own.keys2 c.catenate.ensures
 
-returns-3 : tie.Need-returns-3
-returns-3 c = let m = c.before.before.before in arm m.before m.match.keys3 (c.before.take.ensures _)
+returns-3 : tie.Need-returns-in-23
+returns-3 c = let m = c.before.before.before in arm m.before m.in-23.in-23-own.keys3 (c.take.ensures _)
 
-returns-4 : tie.Need-returns-4
-returns-4 c = let m = c.before.before.before in arm m.before m.match.keys4 (c.before.drop.ensures _)
+returns-4 : tie.Need-returns-in-24
+returns-4 c = let m = c.before.before.before in arm m.before m.in-24.in-24-own.keys4 (c.drop.ensures _)
 
-returns-5 : tie.Need-returns-5
-returns-5 c = let m = c.before.before.before in arm m.before m.match.keys5 c.before.rotate.ensures
+returns-5 : tie.Need-returns-in-25
+returns-5 c = let m = c.before.before.before in arm m.before m.in-25.in-25-own.keys5 c.rotate.ensures
 
-returns-6 : tie.Need-returns-6
-returns-6 c = let m = c.before.before.before in arm m.before m.match.keys6 (c.before.transpose-by.ensures _)
+returns-6 : tie.Need-returns-in-26
+returns-6 c = let m = c.before.before.before in arm m.before m.in-26.in-26-own.keys6 (c.transpose_by.ensures _)
 
-returns-7 : tie.Need-returns-7
-returns-7 c = let m = c.before.before.before in arm m.before m.match.keys7 c.before.compress.ensures
+returns-7 : tie.Need-returns-in-27
+returns-7 c = let m = c.before.before.before in arm m.before m.in-27.in-27-own.keys7 c.compress.ensures
 
-returns-8 : tie.Need-returns-8
-returns-8 c = let m = c.before.before.before in arm m.before m.match.keys8 c.before.expand.ensures
+returns-8 : tie.Need-returns-in-28
+returns-8 c = let m = c.before.before.before in arm m.before m.in-28.in-28-own.keys8 c.expand.ensures
 
-returns-9 : tie.Need-returns-9
-returns-9 c = let m = c.before.before.before in arm m.before m.match.keys9 (c.before.index_of.ensures _)
+returns-9 : tie.Need-returns-in-29
+returns-9 c = let m = c.before.before.before in arm m.before m.in-29.in-29-own.keys9 (c.index_of.ensures _)
 
-returns-10 : tie.Need-returns-10
-returns-10 c = let m = c.before.before.before in arm m.before m.match.keys10 (c.before.member.ensures _)
+returns-10 : tie.Need-returns-in-30
+returns-10 c = let m = c.before.before.before in arm m.before m.in-30.in-30-own.keys10 (c.member.ensures _)
 
-returns-11 : tie.Need-returns-11
-returns-11 c = let m = c.before.before.before in arm m.before m.match.keys11 c.before.select.ensures
+returns-11 : tie.Need-returns-in-31
+returns-11 c = let m = c.before.before.before in arm m.before m.in-31.in-31-own.keys11 c.select.ensures
 
 -- No number of the range is left.
-returns-12 : tie.Need-returns-12
-returns-12 c = absurd (no_arm c.before.before.requires 11 (omega arith) c.before.match.rest)
+returns-12 : tie.Need-returns-in_default
+returns-12 c = absurd (no_arm c.requires 11 (omega arith) c.in_default.in_default-own.rest)
 
-pub call-two-spec : {M : Type 1} → statement M
-call-two-spec =
+pub call_two_spec : {M : Type 1} → statement M
+call_two_spec =
     tie.close
     (tie.spec
     (λ c κs. search rules)
