@@ -1,4 +1,6 @@
 // The kernel for C: the library that `rt staticlib gillgrater` makes. include/gillgrater.h declares these functions; the two change together.
+#![tactic(auto)]
+
 ghost use Rattle.std.specs.Prelude.{◌≡◌};
 ghost use Rattle.shape.specs.Shape.{max_rank, max_count, count_of};
 ghost use Rattle.shape.specs.Place.{successor};

@@ -1,4 +1,6 @@
 // The numbered entry point.
+#![tactic(auto)]
+
 ghost use Rattle.meaning.specs.Array.{Operand};
 ghost use Rattle.meaning.specs.Reply.{reply};
 ghost use Rattle.answer.specs.Answer.{lent, Replied};

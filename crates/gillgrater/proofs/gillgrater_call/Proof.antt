@@ -9,7 +9,7 @@ returns : tie.Need-returns
 returns c =
     let st = c.before.before.before in
     carried (lent st.args.ls st.args.l.now) (lent st.args.rs st.args.r.now) st.args.out.now
-    (read32 _ st.ranges.primitive) (read32 _ st.ranges.g) (read32 _ st.ranges.k) c.before.call.ensures
+    (read32 _ st.ranges.primitive) (read32 _ st.ranges.g) (read32 _ st.ranges.k) c.call.ensures
 
-pub gillgrater-call-spec : {M : Type 1} → statement M
-gillgrater-call-spec = tie.close (tie.spec (λ c κs. search rules) (λ c. search rules) returns)
+pub gillgrater_call_spec : {M : Type 1} → statement M
+gillgrater_call_spec = tie.close (tie.spec (λ c κs. search rules) (λ c. search rules) returns)

@@ -11,8 +11,8 @@ use Rattle.gillgrater.proofs.gillgrater_item.Tie as tie
 returns : tie.Need-returns
 returns c =
     let st = c.before in
-    let e = c.leading-part.ensures ∙ ap₂ (item_part (lent st.args.rs st.args.r.now)) (read32 _ st.ranges.g) (read32 _ st.ranges.i) in
+    let e = c.leading_part.ensures ∙ ap₂ (item_part (lent st.args.rs st.args.r.now)) (read32 _ st.ranges.g) (read32 _ st.ranges.i) in
     (e, ap (λ (p : Part). part_in p st.args.r.now) e ∙ part-elements _ st.args.g st.args.i)
 
-pub gillgrater-item-spec : {M : Type 1} → statement M
-gillgrater-item-spec = tie.close (tie.spec (λ c κs. search rules) returns)
+pub gillgrater_item_spec : {M : Type 1} → statement M
+gillgrater_item_spec = tie.close (tie.spec (λ c κs. search rules) returns)

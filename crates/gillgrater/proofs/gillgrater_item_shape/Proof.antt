@@ -10,8 +10,8 @@ use Rattle.gillgrater.proofs.gillgrater_item_shape.Tie as tie
 returns : tie.Need-returns
 returns c =
     let st = c.before in
-    c.item-shape.ensures
+    c.item_shape.ensures
     ∙ ap₂ (λ g i. item_answer (leading_item (lent st.args.rs st.args.r.now) g i)) (read32 _ st.ranges.g) (read32 _ st.ranges.i)
 
-pub gillgrater-item-shape-spec : {M : Type 1} → statement M
-gillgrater-item-shape-spec = tie.close (tie.spec (λ c κs. search rules) returns)
+pub gillgrater_item_shape_spec : {M : Type 1} → statement M
+gillgrater_item_shape_spec = tie.close (tie.spec (λ c κs. search rules) returns)
