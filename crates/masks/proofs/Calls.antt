@@ -143,7 +143,8 @@ module _ {a : Action} {G K : ℤ} {ls rs : Shape} {l r : List ℤ} {s : Shape} {
   good = read-lent rs d.read r d.fine.right
 
   -- The mask, R and its rank, and the axis, as the program sees them.
-  seen : (P : List ℤ → ℕ → Array → ℕ → Type 0) → P (array_of (lent ls l)).elements (rank (array_of (lent rs r))) (as_vector (array_of (lent rs r))) (from_zero G K)
+  seen : (P : List ℤ → ℕ → Array → ℕ → Type 0)
+      → P (array_of (lent ls l)).elements (rank (array_of (lent rs r))) (as_vector (array_of (lent rs r))) (from_zero G K)
       → P mask rs.rank right axis
   seen P x =
       let h = d.fine.right.rank_is in

@@ -20,19 +20,6 @@ loop-holds c = (omega arith, before-none c.args.l.now)
 add-n : tie.Need-overflow_add-n invariant-loop decreases-loop
 add-n c = let lp = c.before.before.before in omega (arith, before-le lp.args.l.now lp.loop-i.i)
 
-loop-again : tie.Need-loop-i-preserved invariant-loop decreases-loop
-loop-again c =
-    let at = c.before.before.before in
-    let lp = at.loop-i in
-    let l = at.args.l.now in
-    let fits = sfits_of c.t7-1.given in (
-      omega arith,
-      ⊎_elim
-          (λ w. omega (arith, w.n-is, before-one l lp.i (omega arith) (test-one _ fits w.if-l-i-eq1.true)))
-          (λ w. omega (arith, w.n-is, before-other l lp.i (omega arith) (test-other _ fits w.if-l-i-eq1.false)))
-          c.if-l-i-eq1.branch-raw,
-    )
-
 returns : tie.Need-returns invariant-loop decreases-loop
 returns c = c.loop-i.invariant.1 ∙ before-all c.args.l.now c.loop-i.i (omega arith)
 
@@ -48,5 +35,14 @@ count_ones_spec =
     add-n
     (λ c. search rules)
     (λ c. search rules)
-    loop-again
+    (λ c.
+    let lp = c.loop-i in
+    let l = c.args.l.now in
+    let fits = sfits_of c.t7-1.given in (
+      omega arith,
+      ⊎_elim
+          (λ w. omega (arith, w.n-is, before-one l lp.i (omega arith) (test-one _ fits w.if-l-i-eq1.true)))
+          (λ w. omega (arith, w.n-is, before-other l lp.i (omega arith) (test-other _ fits w.if-l-i-eq1.false)))
+          c.if-l-i-eq1.branch-raw,
+    ))
     returns)
