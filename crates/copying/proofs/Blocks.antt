@@ -32,6 +32,13 @@ source_in m n c φ o i h =
     let e : o * (m * c) + i ≡ (o * m + i / c) * c + i % c = omega arith in
     ap (source m n c φ) e ∙ source-at m n c φ o (i / c) (i % c) w.1 (mod-lt i w.0)
 
+-- The row of element i of block o.
+pub row_of : (m c o i : ℕ) → i < m * c → (o * (m * c) + i) / c % m ≡ i / c
+row_of m c o i h =
+    let w = row_in m c i h in
+    let e : o * (m * c) + i ≡ (o * m + i / c) * c + i % c = omega (arith, div-add-mod' i c) in
+    ap (λ y. y / c % m) e ∙ ap (λ y. y % m) (digits_div (o * m + i / c) (mod-lt i w.0)) ∙ digits_mod o w.1
+
 -- What is read lies in the source.
 pub source-lt : (o m n c j : ℕ) (φ : ℕ → ℕ) → φ (j / c % m) < n → 0 < c → 0 < m → j < o * m * c → source m n c φ j < o * n * c
 source-lt o m n c j φ h c> m> l =
@@ -52,10 +59,7 @@ module _ (t : ℕ → Bool) (φ : ℕ → ℕ) (n m c : ℕ) (r : List ℤ) (o :
   block_at i from size h f s =
       let w = row_in m c i h in
       let x : i % c < c = mod-lt i w.0 in
-      let split : i ≡ i / c * c + i % c = sym (div-add-mod' i c) in
-      let e : o * (m * c) + i ≡ (o * m + i / c) * c + i % c = omega arith in
-      let row : (o * (m * c) + i) / c % m ≡ i / c = ap (λ y. y / c % m) e ∙ ap (λ y. y % m) (digits_div (o * m + i / c) x) ∙ digits_mod o w.1 in
-      ap₂ (λ y z. cond (t y) (get_or r z (pos 0)) (pos 0)) row (source_in m n c φ o i h)
+      ap₂ (λ y z. cond (t y) (get_or r z (pos 0)) (pos 0)) (row_of m c o i h) (source_in m n c φ o i h)
       ∙ cond_same (pos 0) (t (i / c))
       (λ v.
       let inside : φ (i / c) * c + i % c < n * c = digits_lt (low (i / c) w.1 v) x in

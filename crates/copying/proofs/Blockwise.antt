@@ -3,12 +3,12 @@ use Prim.Native.Nat.{ℕ, ◌+◌, ◌*◌, ◌-◌, ◌≤◌, ◌<◌}
 use native.Mathlib.Omega.{arith}
 use mathlib.Core.Path.{◌≡◌, refl, ap, ◌∙◌}
 use mathlib.Core.List.{List}
-use lib.ListN.{length, take, drop}
-use lib.IntN.{ℤ}
+use lib.ListN.{length, set, take, drop, length-set}
+use lib.IntN.{ℤ, pos}
 use borrow.Rule.Slice.PartMut.{put_mid, same_len_mid}
 use Rattle.shape.proofs.Places.{row_fits}
 use Rattle.copying.specs.Steps.{filled}
-use Rattle.copying.proofs.Runs.{filled_none}
+use Rattle.copying.proofs.Runs.{filled_none, filled-one}
 
 -- After o blocks of so many elements, up to `at`, where g says what the elements are.
 pub record Blockwise (outer size : ℕ) (g : ℕ → ℤ) (out₀ out : List ℤ) (at o : ℕ) : Type 0 where
@@ -29,17 +29,22 @@ module _ {outer size : ℕ} {g : ℕ → ℤ} {out₀ out : List ℤ} {at o : �
   pub blockwise-at : Blockwise outer size g out₀ out (o * size) o
   blockwise-at = record { some = b.some; at-is = refl; long = b.long; done = b.done ∙ ap (λ k. filled g k out₀) b.at-is }
 
-  -- A block more: what was written to the part that was lent.
+  -- A block more, and the same where it was written to the part that was lent.
+  pub blockwise-more : (next : List ℤ) → o < outer → length next ≡ length out → next ≡ filled g (at + size) out₀
+      → Blockwise outer size g out₀ next (at + size) (o + 1)
+  blockwise-more next l k e = record { some = omega arith; at-is = omega (arith, b.at-is); long = k ∙ b.long; done = e }
+
   pub blockwise-next : (last : List ℤ) → o < outer → length last ≡ length (take (at + size - at) (drop at out))
       → put_mid at (at + size - at) out last ≡ filled g (at + size) out₀ → Blockwise outer size g out₀ (put_mid at (at + size - at) out last) (at + size) (o + 1)
-  blockwise-next last l k e = record {
-    some = omega arith;
-    at-is = omega (arith, b.at-is);
-    long = same_len_mid at (at + size - at) out last k ∙ b.long;
-    done = e;
-  }
+  blockwise-next last l k e = blockwise-more (put_mid at (at + size - at) out last) l (same_len_mid at (at + size - at) out last k) e
 
   pub blockwise-all : outer ≤ o → out ≡ filled g (outer * size) out₀
   blockwise-all h =
       let e : o ≡ outer = omega (arith, b.some) in
       b.done ∙ ap (λ k. filled g k out₀) (b.at-is ∙ ap (λ k. k * size) e)
+
+-- Blocks of one element, which is stored.
+pub blockwise-one : {outer : ℕ} {g : ℕ → ℤ} {out₀ out : List ℤ} {i : ℕ} (b : Blockwise outer 1 g out₀ out i i) → i < outer → outer ≤ length out₀
+    → (v : ℤ) → v ≡ g i → Blockwise outer 1 g out₀ (set out i v) (i + 1) (i + 1)
+blockwise-one {g = g} {out₀} {out} {i} b l room v e =
+    blockwise-more b (set out i v) l (length-set out i v) (ap (λ x. set x i v) b.done ∙ filled-one g (pos 0) v i out₀ (omega arith) e)

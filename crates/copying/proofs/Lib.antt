@@ -4,3 +4,5 @@ pub mod Blocks
 pub mod Parts
 pub mod Blockwise
 pub mod Moves
+pub mod Gathering
+pub mod Gathered

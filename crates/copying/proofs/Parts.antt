@@ -1,5 +1,5 @@
 -- A buffer that is filled part by part, each part by a function that fills it.
-use mathlib.Core.Path.{◌≡◌, sym, ap, ap₂, ◌∙◌}
+use mathlib.Core.Path.{◌≡◌, refl, sym, ap, ap₂, ◌∙◌}
 use mathlib.Core.List.{List, ◌++◌, append_assoc}
 use Prim.Native.Nat.{ℕ, ◌+◌, ◌-◌, ◌≤◌, ◌<◌}
 use native.Mathlib.Omega.{arith}
@@ -44,3 +44,20 @@ filled_on g n k out h same =
     (λ i l. same i l ∙ sym (get_or-take k rest i (pos 0) l ∙ get_or-drop n out i (pos 0))))
     (drop-drop k n out)
     ∙ ap (λ x. x ++ drop (n + k) out) (sym (tab-add n k g))
+
+-- One block more, of which a part was written: a .. a + w of the block that begins at n. What is before it and after it stays.
+pub put-between : (g : ℕ → ℤ) (n size a w : ℕ) {out : List ℤ} (out₀ last : List ℤ) → out ≡ filled g n out₀ → a + w ≤ size → n + size ≤ length out₀
+    → ((y : ℕ) → y < a → g (n + y) ≡ get_or out₀ (n + y) (pos 0))
+    → length last ≡ w → ((i : ℕ) → i < w → g (n + (a + i)) ≡ get_or last i (pos 0))
+    → ((y : ℕ) → a + w ≤ y → y < size → g (n + y) ≡ get_or out₀ (n + y) (pos 0))
+    → (to : ℕ) → to ≡ n + a → put_mid to (to + w - to) out last ≡ filled g (n + size) out₀
+put-between g n size a w {out} out₀ last done fits room before long within after to e =
+    let rest : ℕ = size - (a + w) in
+    let front : out ≡ filled g to out₀ = done ∙ filled_on g n a out₀ (omega arith) before ∙ ap (λ x. filled g x out₀) (sym e) in
+    let here : (i : ℕ) → to + i ≡ n + (a + i) = λ i. omega arith in
+    let there : (i : ℕ) → to + w + i ≡ n + (a + w + i) = λ i. omega arith in
+    let all : to + w + rest ≡ n + size = omega arith in
+    put-list g (pos 0) to w (to + w) out out₀ last front refl long (λ i l. ap g (here i) ∙ within i l)
+    ∙ filled_on g (to + w) rest out₀ (omega arith)
+    (λ i l. ap g (there i) ∙ after (a + w + i) (omega arith) (omega arith) ∙ ap (λ x. get_or out₀ x (pos 0)) (sym (there i)))
+    ∙ ap (λ x. filled g x out₀) all

@@ -1,9 +1,14 @@
-// Runs of elements that are copied, filled and reversed. Each is one tight loop, so that it is compiled to moves of many elements.
+// Runs of elements that are copied, filled and reversed, and rows that are gathered. Each is one tight loop, so that it is compiled to moves of many
+// elements.
 #![tactic(auto)]
 
-ghost use Rattle.std.specs.Prelude.{◌≡◌, ◌++◌, min, ◌+◌, ◌≤◌, length, replicate, take, drop};
+ghost use Rattle.std.specs.Prelude.{◌≡◌, ◌++◌, true, min, ◌+◌, ◌*◌, ◌≤◌, ◌<◌, length, replicate, take, drop, ltb};
 ghost use Rattle.shape.specs.Shape.{max_count};
+ghost use Rattle.meaning.specs.Array.{tab};
+ghost use Rattle.meaning.specs.Terms.{every};
 ghost use Rattle.copying.specs.Runs.{copied, reversed};
+ghost use Rattle.copying.specs.Steps.{filled};
+ghost use Rattle.copying.specs.Gather.{small_blocks, gathers, gathered_at, gathered, rows_by, RowsBy};
 
 use shape::Shape;
 
@@ -115,5 +120,144 @@ pub fn reverse_run(src: &[i32], out: &mut [i32])
     while j < n {
         out[j] = src[n - 1 - j];
         j += 1;
+    }
+}
+
+// How many positions a caller notes at a time: a few cache lines of them. With half as many a vector takes an eighth longer.
+pub const NOTED: usize = 128;
+
+// The blocks along an axis: how many, the rows that each has in the source and in the result, and the elements of a row.
+#[derive(Clone, Copy)]
+pub struct AxisBlocks {
+    pub outer: usize,
+    pub taken: usize,
+    pub made: usize,
+    pub inner: usize,
+}
+
+// In each block the rows at the positions `at`, to the rows from `first` on; the block's other rows stay, and all of `out` where they cannot go.
+pub fn gather(at: &[u16], first: usize, b: AxisBlocks, r: &[i32], out: &mut [i32])
+    ensures { out.new ≡ gathered at.now first b r.now out.old }
+{
+    if gathers(at, first, b, r.len(), out.len()) {
+        gather_blocks(at, first, b, r, out);
+    }
+}
+
+// Asked once for all blocks, so that no element is tested.
+fn gathers(at: &[u16], first: usize, b: AxisBlocks, n: usize, m: usize) -> bool
+    ensures { result ≡ gathers at.now first b n m }
+{
+    if !small(b) {
+        return false;
+    }
+    if n < b.outer * (b.taken * b.inner) {
+        return false;
+    }
+    if m < b.outer * (b.made * b.inner) {
+        return false;
+    }
+    if b.made < first {
+        return false;
+    }
+    if b.made - first < at.len() {
+        return false;
+    }
+    all_below(at, b.taken)
+}
+
+// Whether no count is above the limit, so that their products are held.
+fn small(b: AxisBlocks) -> bool
+    ensures { result ≡ small_blocks b }
+{
+    if Shape::MAX_COUNT < b.outer {
+        return false;
+    }
+    if Shape::MAX_COUNT < b.taken {
+        return false;
+    }
+    if Shape::MAX_COUNT < b.made {
+        return false;
+    }
+    b.inner <= Shape::MAX_COUNT
+}
+
+// No position ends the loop, so that it is compiled to tests of many positions.
+fn all_below(at: &[u16], n: usize) -> bool
+    requires { n ≤ max_count }
+    ensures { result ≡ every (λ x. ltb x n) at.now }
+{
+    let end = n as u16;
+    let mut all = true;
+    let mut i = 0;
+    while i < at.len() {
+        if end <= at[i] {
+            all = false;
+        }
+        i += 1;
+    }
+    all
+}
+
+fn gather_blocks(at: &[u16], first: usize, b: AxisBlocks, r: &[i32], out: &mut [i32])
+    requires { gathers at.now first b (length r.now) (length out.old) ≡ true }
+    ensures { out.new
+        ≡ filled (gathered_at at.now first b r.now out.old) (b.outer * (b.made * b.inner)) out.old }
+{
+    let size = b.taken * b.inner;
+    let part = b.made * b.inner;
+    let some = at.len() * b.inner;
+    let mut from = 0;
+    let mut to = first * b.inner;
+    let mut o = 0;
+    while o < b.outer {
+        let stop = from + size;
+        let end = to + some;
+        gather_block(at, b.inner, &r[from..stop], &mut out[to..end]);
+        from = stop;
+        to += part;
+        o += 1;
+    }
+}
+
+// A row of one element is no run: one loop over the line.
+fn gather_block(at: &[u16], inner: usize, r: &[i32], out: &mut [i32])
+    requires { RowsBy at.now inner (length r.now) (length out.old) }
+    ensures { out.new ≡ tab (length at.now * inner) (rows_by at.now inner r.now) }
+{
+    if inner == 1 {
+        gather_line(at, r, out);
+    } else {
+        gather_rows(at, inner, r, out);
+    }
+}
+
+fn gather_line(at: &[u16], r: &[i32], out: &mut [i32])
+    requires { RowsBy at.now 1 (length r.now) (length out.old) }
+    ensures { out.new ≡ tab (length at.now * 1) (rows_by at.now 1 r.now) }
+{
+    let mut q = 0;
+    while q < at.len() {
+        let x = at[q] as usize;
+        out[q] = r[x];
+        q += 1;
+    }
+}
+
+// Each row by itself: to join neighbours to one run took longer.
+fn gather_rows(at: &[u16], inner: usize, r: &[i32], out: &mut [i32])
+    requires { RowsBy at.now inner (length r.now) (length out.old) }
+    ensures { out.new ≡ tab (length at.now * inner) (rows_by at.now inner r.now) }
+{
+    let mut to = 0;
+    let mut q = 0;
+    while q < at.len() {
+        let x = at[q] as usize;
+        let from = x * inner;
+        let stop = from + inner;
+        let end = to + inner;
+        copy_run(&r[from..stop], &mut out[to..end]);
+        to = end;
+        q += 1;
     }
 }
