@@ -14,74 +14,74 @@ use Rattle.copying.proofs.Gathering.{Gathers, gathers-is, product-two, block-lie
 use Rattle.copying.proofs.gather_blocks.Statement.{statement}
 use Rattle.copying.proofs.gather_blocks.Tie as tie
 
-abbrev invariant-loop : tie.invariant-loop
+abbrev invariant-loop : tie.invariant-loop-o
 invariant-loop at first b r out₀ size part some from₀ to₀ o₀ out from to o =
     (from ≡ o * (b.taken * b.inner))
     × ((to ≡ o * (b.made * b.inner) + first * b.inner)
     × Blockwise b.outer (b.made * b.inner) (gathered_at at first b r out₀) out₀ out (o * (b.made * b.inner)) o)
 
-abbrev decreases-loop : tie.decreases-loop
+abbrev decreases-loop : tie.decreases-loop-o
 decreases-loop at first b r out₀ size part some from₀ to₀ o₀ out from to o = b.outer - o
 
 known : (st : tie.Start invariant-loop decreases-loop) → let a = st.args in Gathers a.at.now a.first a.b (length a.r.now) (length a.out.now)
 known st = gathers-is st.requires
 
-abbrev start : tie.At-loop invariant-loop decreases-loop → tie.Start invariant-loop decreases-loop
+abbrev start : tie.At-loop-o invariant-loop decreases-loop → tie.Start invariant-loop decreases-loop
 start c = c.before.before.before.before.before.before
 
 -- The block that is read and the rows that are written lie within both.
-room : (c : tie.Then1 invariant-loop decreases-loop)
+room : (c : tie.In-loop-o invariant-loop decreases-loop)
     → let a = (start c.before.before).args in
-    let lp = c.before.before.loop in
+    let lp = c.loop-o in
     (lp.from + a.b.taken * a.b.inner ≤ length a.r.now) × (lp.to + length a.at.now * a.b.inner ≤ length lp.out)
 room c =
     let lp = c.before.before in
-    let i = lp.loop.invariant in
-    let l = block-lies (known (start lp)) lp.loop.o (omega arith) in
+    let i = lp.loop-o.invariant in
+    let l = block-lies (known (start lp)) lp.loop-o.o (omega arith) in
     (omega (arith, i.0, l.0), omega (arith, i.1.0, i.1.1.long, l.1))
 
 -- The next block's place, past the last block too, is held.
-moved : (c : tie.After-out invariant-loop decreases-loop)
+moved : (c : tie.After-out-1 invariant-loop decreases-loop)
     → let t = c.before.before.before.before in
     let a = (start t.before.before).args in
-    t.before.before.loop.to + a.b.made * a.b.inner ≤ length a.out.now + length a.out.now
+    t.loop-o.to + a.b.made * a.b.inner ≤ length a.out.now + length a.out.now
 moved c =
     let lp = c.before.before.before.before.before.before in
-    omega (arith, lp.loop.invariant.1.0, block-lies (known (start lp)) lp.loop.o (omega arith))
+    omega (arith, lp.loop-o.invariant.1.0, block-lies (known (start lp)) lp.loop-o.o (omega arith))
 
-gather-block-requires : tie.Need-gather-block-requires invariant-loop decreases-loop
+gather-block-requires : tie.Need-gather_block-requires invariant-loop decreases-loop
 gather-block-requires c κs =
     let t = c.before.before in
     let lp = t.before.before in
     let a = (start lp).args in
-    let x = part-long a.r.now lp.loop.from (a.b.taken * a.b.inner) (room t).0 in
+    let x = part-long a.r.now lp.loop-o.from (a.b.taken * a.b.inner) (room t).0 in
     record {
       inside = λ q h. omega (arith, row_fits _ a.b.taken a.b.inner ((known (start lp)).inside q h));
-      room = part-long lp.loop.out lp.loop.to (length a.at.now * a.b.inner) (room t).1;
+      room = part-long lp.loop-o.out lp.loop-o.to (length a.at.now * a.b.inner) (room t).1;
     }
 
-loop-again : tie.Need-loop-preserved invariant-loop decreases-loop
+loop-again : tie.Need-loop-o-preserved invariant-loop decreases-loop
 loop-again c =
     let t = c.before.before.before.before in
     let lp = t.before.before in
     let a = (start lp).args in
-    let i = lp.loop.invariant in
-    let g = c.before.gather-block in
+    let i = lp.loop-o.invariant in
+    let g = c.gather_block in
     let size = a.b.taken * a.b.inner in
     let some = length a.at.now * a.b.inner in
-    let to = lp.loop.to in
+    let to = lp.loop-o.to in
     let run = g.ensures ∙ ap (λ f. tab some (rows_by a.at.now a.b.inner (take (f + size - f) (drop f a.r.now)))) i.0 in (
       omega (arith, i.0),
       (
         omega (arith, i.1.0),
         blockwise-at
-            (blockwise-more i.1.1 _ (omega arith) (same_len_mid to (to + some - to) lp.loop.out g.new.1.1.1.0 g.auto.1.1.1.0)
-            (block_more a.r.now a.out.now (known (start lp)) lp.loop.o (omega arith) i.1.1.done g.new.1.1.1.0 run to i.1.0)),
+            (blockwise-more i.1.1 _ (omega arith) (same_len_mid to (to + some - to) lp.loop-o.out g.new.out g.auto.out)
+            (block_more a.r.now a.out.now (known (start lp)) lp.loop-o.o (omega arith) i.1.1.done g.new.out run to i.1.0)),
       ),
     )
 
-pub gather-blocks-spec : {M : Type 1} → statement M
-gather-blocks-spec =
+pub gather_blocks_spec : {M : Type 1} → statement M
+gather_blocks_spec =
     tie.close
     (tie.spec
     invariant-loop
@@ -107,4 +107,4 @@ gather-blocks-spec =
     (λ c. search rules)
     loop-again
     (λ c. search rules)
-    (λ c. blockwise-all c.before.before.loop.invariant.1.1 (omega arith)))
+    (λ c. blockwise-all c.loop-o.invariant.1.1 (omega arith)))

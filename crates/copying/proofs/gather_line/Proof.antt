@@ -1,3 +1,4 @@
+use mir.Syntax.{w32}
 use native.Mathlib.Omega.{arith}
 use Prim.Native.Nat.{◌-◌, ◌<◌}
 use mathlib.Core.Path.{◌∙◌}
@@ -11,28 +12,28 @@ use Rattle.copying.proofs.Gathering.{one-row}
 use Rattle.copying.proofs.gather_line.Statement.{statement}
 use Rattle.copying.proofs.gather_line.Tie as tie
 
-abbrev invariant-loop : tie.invariant-loop
+abbrev invariant-loop : tie.invariant-loop-q
 invariant-loop at r out₀ q₀ out q = Blockwise (length at) 1 (rows_by at 1 r) out₀ out q q
 
-abbrev decreases-loop : tie.decreases-loop
+abbrev decreases-loop : tie.decreases-loop-q
 decreases-loop at r out₀ q₀ out q = length at - q
 
 -- The position is one of r.
-inside : (c : tie.In-loop invariant-loop decreases-loop) → get_or c.before.before.args.at.now c.before.loop.q 0 < length c.before.before.args.r.now
-inside c = omega (arith, c.before.before.requires.inside c.before.loop.q (omega arith))
+inside : (c : tie.In-loop-q invariant-loop decreases-loop) → get_or c.args.at.now c.loop-q.q 0 < length c.args.r.now
+inside c = omega (arith, c.requires.inside c.loop-q.q (omega arith))
 
-loop-again : tie.Need-loop-preserved invariant-loop decreases-loop
+loop-again : tie.Need-loop-q-preserved invariant-loop decreases-loop
 loop-again c =
     let lp = c.before.before.before in
-    let a = lp.before.args in
-    blockwise-one lp.loop.invariant (omega arith) (omega (arith, lp.before.requires.room)) _
-    (to_z-of_z (sfits_of c.out.given) ∙ one-row a.at.now a.r.now lp.loop.q)
+    let a = lp.args in
+    blockwise-one lp.loop-q.invariant (omega arith) (omega (arith, lp.requires.room)) _
+    (to_z-of_z {w = w32} (sfits_of c.out-1.given) ∙ one-row a.at.now a.r.now lp.loop-q.q)
 
 returns : tie.Need-returns invariant-loop decreases-loop
-returns c = blockwise-all c.before.loop.invariant (omega arith) ∙ filled-whole _ _ _ (omega (arith, c.before.before.requires.room))
+returns c = blockwise-all c.loop-q.invariant (omega arith) ∙ filled-whole _ _ _ (omega (arith, c.requires.room))
 
-pub gather-line-spec : {M : Type 1} → statement M
-gather-line-spec =
+pub gather_line_spec : {M : Type 1} → statement M
+gather_line_spec =
     tie.close
     (tie.spec
     invariant-loop
@@ -48,5 +49,5 @@ gather-line-spec =
     (λ c. search rules)
     (λ c. search rules)
     loop-again
-    (λ c. c.before.loop.invariant.long)
+    (λ c. c.loop-q.invariant.long)
     returns)

@@ -2,7 +2,6 @@ use native.Mathlib.Omega.{arith}
 use mathlib.Core.Path.{◌≡◌, sym, ◌∙◌}
 use mathlib.Core.Bool.{true, false}
 use borrow.Author.Rules.{rules}
-use borrow.Author.Tests.{not-true, not-false}
 use Rattle.shape.proofs.Bools.{refuted}
 use Rattle.copying.specs.Gather.{small_blocks, gathers}
 use Rattle.copying.proofs.Gathering.{small_is, Gathers, gathers-is, small-first, gathers-by, product-two, product-three}
@@ -15,22 +14,22 @@ no : (st : tie.Start) → (let a = st.args in Gathers a.at.now a.first a.b a.n a
 no st h = sym (refuted _ (λ e. h (gathers-is e)))
 
 -- No count is above the limit.
-few : (c : tie.Else1) → small_blocks c.before.before.before.args.b ≡ true
-few c = sym c.before.small.ensures ∙ not-false _ c.if1.false
+few : (c : tie.Else-not-small) → small_blocks c.args.b ≡ true
+few c = sym c.small.ensures ∙ c.if-not-small.false
 
-returns : tie.Need-returns
-returns c = sym (small-first _ _ _ _ _ (sym c.before.small.ensures ∙ not-true _ c.if1.true))
+returns : tie.Need-returns-then-not-small
+returns c = sym (small-first _ _ _ _ _ (sym c.small.ensures ∙ c.if-not-small.true))
 
-abbrev lies : tie.Else3 → tie.Else1
+abbrev lies : tie.Else-m-b → tie.Else-not-small
 lies c = c.before.before.before.before.before.before
 
-returns-6 : tie.Need-returns-6
+returns-6 : tie.Need-returns
 returns-6 c =
     let e = lies c.before.before.before.before.before in
-    c.all-below.ensures ∙ sym (gathers-by _ _ _ _ _ (few e) (omega arith) (omega arith) (omega arith))
+    c.all_below.ensures ∙ sym (gathers-by _ _ _ _ _ (few e) (omega arith) (omega arith) (omega arith))
 
-pub gathers-spec : {M : Type 1} → statement M
-gathers-spec =
+pub gathers_spec : {M : Type 1} → statement M
+gathers_spec =
     tie.close
     (tie.spec
     (λ c κs. search rules)

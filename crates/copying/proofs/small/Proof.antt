@@ -11,8 +11,8 @@ use Rattle.copying.proofs.small.Tie as tie
 no : (st : tie.Start) → (Small st.args.b → ⊥) → false ≡ small_blocks st.args.b
 no st h = sym (refuted _ (λ e. h (small_is e)))
 
-returns-4 : tie.Need-returns-4
-returns-4 c = sym (small_by c.before.before.before.before.before.before.before.args.b (omega arith) (omega arith) (omega arith))
+returns-4 : tie.Need-returns
+returns-4 c = sym (small_by c.args.b (omega arith) (omega arith) (omega arith))
 
 pub small_spec : {M : Type 1} → statement M
 small_spec =
