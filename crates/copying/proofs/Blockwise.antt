@@ -35,7 +35,8 @@ module _ {outer size : ℕ} {g : ℕ → ℤ} {out₀ out : List ℤ} {at o : �
   blockwise-more next l k e = record { some = omega arith; at-is = omega (arith, b.at-is); long = k ∙ b.long; done = e }
 
   pub blockwise-next : (last : List ℤ) → o < outer → length last ≡ length (take (at + size - at) (drop at out))
-      → put_mid at (at + size - at) out last ≡ filled g (at + size) out₀ → Blockwise outer size g out₀ (put_mid at (at + size - at) out last) (at + size) (o + 1)
+      → put_mid at (at + size - at) out last ≡ filled g (at + size) out₀
+      → Blockwise outer size g out₀ (put_mid at (at + size - at) out last) (at + size) (o + 1)
   blockwise-next last l k e = blockwise-more (put_mid at (at + size - at) out last) l (same_len_mid at (at + size - at) out last k) e
 
   pub blockwise-all : outer ≤ o → out ≡ filled g (outer * size) out₀

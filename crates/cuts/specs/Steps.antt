@@ -1,5 +1,6 @@
 -- What the contracts of private functions cite: 23 and 24 by their kind, a window on each axis, and what a result holds through it.
-use Rattle.std.specs.Prelude.{ℕ, ◌+◌, ◌*◌, ◌-◌, ◌/◌, ◌%◌, ◌<◌, ◌≤◌, min, ◌≡◌, List, [], ◌∷◌, Bool, true, false, not, cond, ◌&&◌, length, get_or, take, replicate, eqb, leb, ltb, ℤ, pos, nat_abs}
+use Rattle.std.specs.Prelude.{ℕ, ◌+◌, ◌*◌, ◌-◌, ◌/◌, ◌%◌, ◌<◌, ◌≤◌, min, ◌≡◌, List, [], ◌∷◌, Bool, true, false, not, cond, ◌&&◌, length, get_or, take}
+use Rattle.std.specs.Prelude.{replicate, eqb, leb, ltb, ℤ, pos, nat_abs}
 use Rattle.shape.specs.Shape.{max_rank, max_count, count, shape_of}
 use Rattle.shape.specs.declared.Shape.{Shape}
 use Rattle.cuts.specs.declared.CutKind.{CutKind}

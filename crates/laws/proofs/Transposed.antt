@@ -28,7 +28,8 @@ unfoldable pub transposed : List ℕ → Array → Array
 transposed ts a = build (sent_lengths ts a.lengths) (λ p. at a (brought_back ts p))
 
 -- Two lists one after the other.
-pub back-back : (ts us q : List ℕ) → ((i : ℕ) → i < length ts → get_or ts i 0 < length us) → brought_back ts (brought_back us q) ≡ brought_back (brought_back ts us) q
+pub back-back : (ts us q : List ℕ) → ((i : ℕ) → i < length ts → get_or ts i 0 < length us)
+    → brought_back ts (brought_back us q) ≡ brought_back (brought_back ts us) q
 unfolding brought_back
 back-back [] us q h = refl
 back-back (t ∷ ts) us q h = ap₂ ◌∷◌ (get_or-back us q t (h zero (omega arith))) (back-back ts us q (λ i l. h (suc i) (omega arith)))
@@ -184,7 +185,8 @@ module _ (ts us : List ℕ) (P : Permutes (length ts) ts) (Q : Permutes (length 
       let b = P.each a.0 (omega (arith, a.1)) in
       let i : ℕ = a.0 in
       let l : ℕ = b.0 in
-      let u : get_or (sent_lengths us (sent_lengths ts s)) (get_or us i 0) 0 ≡ get_or (sent_lengths ts s) i 0 = shape_at us Q (sent_lengths ts s) shape-length i a.1 in
+      let u : get_or (sent_lengths us (sent_lengths ts s)) (get_or us i 0) 0 ≡ get_or (sent_lengths ts s) i 0 =
+          shape_at us Q (sent_lengths ts s) shape-length i a.1 in
       let v : get_or (sent_lengths ts s) (get_or ts l 0) 0 ≡ get_or s l 0 = shape_at ts P s f l b.1 in
       let w : get_or (sent_lengths (brought_back ts us) s) (get_or (brought_back ts us) l 0) 0 ≡ get_or s l 0 =
       shape_at (brought_back ts us) R s (length_back ts us ∙ f) l (rw (length_back ts us) b.1) in

@@ -122,7 +122,8 @@ module _ (G K : ℤ) (l r : Operand) (out : List ℤ) (o : IsOrigin G) (h : IsAr
 
 -- A transposition that permutes all n axes gives the array transposed.
 transposition-gives : (G K : ℤ) (n : ℕ) (t : Transposition G n) (r : Operand) (out : List ℤ) → IsOrigin G → IsArray r → rank (array_of r) ≡ n
-    → IsLong (primitive_of t) G K (left_operand_of t) r out → GivesArray (reply (primitive_of t) G K (left_operand_of t) r out) (transposed (axes_of t) (array_of r))
+    → IsLong (primitive_of t) G K (left_operand_of t) r out
+    → GivesArray (reply (primitive_of t) G K (left_operand_of t) r out) (transposed (axes_of t) (array_of r))
 transposition-gives G K n (by15 l) r out o h e room =
     subst (λ m. GivesArray (reply (pos 15) G K l r out) (transposed (backwards m) (array_of r))) e (reversed-axes G K l r out o h room)
 transposition-gives G K n (by26 l ts s p) r out o h e room = sent-axes G K l r out o h ts s (subst (λ m. Permutes m ts) (sym e) p) room

@@ -132,7 +132,8 @@ occurs-sent [] ns j e = refl
 occurs-sent (t ∷ ts) [] j e = absurd (omega arith)
 occurs-sent (t ∷ ts) (n ∷ ns) j e = by (eqb t j) (occurs-sent ts ns j (omega arith))
   where
-    by : (b : Bool) → occurs_in ts j ≡ ltb 0 (length (sent_to j ts ns)) → (b || occurs_in ts j) ≡ ltb 0 (length (cond b (n ∷ sent_to j ts ns) (sent_to j ts ns)))
+    by : (b : Bool) → occurs_in ts j ≡ ltb 0 (length (sent_to j ts ns))
+        → (b || occurs_in ts j) ≡ ltb 0 (length (cond b (n ∷ sent_to j ts ns) (sent_to j ts ns)))
     by true h = sym (lt-ltb 0 (suc (length (sent_to j ts ns))) (omega arith))
     by false h = h
 

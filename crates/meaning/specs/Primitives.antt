@@ -1,7 +1,8 @@
 -- Paper 01, "The primitives", in its order: when each refuses, the lengths of its result, and the element at each place.
 -- FORM, ORIGIN, LIMIT and SPACE are the same for all and stand in Reply. A type shows what a primitive looks at: G is the origin, K the axis number.
 -- k means K - G, the axis counted from zero (`from_zero` in Terms).
-use Rattle.std.specs.Prelude.{ℕ, suc, ◌+◌, ◌-◌, ◌%◌, min, max, List, [], ◌∷◌, map, Bool, false, not, cond, ◌&&◌, ◌||◌, length, get_or, set, take, replicate, eqb, ltb, ℤ, pos, nat_abs, ◌+ℤ◌, ◌-ℤ◌}
+use Rattle.std.specs.Prelude.{ℕ, suc, ◌+◌, ◌-◌, ◌%◌, min, max, List, [], ◌∷◌, map, Bool, false, not, cond, ◌&&◌, ◌||◌, length, get_or, set, take, replicate}
+use Rattle.std.specs.Prelude.{eqb, ltb, ℤ, pos, nat_abs, ◌+ℤ◌, ◌-ℤ◌}
 use Rattle.shape.specs.Place.{index, inside}
 use Rattle.meaning.specs.Array.{Array, at, tab}
 use Rattle.meaning.specs.Refusal.{Rule, ◌when◌, ◌unless◌}

@@ -1,5 +1,6 @@
 -- Paper 01, "The primitives": the terms that its sentences share.
-use Rattle.std.specs.Prelude.{ℕ, zero, suc, ◌-◌, ◌%◌, List, [], ◌∷◌, Bool, true, false, cond, ◌&&◌, ◌||◌, length, get_or, set, replicate, eqb, leb, ltb, ℤ, pos, negsuc, nat_abs, ◌-ℤ◌}
+use Rattle.std.specs.Prelude.{ℕ, zero, suc, ◌-◌, ◌%◌, List, [], ◌∷◌, Bool, true, false, cond, ◌&&◌, ◌||◌, length, get_or, set, replicate, eqb, leb, ltb, ℤ}
+use Rattle.std.specs.Prelude.{pos, negsuc, nat_abs, ◌-ℤ◌}
 use Rattle.meaning.specs.Array.{Array, at}
 
 -- The rank: how many lengths there are.

@@ -44,7 +44,8 @@ module _ (G K : ℤ) {ls : Shape} {l : List ℤ} {rs : Shape} {r : List ℤ} (gl
 
   pub selects : {k m : ℕ} → k ≡ from_zero G K → m ≡ count_of ls → own 31 (select G K (array_of (lent ls l)) (array_of (lent rs r))).refusals ≡ 0
       → Selects G K ls l rs r k m
-  selects {k} {m} e q z = by (is_scalar (array_of (lent rs r))) (is_list (array_of (lent ls l))) _ refl _ refl (sym (select-own G K (lent ls l) (lent rs r)) ∙ z)
+  selects {k} {m} e q z = by (is_scalar (array_of (lent rs r))) (is_list (array_of (lent ls l))) _ refl _ refl
+      (sym (select-own G K (lent ls l) (lent rs r)) ∙ z)
     where
       by : (s t i : Bool) → inside ≡ i → (a : Bool) → all ≡ a → asked s t i a ≡ 0 → Selects G K ls l rs r k m
       by true t i u a v w = absurd (omega arith)
@@ -86,7 +87,8 @@ module _ {G K : ℤ} {ls : Shape} {l : List ℤ} {rs : Shape} {r : List ℤ} {k 
   moved : (build (select G K L R).lengths (select G K L R).element).elements ≡ (build (set (counted rs) k (length L.elements)) (along R k φ)).elements
   unfolding select
   moved =
-      ap (λ k. (build (selected_lengths (rank L) (length L.elements) k (counted rs)) (cond (is_scalar L) (λ p. at R (put_in k (φ 0) p)) (along R k φ))).elements)
+      ap (λ k. (build (selected_lengths (rank L) (length L.elements) k (counted rs))
+      (cond (is_scalar L) (λ p. at R (put_in k (φ 0) p)) (along R k φ))).elements)
       (sym c.axis-is)
       ∙ by (is_scalar L) refl
     where

@@ -12,7 +12,8 @@ use Rattle.cuts.proofs.cut_rows.Statement.{statement}
 use Rattle.cuts.proofs.cut_rows.Tie as tie
 
 abbrev invariant-loop : tie.invariant-loop-i
-invariant-loop table at r out₀ block step len small width start stop front first i₀ out i = (i ≤ len) × (out ≡ filled (cut_at table r at) (start + i * block) out₀)
+invariant-loop table at r out₀ block step len small width start stop front first i₀ out i =
+    (i ≤ len) × (out ≡ filled (cut_at table r at) (start + i * block) out₀)
 
 abbrev decreases-loop : tie.decreases-loop-i
 decreases-loop table at r out₀ block step len small width start stop front first i₀ out i = len - i

@@ -31,7 +31,8 @@ window-is : (c : tie.After-window_on-w invariant-loop decreases-loop)
     c.window_on-w.result ≡ window_of a.kind (get_or a.l.now k (pos 0)) (get_or a.lens k 0)
 window-is c =
     let a = (entered c).args in
-    c.window_on-w.ensures ∙ ap (λ x. window_of a.kind x (get_or a.lens ((entered c).loop-axis.axis - 1) 0)) (to_z-of_z {w = w32} (sfits_of c.window_on-arg-1.given))
+    c.window_on-w.ensures
+    ∙ ap (λ x. window_of a.kind x (get_or a.lens ((entered c).loop-axis.axis - 1) 0)) (to_z-of_z {w = w32} (sfits_of c.window_on-arg-1.given))
 
 mul-step : tie.Need-overflow_mul-step invariant-loop decreases-loop
 mul-step c =

@@ -52,7 +52,8 @@ begun t c = c.before.before.before.before
 abbrev start : (t : ℕ) → Loop t → Start t
 start t c = begun t c.before.before
 
-abbrev turned : (t : ℕ) → lts.After-out-in-loop-i-1 (claims t) (here t) put-blocks.Post invariant-loop decreases-loop → lts.In-loop-i (claims t) (here t) put-blocks.Post invariant-loop decreases-loop
+abbrev turned : (t : ℕ) → lts.After-out-in-loop-i-1 (claims t) (here t) put-blocks.Post invariant-loop decreases-loop
+    → lts.In-loop-i (claims t) (here t) put-blocks.Post invariant-loop decreases-loop
 turned t c = c.before.before.before.before.before
 
 -- One axis is left: a block.

@@ -14,7 +14,8 @@ use Rattle.turns.proofs.reverse_rows.Statement.{statement}
 use Rattle.turns.proofs.reverse_rows.Tie as tie
 
 abbrev invariant-loop : tie.invariant-loop-i
-invariant-loop r n inner out₀ to₀ i₀ out to i = (i ≤ n) × ((to + i * inner ≡ n * inner) × ((length out ≡ length out₀) × (out ≡ filled (back_at r n inner) to out₀)))
+invariant-loop r n inner out₀ to₀ i₀ out to i =
+    (i ≤ n) × ((to + i * inner ≡ n * inner) × ((length out ≡ length out₀) × (out ≡ filled (back_at r n inner) to out₀)))
 
 abbrev decreases-loop : tie.decreases-loop-i
 decreases-loop r n inner out₀ to₀ i₀ out to i = i
