@@ -1,15 +1,15 @@
 // The answer to one line of a sheet, printed.
 #![tactic(auto)]
 
-mod answer;
 mod print;
+mod reply;
 
 ghost use Rattle.std.specs.Prelude.{◌≡◌, ◌≤◌, length};
 ghost use Rattle.sheet_line.specs.Call.{max_line, max_held};
 ghost use Rattle.sheet_answer.specs.Answer.{bad_line, result_in, reply_line, fitted, printed_to};
 
-use answer::{print_no, print_ok};
 use print::{put_byte, put_head, width};
+use reply::{print_no, print_ok};
 use shape::Shape;
 
 // The answer to a bad line.

@@ -6,8 +6,8 @@ use Rattle.sheet_answer.specs.Answer.{no_line}
 use Rattle.sheet_answer.proofs.Writing.{write-more}
 use Rattle.sheet_answer.proofs.Answers.{no_room, all-printed, no_text, no_length}
 use borrow.Author.Rules.{rules}
-use Rattle.sheet_answer.proofs.answer.print_no.Statement.{statement}
-use Rattle.sheet_answer.proofs.answer.print_no.Tie as tie
+use Rattle.sheet_answer.proofs.reply.print_no.Statement.{statement}
+use Rattle.sheet_answer.proofs.reply.print_no.Tie as tie
 
 abbrev begun : tie.After-width-2 → tie.Start
 begun c = c.before.before.before

@@ -7,8 +7,8 @@ use Rattle.shape.specs.Shape.{max_rank, max_count, count_of}
 use Rattle.shape.proofs.Counts.{good-count, good-rank}
 use Rattle.sheet_answer.proofs.Answers.{nothing-to-print, bad-shape, short-buffer, good-reply}
 use borrow.Author.Rules.{rules}
-use Rattle.sheet_answer.proofs.answer.print_ok.Statement.{statement}
-use Rattle.sheet_answer.proofs.answer.print_ok.Tie as tie
+use Rattle.sheet_answer.proofs.reply.print_ok.Statement.{statement}
+use Rattle.sheet_answer.proofs.reply.print_ok.Tie as tie
 
 abbrev begun : tie.After-count-count → tie.Start
 begun c = c.before.before

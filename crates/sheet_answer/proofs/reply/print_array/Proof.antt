@@ -8,8 +8,8 @@ use Rattle.sheet_answer.specs.Answer.{ok_line}
 use Rattle.sheet_answer.proofs.Writing.{write-more}
 use Rattle.sheet_answer.proofs.Answers.{no_room, all-printed, ok-text, ok-length}
 use borrow.Author.Rules.{rules}
-use Rattle.sheet_answer.proofs.answer.print_array.Statement.{statement}
-use Rattle.sheet_answer.proofs.answer.print_array.Tie as tie
+use Rattle.sheet_answer.proofs.reply.print_array.Statement.{statement}
+use Rattle.sheet_answer.proofs.reply.print_array.Tie as tie
 
 abbrev begun : tie.After-elements_width → tie.Start
 begun c = c.before.before.before.before.before.before
