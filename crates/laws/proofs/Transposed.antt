@@ -186,7 +186,7 @@ module _ (ts us : List ℕ) (P : Permutes (length ts) ts) (Q : Permutes (length 
       let i : ℕ = a.0 in
       let l : ℕ = b.0 in
       let u : get_or (sent_lengths us (sent_lengths ts s)) (get_or us i 0) 0 ≡ get_or (sent_lengths ts s) i 0 =
-          shape_at us Q (sent_lengths ts s) shape-length i a.1 in
+      shape_at us Q (sent_lengths ts s) shape-length i a.1 in
       let v : get_or (sent_lengths ts s) (get_or ts l 0) 0 ≡ get_or s l 0 = shape_at ts P s f l b.1 in
       let w : get_or (sent_lengths (brought_back ts us) s) (get_or (brought_back ts us) l 0) 0 ≡ get_or s l 0 =
       shape_at (brought_back ts us) R s (length_back ts us ∙ f) l (rw (length_back ts us) b.1) in
