@@ -1,3 +1,5 @@
 pub mod Lines
 pub mod Waiting
 pub mod Steps
+pub mod Sent
+pub mod Run

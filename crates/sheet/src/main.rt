@@ -1,5 +1,8 @@
 // The sheet program: reads lines from standard input and answers each on standard output.
+#![tactic(auto)]
+
 ghost use Rattle.std.specs.Prelude.{◌≡◌, true, false, List, [], ◌++◌, ℕ, ◌+◌, ◌-◌, ◌≤◌, ◌<◌, length, take, get_or};
+ghost use Rattle.std.specs.Io.KnownBytes.{Appends, Consumes};
 ghost use Rattle.sheet_line.specs.Text.{newline};
 ghost use Rattle.sheet_line.specs.Call.{max_line, front};
 ghost use Rattle.sheet_answer.specs.Sheet.{sheet_answer};
@@ -7,12 +10,16 @@ ghost use Rattle.sheet_answer.specs.Steps.{held_answer, Buffers};
 ghost use Rattle.sheet.specs.Lines.{lines_from};
 ghost use Rattle.sheet.specs.Waiting.{Appended, Holds, Took};
 ghost use Rattle.sheet.specs.Steps.{newlines, SameLine, Answered};
+ghost use Rattle.sheet.specs.Sent.{Sent, Short};
+ghost use Rattle.sheet.specs.Run.{ShortIn, Ends};
 
-use libc::{STDERR_FILENO, STDIN_FILENO, STDOUT_FILENO};
 use sheet_line::{MAX_HELD, MAX_LINE};
+use std::io::{ErrorKind, Read, Write};
+use std::process::ExitCode;
 
 // What is held between chunks: of the line that has begun the length so far, whether it was too long, and its number; how much text waits to be
-// written; and whether a write has failed, after which nothing is answered or written.
+// written; and whether a write has failed, after which nothing is answered or written, with the last line whose answer was handed over whole and
+// whether the reader of the answers went away.
 #[derive(Clone, Copy)]
 struct Held {
     len: usize,
@@ -20,6 +27,8 @@ struct Held {
     line: u64,
     waiting: usize,
     stopped: bool,
+    whole: u64,
+    gone: bool,
 }
 
 impl Held {
@@ -33,8 +42,26 @@ impl Held {
             line: 1,
             waiting: 0,
             stopped: false,
+            whole: 0,
+            gone: false,
         }
     }
+}
+
+// How a run ends: each line was answered, or a read or a write failed, with the last line whose answer was handed over whole and whether the reader
+// of the answers went away.
+#[derive(Clone, Copy)]
+enum Ended {
+    Answered,
+    Unread(u64),
+    Unwritten(u64, bool),
+}
+
+// How many bytes were handed over, and whether the reader then went away.
+#[derive(Clone, Copy)]
+struct Handed {
+    count: usize,
+    gone: bool,
 }
 
 // The answer to a line, at the front of `text`; its length. A line that was too long is bad.
@@ -75,21 +102,34 @@ fn text_end(start: usize, n: usize, room: usize) -> usize
     if n <= room - start { start + n } else { start }
 }
 
-// How many of the bytes standard output took: all of them, unless a write fails.
-fn handed_over(text: &[u8]) -> usize
-    ensures { result ≤ length text.now }
+// How many of the bytes the sink took: all of them, unless a write fails.
+fn handed_over<W: Write>(sink: &mut W, text: &[u8]) -> Handed
+    ensures bound { result.count ≤ length text.now }
+    ensures handed { Appends (W.contents sink.old) (W.contents sink.new) (take result.count text.now) }
 {
     let len = text.len();
     let mut done = 0;
     while done < len {
-        let put = libc::write(STDOUT_FILENO, &text[done..len]);
-        let n = io::count(put, &text[done..len]);
-        if n == 0 {
-            return done;
+        match sink.write(&text[done..len]) {
+            Ok(n) if 0 < n => done += n,
+            Ok(_) => {
+                return Handed {
+                    count: done,
+                    gone: false,
+                };
+            }
+            Err(e) => {
+                return Handed {
+                    count: done,
+                    gone: e.kind() == ErrorKind::BrokenPipe,
+                };
+            }
         }
-        done += n;
     }
-    done
+    Handed {
+        count: done,
+        gone: false,
+    }
 }
 
 fn count_newlines(text: &[u8]) -> u64
@@ -124,28 +164,31 @@ fn last_whole(line: u64, unsent: &[u8]) -> u64
 }
 
 // One line on standard error; where that fails too there is nobody left to tell.
-fn tell(failure: &[u8], last: u64) {
-    io::write_all(STDERR_FILENO, failure);
-    io::write_all(STDERR_FILENO, b"; answered whole up to line ");
-    io::print_decimal(STDERR_FILENO, last);
-    io::write_all(STDERR_FILENO, b"\n");
+fn tell(rt: &impl Eprint, failure: &str, last: u64) {
+    let _ = eprintln!(rt; "sheet: {failure}; answered whole up to line {last}");
 }
 
-// Writes what waits. Where a write fails that is told, and the rest is given up.
-fn written(text: &[u8], held: Held) -> Held
+// Writes what waits. Where a write fails the rest is given up, and it is noted up to which line the answers were handed over whole.
+fn written<W: Write>(sink: &mut W, text: &[u8], held: Held) -> Held
     requires { held.waiting ≤ length text.now }
     ensures same { SameLine held result × (result.waiting ≡ 0) }
     ensures stays { held.stopped ≡ true → result.stopped ≡ true }
+    ensures sent { result.stopped ≡ false → Appends (W.contents sink.old) (W.contents sink.new) (take held.waiting text.now) }
+    ensures short { held.stopped ≡ false → result.stopped ≡ true
+        → Short (W.contents sink.old) (W.contents sink.new) (take held.waiting text.now) held.line result.whole }
 {
     let len = held.len;
     let over = held.over;
     let line = held.line;
     let waiting = held.waiting;
-    let n = handed_over(&text[0..waiting]);
+    let mut whole = held.whole;
+    let mut gone = held.gone;
+    let handed = handed_over(sink, &text[..waiting]);
+    let n = handed.count;
     let stopped = held.stopped || n < waiting;
     if n < waiting {
-        let last = last_whole(line, &text[n..waiting]);
-        tell(b"sheet: standard output could not be written", last);
+        whole = last_whole(line, &text[n..waiting]);
+        gone = handed.gone;
     }
     Held {
         len,
@@ -153,25 +196,32 @@ fn written(text: &[u8], held: Held) -> Held
         line,
         waiting: 0,
         stopped,
+        whole,
+        gone,
     }
 }
 
 // Writes what waits, unless there is still room for the longest answer, which is no longer than the longest line.
-fn flushed(text: &[u8], held: Held) -> Held
+fn flushed<W: Write>(sink: &mut W, text: &[u8], held: Held) -> Held
     requires { (held.waiting ≤ length text.now) × (max_line ≤ length text.now) }
     ensures same { SameLine held result }
     ensures room { result.waiting + max_line ≤ length text.now }
     ensures text { Appended (take held.waiting text.now) [] (take result.waiting text.now) }
+    ensures sent { result.stopped ≡ false
+        → Sent (W.contents sink.old) (W.contents sink.new) (take held.waiting text.now) [] (take result.waiting text.now) }
+    ensures short { held.stopped ≡ false → result.stopped ≡ true
+        → Short (W.contents sink.old) (W.contents sink.new) (take held.waiting text.now) held.line result.whole }
 {
     let waiting = held.waiting;
     if MAX_LINE <= text.len() - waiting {
         return held;
     }
-    written(text, held)
+    written(sink, text, held)
 }
 
 // A line is at its end: its answer follows the text that waits.
-fn end_line(
+fn end_line<W: Write>(
+    sink: &mut W,
     bytes: &[u8],
     held: Held,
     l: &mut [i32],
@@ -183,10 +233,14 @@ fn end_line(
     ensures bound { (result.len ≤ held.len) × (result.waiting ≤ length text.old) }
     ensures answer { result.stopped ≡ false
         → Answered held result (held_answer held.line held.over bytes.now) text.old text.new }
+    ensures sent { result.stopped ≡ false → Sent (W.contents sink.old) (W.contents sink.new)
+        (take held.waiting text.old) (held_answer held.line held.over bytes.now) (take result.waiting text.new) }
+    ensures short { held.stopped ≡ false → result.stopped ≡ true
+        → Short (W.contents sink.old) (W.contents sink.new) (take held.waiting text.old) held.line result.whole }
 {
     let over = held.over;
     let line = held.line;
-    let kept = flushed(text, held);
+    let kept = flushed(sink, text, held);
     if kept.stopped {
         return kept;
     }
@@ -200,6 +254,8 @@ fn end_line(
         line: line % 1000000000000000000 + 1,
         waiting: end,
         stopped: false,
+        whole: kept.whole,
+        gone: kept.gone,
     }
 }
 
@@ -226,6 +282,8 @@ fn hold_run(run: &[u8], held: Held, begun: &mut [u8]) -> Held
     let line = held.line;
     let waiting = held.waiting;
     let stopped = held.stopped;
+    let whole = held.whole;
+    let gone = held.gone;
     let room = begun.len();
     if room - len < run.len() {
         return Held {
@@ -234,6 +292,8 @@ fn hold_run(run: &[u8], held: Held, begun: &mut [u8]) -> Held
             line,
             waiting,
             stopped,
+            whole,
+            gone,
         };
     }
     copy_bytes(run, &mut begun[len..room]);
@@ -243,11 +303,14 @@ fn hold_run(run: &[u8], held: Held, begun: &mut [u8]) -> Held
         line,
         waiting,
         stopped,
+        whole,
+        gone,
     }
 }
 
 // The last run of a line. Where nothing is held of the line, it is answered where it lies.
-fn take_line(
+fn take_line<W: Write>(
+    sink: &mut W,
     run: &[u8],
     held: Held,
     begun: &mut [u8],
@@ -260,13 +323,17 @@ fn take_line(
     ensures bound { (result.len ≤ length begun.old) × (result.waiting ≤ length text.old) }
     ensures answer { result.stopped ≡ false → (bytes : List ℕ) → Holds held begun.old bytes
         → Answered held result (sheet_answer held.line (bytes ++ run.now)) text.old text.new }
+    ensures sent { result.stopped ≡ false → (bytes : List ℕ) → Holds held begun.old bytes → Sent (W.contents sink.old) (W.contents sink.new)
+        (take held.waiting text.old) (sheet_answer held.line (bytes ++ run.now)) (take result.waiting text.new) }
+    ensures short { held.stopped ≡ false → result.stopped ≡ true
+        → Short (W.contents sink.old) (W.contents sink.new) (take held.waiting text.old) held.line result.whole }
 {
     if held.len == 0 {
-        return end_line(run, held, l, r, out, text);
+        return end_line(sink, run, held, l, r, out, text);
     }
     let whole = hold_run(run, held, begun);
     let len = whole.len;
-    end_line(&begun[0..len], whole, l, r, out, text)
+    end_line(sink, &begun[..len], whole, l, r, out, text)
 }
 
 // Whether there is a newline among the bytes. Each byte is looked at, so that the compiler tests many at a time.
@@ -319,7 +386,8 @@ fn newline_from(chunk: &[u8], at: usize) -> usize
 }
 
 // Answers each line that ends in the chunk, and holds the bytes after the last newline; stops where a write fails.
-fn take_chunk(
+fn take_chunk<W: Write>(
+    sink: &mut W,
     chunk: &[u8],
     start: Held,
     begun: &mut [u8],
@@ -332,12 +400,16 @@ fn take_chunk(
     ensures bound { (result.len ≤ length begun.old) × (result.waiting ≤ length text.old) }
     ensures lines { result.stopped ≡ false → (bytes : List ℕ) → Holds start begun.old bytes
         → Took start result (lines_from start.line bytes chunk.now) begun.new text.old text.new }
+    ensures sent { result.stopped ≡ false → (bytes : List ℕ) → Holds start begun.old bytes → Sent (W.contents sink.old) (W.contents sink.new)
+        (take start.waiting text.old) (lines_from start.line bytes chunk.now).printed (take result.waiting text.new) }
+    ensures short { start.stopped ≡ false → result.stopped ≡ true → (bytes : List ℕ) → Holds start begun.old bytes
+        → ShortIn (W.contents sink.old) (W.contents sink.new) start.line bytes (take start.waiting text.old) chunk.now result.whole }
 {
     let mut held = start;
     let mut at = 0;
     let mut end = newline_from(chunk, at);
     while end < chunk.len() {
-        held = take_line(&chunk[at..end], held, begun, l, r, out, text);
+        held = take_line(sink, &chunk[at..end], held, begun, l, r, out, text);
         if held.stopped {
             return held;
         }
@@ -347,9 +419,12 @@ fn take_chunk(
     hold_run(&chunk[at..end], held, begun)
 }
 
-// What waits is written after each chunk, so that a person at a terminal sees each answer at once. The input's last line may lack its newline;
-// where a read fails it has only begun, and is not answered.
-fn main() {
+// Answers each line that is read. What waits is written after each chunk, so that a person at a terminal sees each answer at once. The input's last
+// line may lack its newline; where a read fails it has only begun, and is not answered.
+fn answer_all<R: Read, W: Write>(source: &mut R, sink: &mut W) -> Ended
+    ensures { (bytes : List ℕ) × Consumes (R.remaining source.old) (R.remaining source.new) bytes
+        × Ends result bytes (R.remaining source.new) (W.contents sink.old) (W.contents sink.new) }
+{
     let mut chunk = [0u8; 65536];
     let mut begun = [0u8; MAX_LINE];
     let mut l = [0i32; MAX_HELD];
@@ -357,20 +432,17 @@ fn main() {
     let mut out = [0i32; MAX_HELD];
     let mut text = [0u8; 65536];
     let mut held = Held::none();
-    let mut turns = u64::MAX;
-    while turns > 0 {
-        let got = libc::read(STDIN_FILENO, &mut chunk);
-        if got < 0 {
-            let last = last_whole(held.line, &text[0..0]);
-            tell(b"sheet: standard input could not be read", last);
-            return;
-        }
-        let n = io::count(got, &chunk);
+    for _ in 0..u64::MAX {
+        let n = match source.read(&mut chunk) {
+            Ok(n) => n,
+            Err(_) => return Ended::Unread(last_whole(held.line, &text[..0])),
+        };
         if n == 0 {
             break;
         }
         held = take_chunk(
-            &chunk[0..n],
+            sink,
+            &chunk[..n],
             held,
             &mut begun,
             &mut l,
@@ -378,15 +450,52 @@ fn main() {
             &mut out,
             &mut text,
         );
-        held = written(&text, held);
         if held.stopped {
-            return;
+            return Ended::Unwritten(held.whole, held.gone);
         }
-        turns -= 1;
+        held = written(sink, &text, held);
+        if held.stopped {
+            return Ended::Unwritten(held.whole, held.gone);
+        }
     }
     let len = held.len;
-    if 0 < len {
-        held = end_line(&begun[0..len], held, &mut l, &mut r, &mut out, &mut text);
-        written(&text, held);
+    if 0 < len || held.over {
+        held = end_line(
+            sink,
+            &begun[..len],
+            held,
+            &mut l,
+            &mut r,
+            &mut out,
+            &mut text,
+        );
+        if held.stopped {
+            return Ended::Unwritten(held.whole, held.gone);
+        }
+        held = written(sink, &text, held);
+        if held.stopped {
+            return Ended::Unwritten(held.whole, held.gone);
+        }
+    }
+    Ended::Answered
+}
+
+// The status of a program that SIGPIPE ends.
+const READER_GONE: u8 = 141;
+
+// The status is 0 where every line was answered; 1 where a read or a write failed, which is told; and where the reader of the answers went away, who
+// did not want the others, the program ends quietly.
+fn main(rt: HostRuntime) -> ExitCode {
+    match answer_all(&mut rt.stdin(), &mut rt.stdout()) {
+        Ended::Answered => ExitCode::SUCCESS,
+        Ended::Unread(last) => {
+            tell(&rt, "standard input could not be read", last);
+            ExitCode::FAILURE
+        }
+        Ended::Unwritten(_, true) => ExitCode::from(READER_GONE),
+        Ended::Unwritten(last, false) => {
+            tell(&rt, "standard output could not be written", last);
+            ExitCode::FAILURE
+        }
     }
 }

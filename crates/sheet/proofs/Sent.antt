@@ -1,0 +1,54 @@
+-- What was handed over, step by step.
+use Rattle.std.proofs.Common.{ℕ, ◌≡◌, ◌-◌, List, [], ◌++◌, refl, sym, ap, ◌∙◌, append_assoc, append-nil, take, drop, take-append-drop}
+use Rattle.std.specs.Prelude.{Option}
+use Rattle.std.specs.Io.KnownBytes.{Appends}
+use Rattle.std.proofs.KnownBytes.{Appends-nil, Appends-trans}
+use Rattle.sheet.specs.Steps.{newlines}
+use Rattle.sheet.specs.Sent.{Sent, Short}
+
+module _ {a b : Option (List ℕ)} where
+  pub sent_all : (xs : List ℕ) → Appends a b xs → Sent a b xs [] []
+  sent_all xs p = record { written = xs; taken = p; rest = refl }
+
+  -- A text that waits grows.
+  pub sent_grows : {xs ys zs answer : List ℕ} → Sent a b xs [] ys → zs ≡ ys ++ answer → Sent a b xs answer zs
+  sent_grows {xs} {ys} {zs} {answer} s e = record {
+    written = s.written;
+    taken = s.taken;
+    rest =
+        ap (λ l. s.written ++ l) e
+        ∙ sym (append_assoc s.written ys answer)
+        ∙ ap (λ l. l ++ answer) (s.rest ∙ append-nil xs);
+  }
+
+  pub sent_as : {xs ys bytes bytes' : List ℕ} → bytes ≡ bytes' → Sent a b xs bytes ys → Sent a b xs bytes' ys
+  sent_as {xs} e s = record { written = s.written; taken = s.taken; rest = s.rest ∙ ap (λ l. xs ++ l) e }
+
+  pub short_at : (text : List ℕ) (n line last : ℕ) → Appends a b (take n text) → last ≡ line - 1 - newlines (drop n text) → Short a b text line last
+  short_at text n line last p e = record { front = take n text; unsent = drop n text; taken = p; rest = take-append-drop n text; whole = e }
+
+pub sent_none : (a : Option (List ℕ)) (xs : List ℕ) → Sent a a xs [] xs
+sent_none a xs = record { written = []; taken = Appends-nil a; rest = sym (append-nil xs) }
+
+module _ {a b c : Option (List ℕ)} {xs ys more : List ℕ} (s : Sent a b xs more ys) where
+  pub sent_more : {bytes zs : List ℕ} → Sent b c ys bytes zs → Sent a c xs (more ++ bytes) zs
+  sent_more {bytes} {zs} t = record {
+    written = s.written ++ t.written;
+    taken = Appends-trans a b c s.written t.written s.taken t.taken;
+    rest =
+        append_assoc s.written t.written zs
+        ∙ ap (λ l. s.written ++ l) t.rest
+        ∙ sym (append_assoc s.written ys bytes)
+        ∙ ap (λ l. l ++ bytes) s.rest
+        ∙ append_assoc xs more bytes;
+  }
+
+  -- A write fails later.
+  pub short_later : {line last : ℕ} → Short b c ys line last → Short a c (xs ++ more) line last
+  short_later t = record {
+    front = s.written ++ t.front;
+    unsent = t.unsent;
+    taken = Appends-trans a b c s.written t.front s.taken t.taken;
+    rest = append_assoc s.written t.front t.unsent ∙ ap (λ l. s.written ++ l) t.rest ∙ s.rest;
+    whole = t.whole;
+  }

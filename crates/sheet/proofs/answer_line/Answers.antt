@@ -1,0 +1,64 @@
+use Rattle.std.proofs.Common.{ℕ, ◌≡◌, ◌<◌, ◌≤◌, ◌^◌, List, Bool, length, sym, ◌∙◌, arith, rules}
+use mir.Syntax.{w32}
+use mir.Val.{SFits}
+use mir.Facts.{to_z-of_z}
+use Rattle.sheet_line.specs.Call.{max_line, max_held, front}
+use Rattle.sheet_answer.specs.Answer.{bad_line, reply_line, result_in}
+use Rattle.sheet_answer.specs.Steps.{held_answer}
+use Rattle.sheet_answer.proofs.Answers.{Print}
+use Rattle.sheet_answer.proofs.Room.{bad-fits}
+use Rattle.sheet_answer.proofs.Joined.{bad-answer, good-answer, printed-whole, not-held, held_whole}
+use Rattle.sheet.proofs.answer_line.Goals as goal
+
+-- The answer is that to a bad line.
+bad_printed : (line : ℕ) (over : Bool) (bytes text after : List ℕ) (n : ℕ) → line < 2 ^ 64 → max_line ≤ length text
+    → held_answer line over bytes ≡ bad_line line → Print (bad_line line) text after n
+    → (n ≡ length (held_answer line over bytes)) × (after ≡ front (held_answer line over bytes) text)
+bad_printed line over bytes text after n h room e p =
+    printed-whole (bad_line line) (held_answer line over bytes) text after n (sym e) (bad-fits line h) room p
+
+pub returns-then-over : goal.returns-then-over
+returns-then-over c =
+    let a = c.args in
+    let told = c.print_bad in
+    let p =
+    bad_printed a.line a.over a.bytes.now a.text.now told.new.text told.result (omega arith) c.requires.room
+    (not-held a.line a.over a.bytes.now c.if-over.true) (told.ensures.count, told.ensures.text) in
+    record { count = p.0; text = p.1 }
+
+pub returns-then-not-good : goal.returns-then-not-good
+returns-then-not-good c =
+    let a = c.args in
+    let read = c.read_line-read in
+    let told = c.print_bad-then-not-good in
+    let bad =
+    bad-answer a.line a.bytes.now a.l.now a.r.now a.out.now c.requires.left c.requires.right c.requires.result
+    read.result read.ensures.answer c.if-not-good.true in
+    let p =
+    bad_printed a.line a.over a.bytes.now a.text.now told.new.text told.result (omega arith) c.requires.room
+    (held_whole a.line a.over a.bytes.now c.if-over.false ∙ bad) (told.ensures.count, told.ensures.text) in
+    record { count = p.0; text = p.1 }
+
+pub returns : goal.returns
+returns c =
+    let a = c.args in
+    let read = c.read_line-read in
+    let call = c.call-a in
+    let told = c.print_reply in
+    let primitive : SFits w32 read.result.primitive = search rules in
+    let origin : SFits w32 read.result.origin = search rules in
+    let k : SFits w32 read.result.k = search rules in
+    let y = rw (to_z-of_z primitive, to_z-of_z origin, to_z-of_z k) at call.ensures in
+    let g = c.if-not-good.false in
+    let few : length call.new.out ≤ max_held = omega (arith, call.auto.out, c.requires.result) in
+    let same =
+    good-answer a.line a.bytes.now a.l.now a.r.now a.out.now c.requires.left c.requires.right c.requires.result
+    read.result read.ensures.answer g read.new.l read.new.r (read.ensures.left g) (read.ensures.right g) in
+    let line = reply_line a.line call.result.number (result_in call.result.shape call.new.out) in
+    let is : line ≡ held_answer a.line a.over a.bytes.now =
+    (λ i. reply_line a.line (y.answer i).number (record { shape = (y.answer i).shape; buffer = y.buffer i }))
+    ∙ same ∙ sym (held_whole a.line a.over a.bytes.now c.if-over.false) in
+    let p =
+    printed-whole line (held_answer a.line a.over a.bytes.now) a.text.now told.new.text told.result is
+    (told.ensures.room few) c.requires.room (told.ensures.count, told.ensures.text) in
+    record { count = p.0; text = p.1 }
