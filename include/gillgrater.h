@@ -1,5 +1,5 @@
-/* Gillgrater: APL's array functions on whole numbers, proved. This header declares target/staticlib/libgillgrater.a, which
-   `rt staticlib gillgrater` makes for x86-64.
+/* Gillgrater: APL's array functions on whole numbers, proved. This header declares libgillgrater.a, which `rt lib` makes in
+   crates/gillgrater, as out/libgillgrater.a, for x86-64-v2: the processor needs SSE4.2, and the library does not look whether it has it.
 
    What is proved is the Rattle side: every call ends, stays within the buffers that it is handed, and answers what the definitions in
    crates/meaning/specs say. Nothing proves the C side. The caller owes:

@@ -1,4 +1,4 @@
-// The kernel for C: the library that `rt staticlib gillgrater` makes. include/gillgrater.h declares these functions; the two change together.
+// The kernel for C: the library that `rt lib` makes here. include/gillgrater.h declares these functions; the two change together.
 #![tactic(auto)]
 
 ghost use Rattle.std.specs.Prelude.{◌≡◌};
