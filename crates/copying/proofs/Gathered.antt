@@ -22,7 +22,7 @@ use Rattle.meaning.proofs.Tab.{length-tab, get_or-tab, tab-ext}
 use Rattle.copying.specs.declared.AxisBlocks.{AxisBlocks}
 use Rattle.copying.specs.Steps.{source}
 use Rattle.copying.specs.Gather.{gathers, gathered_at, gathered}
-use Rattle.copying.specs.Gather.{Noted, BlocksLie}
+use Rattle.copying.specs.Gather.{PositionsNoted, BlocksLie}
 use Rattle.copying.specs.Steps.{filled}
 use Rattle.copying.proofs.Runs.{filled_none, length-filled}
 use Rattle.copying.proofs.Parts.{filled_on}
@@ -105,7 +105,7 @@ module _ (φ : ℕ → ℕ) (b : AxisBlocks) (r out₀ : List ℤ) (k : BlocksLi
 
   -- The same by the first n of the positions that are noted.
   pub gathered_next : {out : List ℤ} {first : ℕ} → GatheredTo φ b r out₀ out first → (at : List ℕ) (n : ℕ) → n ≤ length at → first + n ≤ b.made
-      → Noted (λ q. φ (first + q)) n at → {last : List ℤ} → last ≡ gathered (take (n - 0) at) first b r out
+      → PositionsNoted (λ q. φ (first + q)) n at → {last : List ℤ} → last ≡ gathered (take (n - 0) at) first b r out
       → GatheredTo φ b r out₀ last (first + n)
   gathered_next {out} {first} g at n room fits same e =
       let z : n - 0 ≡ n = omega arith in
@@ -114,7 +114,7 @@ module _ (φ : ℕ → ℕ) (b : AxisBlocks) (r out₀ : List ℤ) (k : BlocksLi
       (rw long at (gathered-more g (take (n - 0) at) (omega arith) (λ q h. get_or-take (n - 0) at q 0 (omega arith) ∙ same q (omega arith))))
 
 -- Positions that are noted one after another: one more.
-pub noted_more : (f : ℕ → ℕ) (at : List ℕ) (i v : ℕ) → i < length at → v ≡ f i → Noted f i at → Noted f (i + 1) (set at i v)
+pub noted_more : (f : ℕ → ℕ) (at : List ℕ) (i v : ℕ) → i < length at → v ≡ f i → PositionsNoted f i at → PositionsNoted f (i + 1) (set at i v)
 noted_more f at i v room e h q l =
     ⊎_elim
     (λ w. ap (λ x. get_or (set at i v) x 0) w ∙ get_or-set_same at i v 0 room ∙ e ∙ ap f (sym w))

@@ -35,8 +35,8 @@ gathered at first b r out =
     cond (gathers at first b (length r) (length out)) (tab size (gathered_at at first b r out) ++ drop size out) out
 
 -- The positions f 0, f 1, .. stand in front of a list, n of them.
-abbrev pub Noted : (ℕ → ℕ) → ℕ → List ℕ → Type 0
-Noted f n at = (q : ℕ) → q < n → get_or at q 0 ≡ f q
+abbrev pub PositionsNoted : (ℕ → ℕ) → ℕ → List ℕ → Type 0
+PositionsNoted f n at = (q : ℕ) → q < n → get_or at q 0 ≡ f q
 
 -- Element j of rows of c elements: row i is the row of r at position i of a list.
 abbrev pub rows_by : List ℕ → ℕ → List ℤ → ℕ → ℤ
