@@ -18,7 +18,7 @@ use Rattle.shape.proofs.Places.{index-lt}
 use Rattle.shape.proofs.Rule.{rule-length}
 use Rattle.meaning.specs.Array.{Array, array_of, tab, build}
 use Rattle.meaning.specs.Terms.{rank, within, from_zero}
-use Rattle.meaning.specs.Primitives.{Side, side, higher, catenate}
+use Rattle.meaning.specs.Primitives.{Side, side, catenate}
 use Rattle.meaning.specs.Steps.{Beside, fit, side_at}
 use Rattle.meaning.proofs.Positions.{within-below}
 use Rattle.meaning.proofs.Scalars.{scalar-count}

@@ -11,7 +11,7 @@ use Rattle.meaning.specs.Array.{Operand, array_of, good_form}
 use Rattle.answer.specs.Answer.{lent, early, own, accepted}
 use Rattle.answer.proofs.Order.{early-replied, own-replied, late-replied, given-replied, Roomy, late-fine}
 use Rattle.answer.proofs.Lent.{FineTwo, fine-two}
-use Rattle.masks.specs.Steps.Actions.{action_number, masking, repeats}
+use Rattle.masks.specs.Steps.Actions.{action_number, masking}
 use Rattle.masks.proofs.Calls.{mask-names, Known, known-has, known-high, shape_is, known-ready, known-masked, known_out}
 use Rattle.masks.proofs.masked.Statement.{statement}
 use Rattle.masks.proofs.masked.Tie as tie
