@@ -57,11 +57,7 @@ fn left(random: &mut Random, number: i32, g: i32, axis: usize, lengths: &[usize]
         27 => list(bits(random, n)),
         28 => list(opened(random, n)),
         29 | 30 => list((0..n).map(|_| random.below(1 << 10)).collect()),
-        31 => {
-            let few = random.below(40);
-            let many = [few, few, 127, 128, 129, 300][random.below(6) as usize];
-            list((0..many).map(|_| g + random.below(n)).collect())
-        }
+        31 => list((0..random.below(40)).map(|_| g + random.below(n)).collect()),
         _ => (vec![], vec![0]),
     }
 }

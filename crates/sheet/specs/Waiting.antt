@@ -4,7 +4,7 @@ use Rattle.sheet_line.specs.Call.{max_line}
 use Rattle.sheet.specs.declared.Held.{Held}
 use Rattle.sheet.specs.Lines.{Lines}
 
--- More bytes wait to be written, less what was written meanwhile. No contract can say where to that was written.
+-- More bytes wait to be written, less what was written meanwhile (`Sent` says where to).
 pub record Appended (before bytes after : List ℕ) : Type 0 where
   pub written : List ℕ
   pub rest : written ++ after ≡ before ++ bytes
