@@ -1,3 +1,4 @@
+pub mod Exits
 pub mod Order
 pub mod Lent
 pub mod Moved

@@ -19,8 +19,11 @@ use Rattle.meaning.specs.Refusal.Refusal.{FORM, ORIGIN, LIMIT, SPACE}
 use Rattle.meaning.specs.Primitives.{Meaning}
 use Rattle.meaning.specs.Reply.{Reply, primitives, named, is_origin, result_rules, refusals, meaning_of, settle, reply}
 use Rattle.meaning.proofs.Winner.{has, from, sorted, first_met, winner-first, or_else, else-first, first-append}
-use Rattle.answer.specs.Answer.{early, own, late, answer_of, refused, accepted, Replied}
+use Rattle.answer.specs.Answer.{early, own, late, answer_of, accepted, Replied}
+use Rattle.answer.specs.Refused.{answered}
 use Rattle.answer.specs.declared.Answer.{Answer}
+use Rattle.answer.proofs.Exits.{Refuses}
+use Rattle.std.specs.Prelude.{Ok}
 
 -- What is asked before a primitive's own refusals, and after them.
 pub early-first : (form : Bool) (G : ℤ) → early form G ≡ cond (not form) (number FORM) (cond (not (is_origin G)) (number ORIGIN) 0)
@@ -140,21 +143,21 @@ module _ {n operands : ℕ} {G K : ℤ} {L R : Operand} {m : Meaning} (names : N
   unfolding reply
   reply-is w e = ap₂ (λ v y. settle v y out) (number_is ∙ e) names.meaning
 
-  refused-reply : (a : Answer) (w : ℕ) → a ≡ refused w → (w ≡ 0 → ⊥) → in_order ≡ w → Replied a out replied
-  refused-reply a w e z h =
-      let q : replied ≡ refused_reply w out = reply-is w h ∙ refused-is w m out z in
-      record { answer = e ∙ sym (ap answer_of q); buffer = sym (ap (λ y. y.out) q) }
+  refused-reply : (a : Answer) (w : ℕ) → Refuses a w → in_order ≡ w → Replied a out replied
+  refused-reply a w e h =
+      let q : replied ≡ refused_reply w out = reply-is w h ∙ refused-is w m out e.some in
+      record { answer = e.is ∙ sym (ap answer_of q); buffer = sym (ap (λ y. y.out) q) }
 
   -- Early: a number that is not 0, of FORM and ORIGIN.
-  pub early-replied : {a : Answer} {w : ℕ} → w ≡ early_of operands G L R → (w ≡ 0 → ⊥) → a ≡ refused w → Replied a out replied
-  early-replied {a} {w} q z e =
-      refused-reply a w e z (ap (λ x. or_else x (or_else (own n m.refusals) (first_met late-rules))) (sym q) ∙ else-first w _ z)
+  pub early-replied : {a : Answer} {w : ℕ} → Refuses a w → w ≡ early_of operands G L R → Replied a out replied
+  early-replied {a} {w} e q =
+      refused-reply a w e (ap (λ x. or_else x (or_else (own n m.refusals) (first_met late-rules))) (sym q) ∙ else-first w _ e.some)
 
   module _ (fine : early_of operands G L R ≡ 0) where
     -- Own: of the primitive's.
-    pub own-replied : {a : Answer} {w : ℕ} → w ≡ own n m.refusals → (w ≡ 0 → ⊥) → a ≡ refused w → Replied a out replied
-    own-replied {a} {w} q z e =
-        refused-reply a w e z (ap₂ (λ x y. or_else x (or_else y (first_met late-rules))) fine (sym q) ∙ else-first w _ z)
+    pub own-replied : {a : Answer} {w : ℕ} → Refuses a w → w ≡ own n m.refusals → Replied a out replied
+    own-replied {a} {w} e q =
+        refused-reply a w e (ap₂ (λ x y. or_else x (or_else y (first_met late-rules))) fine (sym q) ∙ else-first w _ e.some)
 
 -- All that is known of a call where neither FORM nor ORIGIN nor a refusal of the primitive's own was met: s stands for the result's lengths.
 pub record Ready (n operands : ℕ) (G K : ℤ) (L R : Operand) (m : Meaning) (s : Shape) : Type 0 where
@@ -164,9 +167,9 @@ pub record Ready (n operands : ℕ) (G K : ℤ) (L R : Operand) (m : Meaning) (s
   pub stands : Stands s m.lengths
 
 -- A success with the shape that `as_result` makes of s.
-pub as-result : {n operands : ℕ} {G K : ℤ} {L R : Operand} {m : Meaning} {s t : Shape} {a : Answer} → Ready n operands G K L R m s
-    → good_shape s ≡ true → t ≡ made_of s.rank s.lens → a ≡ accepted t → a ≡ accepted (shape_of m.lengths)
-as-result ready g e q = q ∙ ap accepted (e ∙ stands-made ready.stands g)
+pub as-result : {n operands : ℕ} {G K : ℤ} {L R : Operand} {m : Meaning} {s t : Shape} → Ready n operands G K L R m s
+    → good_shape s ≡ true → t ≡ made_of s.rank s.lens → t ≡ shape_of m.lengths
+as-result ready g e = e ∙ stands-made ready.stands g
 
 module _ {n operands : ℕ} {G K : ℤ} {L R : Operand} {m : Meaning} {s : Shape} (ready : Ready n operands G K L R m s) (out : List ℤ) where
   late-order : in_order ready.names out ≡ late (count_of s) (length out)
@@ -180,16 +183,16 @@ module _ {n operands : ℕ} {G K : ℤ} {L R : Operand} {m : Meaning} {s : Shape
     w-is = q ∙ ap (λ x. late x (length out)) n-is
 
     -- LIMIT and SPACE.
-    pub late-replied : {a : Answer} → (w ≡ 0 → ⊥) → a ≡ refused w → Replied a out (reply (pos n) G K L R out)
-    late-replied {a} z e = refused-reply ready.names out a w e z (late-order ∙ sym w-is)
+    pub late-replied : {a : Answer} → Refuses a w → Replied a out (reply (pos n) G K L R out)
+    late-replied {a} e = refused-reply ready.names out a w e (late-order ∙ sym w-is)
 
     -- The result.
-    pub given-replied : {a : Answer} {last : List ℤ} → w ≡ 0 → a ≡ accepted (shape_of m.lengths)
-        → last ≡ (build m.lengths m.element).elements ++ drop (count m.lengths) out → Replied a last (reply (pos n) G K L R out)
-    unfolding settle
+    pub given-replied : {t : Shape} {last : List ℤ} → w ≡ 0 → t ≡ shape_of m.lengths
+        → last ≡ (build m.lengths m.element).elements ++ drop (count m.lengths) out → Replied (answered (Ok t)) last (reply (pos n) G K L R out)
+    unfolding settle answered
     given-replied z e f =
         let y : reply (pos n) G K L R out ≡ given_reply m out = reply-is ready.names out 0 (late-order ∙ sym w-is ∙ z) in
-        record { answer = e ∙ sym (ap answer_of y); buffer = f ∙ sym (ap (λ x. x.out) y) }
+        record { answer = ap accepted e ∙ sym (ap answer_of y); buffer = f ∙ sym (ap (λ x. x.out) y) }
 
 -- Neither LIMIT nor SPACE was met.
 pub record Roomy (s : Shape) (room : ℕ) : Type 0 where

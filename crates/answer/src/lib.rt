@@ -1,15 +1,18 @@
-// What the calls share: the answer, the refusals' numbers, and the tests before a primitive's own and after them.
+// What the calls share: the operands, the answer, the refusals, and the tests before a primitive's own and after them.
 #![tactic(auto)]
 
-pub mod refusal;
+mod refusal;
 
-ghost use Rattle.std.specs.Prelude.{◌≡◌, ◌&&◌};
-ghost use Rattle.meaning.specs.Array.{good_form};
-ghost use Rattle.answer.specs.Answer.{lent, refused, accepted, early, late};
+ghost use Rattle.std.specs.Prelude.{◌≡◌, ◌&&◌, true, IfOk};
+ghost use Rattle.meaning.specs.Array.{Operand, good_form};
+ghost use Rattle.answer.specs.Answer.{lent, early, late, accepted, refused};
+ghost use Rattle.answer.specs.Refused.{answered, asked};
 
+pub use refusal::Refusal;
 use shape::Shape;
+use std::marker::Model;
 
-// A number, 0 for a success, and a shape, the scalar's for a refusal.
+// A number, 0 for a success, and a shape, the scalar's for a refusal: a call's answer as C has it.
 #[repr(C)]
 #[derive(Clone, Copy)]
 pub struct Answer {
@@ -18,7 +21,7 @@ pub struct Answer {
 }
 
 impl Answer {
-    pub fn refused(number: usize) -> Answer
+    fn refused(number: usize) -> Answer
         ensures { result ≡ refused number }
     {
         let shape = Shape::scalar();
@@ -26,56 +29,108 @@ impl Answer {
     }
 
     // A success.
-    pub fn given(shape: Shape) -> Answer
+    fn given(shape: Shape) -> Answer
         ensures { result ≡ accepted shape }
     {
         Answer { number: 0, shape }
     }
 }
 
-// A good shape, and as many elements as it counts.
-pub fn good_form(s: Shape, b: &[i32]) -> bool
-    ensures { result ≡ good_form (lent s b.now) }
-{
-    let count = s.count();
-    if Shape::MAX_COUNT < count {
-        return false;
+impl From<Result<Shape, Refusal>> for Answer {
+    ghost from_gives = { λ r a. a ≡ answered r };
+
+    fn from(outcome: Result<Shape, Refusal>) -> Answer {
+        match outcome {
+            Ok(shape) => Answer::given(shape),
+            Err(refusal) => Answer::refused(refusal.number()),
+        }
     }
-    count <= b.len()
 }
 
-// FORM and ORIGIN with one operand, 0 where neither is met.
-pub fn early_one(g: i32, rs: Shape, r: &[i32]) -> usize
-    ensures { result ≡ early (good_form (lent rs r.now)) g }
-{
-    if good_form(rs, r) {
-        if signed::is_origin(g) {
-            0
-        } else {
-            refusal::ORIGIN
-        }
-    } else {
-        refusal::FORM
+// An operand of a call: a shape by value and a lent slice.
+#[derive(Drop)]
+pub struct Operand<'a> {
+    pub shape: Shape,
+    pub elements: &'a [i32],
+}
+
+impl<'a> Model for Operand<'a> {
+    ghost Value = { Operand };
+
+    ghost view = { λ o. lent o.shape o.elements.now };
+}
+
+// An operand of good form: a good shape, and as many elements as it counts.
+#[derive(Drop)]
+pub struct Formed<'a> {
+    pub shape: Shape,
+    pub elements: &'a [i32],
+}
+
+impl<'a> Model for Formed<'a> {
+    ghost Value = { Operand };
+
+    ghost view = { λ o. lent o.shape o.elements.now };
+
+    ghost invariant = { λ o. good_form (lent o.shape o.elements.now) ≡ true };
+}
+
+impl<'a> Operand<'a> {
+    // A good shape, and as many elements as it counts.
+    pub fn good_form(&self) -> bool
+        ensures { result ≡ good_form self.now }
+    {
+        let count = self.shape.count();
+        count <= Shape::MAX_COUNT && count <= self.elements.len()
     }
+}
+
+// FORM and ORIGIN with one operand, which then is of good form.
+pub fn early_one<'a>(g: i32, r: &Operand<'a>) -> Result<Formed<'a>, Refusal>
+    ensures number { asked result ≡ early (good_form r.now) g }
+    ensures operand { IfOk result (λ f. f ≡ r.now) }
+{
+    if !r.good_form() {
+        return Err(Refusal::Form);
+    }
+    if !signed::is_origin(g) {
+        return Err(Refusal::Origin);
+    }
+    Ok(Formed {
+        shape: r.shape,
+        elements: r.elements,
+    })
 }
 
 // FORM and ORIGIN with two operands.
-pub fn early_two(g: i32, ls: Shape, l: &[i32], rs: Shape, r: &[i32]) -> usize
-    ensures { result ≡ early (good_form (lent ls l.now) && good_form (lent rs r.now)) g }
+pub fn early_two<'a>(
+    g: i32,
+    l: &Operand<'a>,
+    r: &Operand<'a>,
+) -> Result<(Formed<'a>, Formed<'a>), Refusal>
+    ensures number { asked result ≡ early (good_form l.now && good_form r.now) g }
+    ensures operands { IfOk result (λ f. (f.0 ≡ l.now) × (f.1 ≡ r.now)) }
 {
-    if good_form(ls, l) {
-        early_one(g, rs, r)
-    } else {
-        refusal::FORM
+    if !l.good_form() {
+        return Err(Refusal::Form);
     }
+    let right = early_one(g, r)?;
+    let left = Formed {
+        shape: l.shape,
+        elements: l.elements,
+    };
+    Ok((left, right))
 }
 
-// LIMIT and SPACE of a result, by the count of its shape and the room for it, 0 where neither is met.
-pub fn late(count: usize, room: usize) -> usize
-    ensures { result ≡ late count room }
+// LIMIT and SPACE of a result, by the count of its shape and the room for it.
+pub fn late(count: usize, room: usize) -> Result<(), Refusal>
+    ensures { asked result ≡ late count room }
 {
     if Shape::MAX_COUNT < count {
-        return refusal::LIMIT;
+        return Err(Refusal::Limit);
     }
-    if room < count { refusal::SPACE } else { 0 }
+    if room < count {
+        return Err(Refusal::Space);
+    }
+    Ok(())
 }

@@ -6,15 +6,14 @@ use native.Mathlib.Omega.{arith}
 use lib.IntN.{ℤ, ◌-ℤ◌}
 use mir.Syntax.{w32}
 use mir.Val.{SFits, to_z, of_z}
+use Rattle.std.specs.Prelude.{Option, Some, None}
 use Rattle.meaning.specs.Terms.{within, from_zero}
 use Rattle.meaning.proofs.Positions.{within-lt}
-use Rattle.signed.specs.declared.Found.{Found}
-use Rattle.signed.specs.declared.Found.TheVariants.{At, Nothing}
 use Rattle.signed.proofs.Reading.{read32}
 
 -- Its answer.
-abbrev pub found_of : ℤ → ℤ → ℕ → Found
-found_of z g n = cond (within (z -ℤ g) n) (At (from_zero g z)) Nothing
+abbrev pub found_of : ℤ → ℤ → ℕ → Option ℕ
+found_of z g n = cond (within (z -ℤ g) n) (Some (from_zero g z)) None
 
 pub record IsAt (z g : ℤ) (n i : ℕ) : Type 0 where
   pub inside : within (z -ℤ g) n ≡ true
@@ -22,17 +21,17 @@ pub record IsAt (z g : ℤ) (n i : ℕ) : Type 0 where
   pub below : i < n
 
 module _ (z g : ℤ) (n : ℕ) where
-  pub found_at : (i : ℕ) → At i ≡ found_of z g n → IsAt z g n i
+  pub found_at : (i : ℕ) → Some i ≡ found_of z g n → IsAt z g n i
   found_at i e = by (within (z -ℤ g) n) refl e
     where
-      by : (b : Bool) → within (z -ℤ g) n ≡ b → At i ≡ cond b (At (from_zero g z)) Nothing → IsAt z g n i
+      by : (b : Bool) → within (z -ℤ g) n ≡ b → Some i ≡ cond b (Some (from_zero g z)) None → IsAt z g n i
       by true w e = let q : i ≡ from_zero g z = cc in record { inside = w; is = q; below = omega (arith, within-lt (z -ℤ g) n w) }
       by false w e = absurd (let q : ◌≡◌ {A = ℕ} 0 1 = cc in omega arith)
 
-  pub found_none : Nothing ≡ found_of z g n → within (z -ℤ g) n ≡ false
+  pub found_none : None ≡ found_of z g n → within (z -ℤ g) n ≡ false
   found_none e = by (within (z -ℤ g) n) e
     where
-      by : (b : Bool) → Nothing ≡ cond b (At (from_zero g z)) Nothing → b ≡ false
+      by : (b : Bool) → None ≡ cond b (Some (from_zero g z)) None → b ≡ false
       by true e = absurd (let q : ◌≡◌ {A = ℕ} 0 1 = cc in omega arith)
       by false e = refl
 

@@ -1,9 +1,10 @@
 -- The sign and the magnitude of a number, as signed code finds them.
 use Prim.Native.Nat.{ℕ, zero, suc, ◌+◌, ◌-◌, ◌^◌, ◌≤◌, ◌<◌}
 use native.Mathlib.Omega.{arith}
-use mathlib.Core.Path.{◌≡◌, refl, sym}
+use mathlib.Core.Path.{◌≡◌, refl, sym, ◌∙◌}
 use mathlib.Core.Bool.{Bool, true, false, cond}
-use lib.Dec.{T, ltb, leb-suc-zero}
+use borrow.Author.Tests.{le-leb, lt-ltb, le-ltb, ltb-true, ltb-false}
+use lib.Dec.{T, leb, ltb, leb-suc-zero}
 use lib.IntN.{ℤ, pos, negsuc, nat_abs, neg_ℤ, ◌+ℤ◌, ◌-ℤ◌}
 use lib.Signed.{lt_z, mag, non_neg}
 use mir.Syntax.{w32, w64}
@@ -25,27 +26,30 @@ unfolding negative
 size-pos (pos n) h = no_way h
 size-pos (negsuc n) h = omega arith
 
+-- The test `z < g` is the sign of their difference.
+sign-by : (t : Bool) (a b : ℕ) → t ≡ negative (cond t (negsuc a) (pos b))
+unfolding negative
+sign-by true a b = refl
+sign-by false a b = refl
+
+less-suc : (b a : ℕ) (t : Bool) → ltb b a ≡ t → ltb b a ≡ ltb (suc b) (suc a)
+less-suc b a true e = e ∙ sym (lt-ltb (suc b) (suc a) (omega (arith, ltb-true b a e)))
+less-suc b a false e = e ∙ sym (le-ltb (suc b) (suc a) (omega (arith, ltb-false b a e)))
+
+pub less-negative : (z g : ℤ) → lt_z z g ≡ negative (z -ℤ g)
+unfolding negative
+less-negative (pos a) (pos zero) = leb-suc-zero a
+less-negative (pos a) (pos (suc b)) = sign-by (ltb a (suc b)) _ _
+less-negative (pos a) (negsuc b) = refl
+less-negative (negsuc a) (pos zero) = sym (le-leb 1 (suc a) (omega arith)) ∙ sign-by (leb 1 (suc a)) _ _
+less-negative (negsuc a) (pos (suc b)) = refl
+less-negative (negsuc a) (negsuc b) = less-suc b a (ltb b a) refl ∙ sign-by (ltb (suc b) (suc a)) _ _
+
 -- `x as usize` of an i64 from 0 up.
 pub index : (x : ℤ) → SFits w64 x → negative x ≡ false → T (non_neg x) × Fits w64 (nat_abs x)
 unfolding negative
 index (pos n) f h = (tt, record { fits = omega (arith, f.sfits) })
 index (negsuc n) f h = no_way (sym h)
-
--- `0 - x` at 64 bits, x below 0: it fits, it is an index, and it is the magnitude.
-pub record Negated (x : ℤ) : Type 0 where
-  pub fits : SFits w64 (pos 0 -ℤ x)
-  pub index : T (non_neg (pos 0 -ℤ x)) × Fits w64 (nat_abs (pos 0 -ℤ x))
-  pub size : nat_abs (pos 0 -ℤ x) ≡ nat_abs x
-
--- x is a number of 32 bits, or a difference of two.
-pub negated : (x : ℤ) → mag x < 2 ^ 33 → negative x ≡ true → Negated x
-unfolding negative
-negated (pos n) f h = no_way h
-negated (negsuc n) f h = record {
-  fits = record { sfits = omega arith };
-  index = (tt, record { fits = omega arith });
-  size = omega arith;
-}
 
 -- The difference of two numbers of 32 bits has 33.
 sub-mag : (a b : ℕ) (t : Bool) → ltb a b ≡ t → mag (cond t (negsuc (b - suc a)) (pos (a - b))) ≤ a + b

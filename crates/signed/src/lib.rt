@@ -1,7 +1,7 @@
 // Everything that looks at the sign of a number, so that callers see only numbers from 0 up.
 #![tactic(auto)]
 
-ghost use Rattle.std.specs.Prelude.{◌≡◌, cond, eqb, leb, pos, nat_abs, ◌-ℤ◌};
+ghost use Rattle.std.specs.Prelude.{◌≡◌, cond, eqb, leb, pos, nat_abs, ◌-ℤ◌, Some, None};
 ghost use Rattle.meaning.specs.Terms.{negative, within, from_zero, modulo, int_same, is_bit};
 ghost use Rattle.meaning.specs.Reply.{is_origin};
 
@@ -15,7 +15,7 @@ pub fn negative(z: i32) -> bool
 pub fn magnitude(z: i32) -> usize
     ensures { result ≡ nat_abs z }
 {
-    from_zero(z, 0)
+    z.unsigned_abs() as usize
 }
 
 pub fn same(x: i32, y: i32) -> bool
@@ -46,27 +46,19 @@ pub fn is_origin(g: i32) -> bool
 pub fn from_zero(z: i32, g: i32) -> usize
     ensures { result ≡ from_zero g z }
 {
-    let d = z as i64 - g as i64;
-    if d < 0 { (0 - d) as usize } else { d as usize }
-}
-
-// What is looked for among positions.
-#[derive(Clone, Copy)]
-pub enum Found {
-    At(usize),
-    Nothing,
+    let difference = i64::from(z) - i64::from(g);
+    difference.unsigned_abs() as usize
 }
 
 // The position that z names, if it is one of n.
-pub fn position(z: i32, g: i32, n: usize) -> Found
-    ensures { result ≡ cond (within (z -ℤ g) n) (Found.At (from_zero g z)) Found.Nothing }
+pub fn position(z: i32, g: i32, n: usize) -> Option<usize>
+    ensures { result ≡ cond (within (z -ℤ g) n) (Some (from_zero g z)) None }
 {
-    let less = z as i64 - g as i64;
-    if less < 0 {
-        return Found::Nothing;
+    if z < g {
+        return None;
     }
-    let i = less as usize;
-    if i < n { Found::At(i) } else { Found::Nothing }
+    let i = from_zero(z, g);
+    if i < n { Some(i) } else { None }
 }
 
 // z mod n, never negative, and 0 for n = 0. From the magnitude, so that nothing signed can overflow.
@@ -88,5 +80,5 @@ pub fn modulo(z: i32, n: usize) -> usize
 pub fn element(n: usize) -> i32
     ensures { result ≡ cond (leb n 2147483647) (pos n) (pos 0) }
 {
-    if n <= 2147483647 { n as i32 } else { 0 }
+    i32::try_from(n).unwrap_or(0)
 }
