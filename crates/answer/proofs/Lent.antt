@@ -21,7 +21,7 @@ use Rattle.meaning.specs.Refusal.{number}
 use Rattle.meaning.specs.Refusal.Refusal.{FORM, ORIGIN}
 use Rattle.meaning.specs.Reply.{is_origin}
 use Rattle.meaning.proofs.Arrays.{form-shape, form-room, form-whole}
-use Rattle.answer.specs.Answer.{lent, early}
+use Rattle.answer.specs.Answer.{lent, WellFormed, early}
 use Rattle.answer.proofs.Order.{early-first}
 
 module _ (s : Shape) (b : List ℤ) where
@@ -70,6 +70,10 @@ lent-good s b l h =
       room = form-room (lent s b) h;
       whole = form-whole (lent s b) h;
     }
+
+-- So is every operand that a call goes on with.
+pub formed : {s : Shape} {b : List ℤ} → WellFormed s b → Lent s b
+formed {s} {b} w = lent-good s b w.long w.form
 
 -- The length of an axis that counts.
 pub axis-is : (s : Shape) (b : List ℤ) (k : ℕ) → k < s.rank → axis (array_of (lent s b)) k ≡ get_or s.lens k 0

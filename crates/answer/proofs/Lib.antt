@@ -1,4 +1,6 @@
 pub mod Exits
+pub mod Axes
 pub mod Order
 pub mod Lent
+pub mod Early
 pub mod Moved

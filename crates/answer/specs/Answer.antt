@@ -1,8 +1,8 @@
 -- What the program hands over at a call, and what it answers.
-use Rattle.std.specs.Prelude.{ℕ, ◌≡◌, List, [], ◌∷◌, Bool, leb, ℤ}
+use Rattle.std.specs.Prelude.{ℕ, ◌≡◌, List, [], ◌∷◌, length, Bool, true, leb, ℤ}
 use Rattle.shape.specs.declared.Shape.{Shape}
-use Rattle.shape.specs.Shape.{max_count, scalar}
-use Rattle.meaning.specs.Array.{Operand}
+use Rattle.shape.specs.Shape.{max_rank, max_count, scalar}
+use Rattle.meaning.specs.Array.{Operand, good_form}
 use Rattle.meaning.specs.Refusal.{Rule, ◌unless◌, precedence, winner}
 use Rattle.meaning.specs.Refusal.Refusal.{FORM, ORIGIN, LIMIT, SPACE}
 use Rattle.meaning.specs.Reply.{Reply, is_origin}
@@ -11,6 +11,11 @@ use Rattle.answer.specs.declared.Answer.{Answer}
 -- An operand is a shape by value and a lent slice.
 abbrev pub lent : Shape → List ℤ → Operand
 lent s b = record { shape = s; buffer = b }
+
+-- What an operand of good form keeps; its shape has a length for each of the largest rank's axes.
+pub record WellFormed (s : Shape) (b : List ℤ) : Type 0 where
+  pub form : good_form (lent s b) ≡ true
+  pub long : length s.lens ≡ max_rank
 
 -- An answer is a reply's number and shape; what the output buffer holds is said beside it.
 abbrev pub answer_of : Reply → Answer

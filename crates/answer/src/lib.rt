@@ -3,9 +3,12 @@
 
 mod refusal;
 
-ghost use Rattle.std.specs.Prelude.{◌≡◌, ◌&&◌, true, IfOk};
-ghost use Rattle.meaning.specs.Array.{Operand, good_form};
-ghost use Rattle.answer.specs.Answer.{lent, early, late, accepted, refused};
+ghost use Rattle.std.specs.Prelude.{◌≡◌, ◌&&◌, true, not, cond, ◌<◌, ◌-ℤ◌, length, IfOk};
+ghost use Rattle.meaning.specs.Array.{Operand, array_of, good_form};
+ghost use Rattle.meaning.specs.Terms.{rank, is_list, as_vector, within, from_zero};
+ghost use Rattle.meaning.specs.Refusal.{number};
+ghost use Rattle.meaning.specs.Refusal.Refusal.{AXIS};
+ghost use Rattle.answer.specs.Answer.{lent, WellFormed, early, late, accepted, refused};
 ghost use Rattle.answer.specs.Refused.{answered, asked};
 
 pub use refusal::Refusal;
@@ -72,7 +75,42 @@ impl<'a> Model for Formed<'a> {
 
     ghost view = { λ o. lent o.shape o.elements.now };
 
-    ghost invariant = { λ o. good_form (lent o.shape o.elements.now) ≡ true };
+    ghost invariant = { λ o. WellFormed o.shape o.elements.now };
+}
+
+impl<'a> Formed<'a> {
+    pub fn count(&self) -> usize
+        ensures { result ≡ length (array_of self.now).elements }
+    {
+        self.shape.count()
+    }
+
+    // Only the elements that the shape counts.
+    pub fn elements(&self) -> &'a [i32]
+        ensures { result.now ≡ (array_of self.now).elements }
+    {
+        &self.elements[..self.shape.count()]
+    }
+
+    pub fn rank(&self) -> usize
+        ensures { result ≡ rank (array_of self.now) }
+    {
+        self.shape.rank
+    }
+
+    // The axes that a number may name: a scalar is read as a vector of one.
+    pub fn axes(&self) -> usize
+        ensures { result ≡ rank (as_vector (array_of self.now)) }
+    {
+        self.rank().max(1)
+    }
+
+    // A scalar or a vector.
+    pub fn is_list(&self) -> bool
+        ensures { result ≡ is_list (array_of self.now) }
+    {
+        self.rank() <= 1
+    }
 }
 
 impl<'a> Operand<'a> {
@@ -120,6 +158,14 @@ pub fn early_two<'a>(
         elements: l.elements,
     };
     Ok((left, right))
+}
+
+// AXIS, or else the axis of n that K names.
+pub fn axis(g: i32, k: i32, n: usize) -> Result<usize, Refusal>
+    ensures number { asked result ≡ cond (not (within (k -ℤ g) n)) (number AXIS) 0 }
+    ensures axis { IfOk result (λ axis. (axis < n) × (axis ≡ from_zero g k)) }
+{
+    signed::position(k, g, n).ok_or(Refusal::Axis)
 }
 
 // LIMIT and SPACE of a result, by the count of its shape and the room for it.

@@ -19,8 +19,9 @@ use Rattle.meaning.specs.Primitives.{reverse, rotate}
 use Rattle.meaning.specs.Reply.{primitives, named}
 use Rattle.meaning.proofs.Scalars.{vector-rank}
 use Rattle.answer.specs.Answer.{lent, own}
-use Rattle.answer.proofs.Lent.{Lent, lent-stands}
-use Rattle.answer.proofs.Order.{Names, own_first}
+use Rattle.signed.proofs.Finding.{IsAt}
+use Rattle.answer.proofs.Lent.{Lent, lent-stands, FineOne}
+use Rattle.answer.proofs.Order.{Names, own_first, Ready}
 use Rattle.turns.specs.declared.Turn.TheVariants.{Back, By}
 use Rattle.turns.specs.Steps.{turn_position}
 
@@ -81,6 +82,17 @@ module _ (G K : ℤ) {s : Shape} {r : List ℤ} (g : Lent s r) where
   pub rotate-stands : (l : Array) → Stands s (rotate G K l a).lengths
   unfolding rotate
   rotate-stands l = lent-stands g
+
+-- All that is known where 14 and 25 refused nothing of their own.
+module _ {G K : ℤ} {s : Shape} {b : List ℤ} {n k : ℕ} (e : rank (as_vector (array_of (lent s b))) ≡ n) (a : IsAt K G n k) where
+  pub reverse-ready : FineOne G s b → (L : Operand) → Ready 14 1 G K L (lent s b) (reverse G K (array_of (lent s b))) s
+  reverse-ready f L =
+      record {
+        names = reverse-names G K L (lent s b);
+        fine = f.none;
+        none = reverse-own G K L (lent s b) n e ∙ rw (a.inside) refl;
+        stands = reverse-stands G K f.operand;
+      }
 
 -- The output buffer, with the axis and the amount as the program names them.
 module _ (G K : ℤ) (a : Array) (k : ℕ) (e : k ≡ from_zero G K) (out : List ℤ) where

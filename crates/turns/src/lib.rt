@@ -1,81 +1,64 @@
 // Turning the lines along an axis: reverse and rotate.
 #![tactic(auto)]
 
-ghost use Rattle.std.specs.Prelude.{◌≡◌, List, ◌++◌, true, ◌+◌, ◌*◌, ◌≤◌, ◌<◌, max, length, drop, get_or, ℤ, pos};
+ghost use Rattle.std.specs.Prelude.{◌≡◌, List, ◌++◌, true, ◌+◌, ◌*◌, ◌≤◌, ◌<◌, max, length, drop, get_or, ℤ, pos, IfOk};
 ghost use Rattle.shape.specs.Shape.{count, counted, good_shape};
 ghost use Rattle.meaning.specs.Array.{Operand, array_of, tab, build, good_form};
-ghost use Rattle.meaning.specs.Terms.{along};
+ghost use Rattle.meaning.specs.Terms.{along, from_zero};
 ghost use Rattle.meaning.specs.Primitives.{rotate};
 ghost use Rattle.meaning.specs.Reply.{reply};
 ghost use Rattle.copying.specs.Steps.{filled};
 ghost use Rattle.answer.specs.Answer.{lent, own, Replied};
+ghost use Rattle.answer.specs.Refused.{asked, answered};
 ghost use Rattle.turns.specs.Steps.{turn_position, Turns, Lie, turned_at, back_at, cut_blocks, Shifts};
 
-use answer::{Answer, refusal};
+use answer::{Formed, Operand, Refusal};
 use shape::Shape;
-use signed::Found;
 
 // 14, whatever L is: it is not looked at.
-pub fn reverse(g: i32, k: i32, rs: Shape, r: &[i32], out: &mut [i32]) -> Answer
-    ensures { (L : Operand) → Replied result out.new (reply (pos 14) g k L (lent rs r.now) out.old) }
+pub fn reverse(g: i32, k: i32, r: &Operand<'_>, out: &mut [i32]) -> Result<Shape, Refusal>
+    ensures { (L : Operand) → Replied (answered result) out.new (reply (pos 14) g k L r.now out.old) }
 {
-    let early = answer::early_one(g, rs, r);
-    if early != 0 {
-        return Answer::refused(early);
-    }
-    let Found::At(axis) = signed::position(k, g, axes_of(rs)) else {
-        return Answer::refused(refusal::AXIS);
-    };
-    let count = rs.count();
-    let late = answer::late(count, out.len());
-    if late != 0 {
-        return Answer::refused(late);
-    }
-    turn_into(Turn::Back, rs, axis, count, r, out);
-    Answer::given(rs.as_result())
+    let r = answer::early_one(g, r)?;
+    let axis = answer::axis(g, k, r.axes())?;
+    let count = r.shape.count();
+    answer::late(count, out.len())?;
+    turn_into(Turn::Back, r.shape, axis, count, r.elements, out);
+    Ok(r.shape.as_result())
 }
 
 // 25.
-pub fn rotate(g: i32, k: i32, ls: Shape, l: &[i32], rs: Shape, r: &[i32], out: &mut [i32]) -> Answer
-    ensures { Replied result out.new (reply (pos 25) g k (lent ls l.now) (lent rs r.now) out.old) }
+pub fn rotate(
+    g: i32,
+    k: i32,
+    l: &Operand<'_>,
+    r: &Operand<'_>,
+    out: &mut [i32],
+) -> Result<Shape, Refusal>
+    ensures { Replied (answered result) out.new (reply (pos 25) g k l.now r.now out.old) }
 {
-    let early = answer::early_two(g, ls, l, rs, r);
-    if early != 0 {
-        return Answer::refused(early);
-    }
-    let own = rotate_refusal(g, k, ls, l, rs);
-    if own != 0 {
-        return Answer::refused(own);
-    }
-    let count = rs.count();
-    let late = answer::late(count, out.len());
-    if late != 0 {
-        return Answer::refused(late);
-    }
-    let axis = signed::from_zero(k, g);
-    turn_into(Turn::By(l[0]), rs, axis, count, r, out);
-    Answer::given(rs.as_result())
+    let (l, r) = answer::early_two(g, l, r)?;
+    let (axis, amount) = rotation(g, k, &l, &r)?;
+    let count = r.shape.count();
+    answer::late(count, out.len())?;
+    turn_into(Turn::By(amount), r.shape, axis, count, r.elements, out);
+    Ok(r.shape.as_result())
 }
 
-// RANK, AXIS and LENGTH, whatever R's elements are.
-fn rotate_refusal(g: i32, k: i32, ls: Shape, l: &[i32], rs: Shape) -> usize
-    requires { (good_form (lent ls l.now) ≡ true) × (good_shape rs ≡ true) }
-    ensures { (b : List ℤ) → result ≡ own 25 (rotate g k (array_of (lent ls l.now)) (array_of (lent rs b))).refusals }
+// RANK, AXIS and LENGTH, or else the axis and the amount.
+fn rotation(g: i32, k: i32, l: &Formed<'_>, r: &Formed<'_>) -> Result<(usize, i32), Refusal>
+    ensures number { asked result ≡ own 25 (rotate g k (array_of l.now) (array_of r.now)).refusals }
+    ensures found { IfOk result (λ t. (t.0 ≡ from_zero g k) × (t.1 ≡ get_or (array_of l.now).elements 0 (pos 0))) }
 {
-    if 1 < ls.rank {
-        return refusal::RANK;
+    if !l.is_list() {
+        return Err(Refusal::Rank);
     }
-    let Found::At(_) = signed::position(k, g, axes_of(rs)) else {
-        return refusal::AXIS;
-    };
-    if ls.count() == 1 { 0 } else { refusal::LENGTH }
-}
-
-// The axes that K may name: a scalar is read as a vector of one.
-fn axes_of(s: Shape) -> usize
-    ensures { result ≡ max 1 s.rank }
-{
-    if s.rank == 0 { 1 } else { s.rank }
+    let axis = answer::axis(g, k, r.axes())?;
+    let elements = l.elements();
+    if elements.len() != 1 {
+        return Err(Refusal::Length);
+    }
+    Ok((axis, elements[0]))
 }
 
 // How the positions of an axis move: backwards, or by an amount.

@@ -1,0 +1,33 @@
+-- What the tests before a primitive's own tell, of the origin read from a local and of operands that are opened.
+use mathlib.Core.Path.{◌≡◌, sym, ap, ap₂, ◌∙◌}
+use mathlib.Core.List.{List}
+use mathlib.Core.Bool.{Bool, ◌&&◌}
+use lib.IntN.{ℤ}
+use mir.Syntax.{w32}
+use mir.Val.{SFits, to_z, of_z}
+use Rattle.std.specs.Prelude.{Result, Ok}
+use Rattle.shape.specs.declared.Shape.{Shape}
+use Rattle.meaning.specs.Array.{Operand, good_form}
+use Rattle.signed.proofs.Reading.{read32}
+use Rattle.answer.specs.Answer.{lent, WellFormed, early}
+use Rattle.answer.specs.Refused.{asked}
+use Rattle.answer.specs.declared.refusal.Refusal as code
+use Rattle.answer.proofs.Exits.{asked_ok}
+use Rattle.answer.proofs.Lent.{FineOne, fine-one, FineTwo, fine-two}
+
+module _ {G : ℤ} (f : SFits w32 G) {A : Type 0} (x : Result A code.Refusal) where
+  pub early-read : (form : Bool) → asked x ≡ early form (to_z w32 (of_z w32 G)) → asked x ≡ early form G
+  early-read form is = is ∙ ap (early form) (read32 G f)
+
+  -- All that a call then knows of one operand, and of two.
+  pub one-fine : {R : Operand} {v : A} {s : Shape} {b : List ℤ} → asked x ≡ early (good_form R) (to_z w32 (of_z w32 G)) → x ≡ Ok v
+      → R ≡ lent s b → WellFormed s b → FineOne G s b
+  one-fine {R} {v} {s} {b} is ok e w =
+      fine-one G s b w.long (ap (λ o. early (good_form o) G) (sym e) ∙ sym (early-read _ is) ∙ asked_ok ok)
+
+  pub two-fine : {L R : Operand} {v : A} {ls rs : Shape} {l r : List ℤ}
+      → asked x ≡ early (good_form L && good_form R) (to_z w32 (of_z w32 G)) → x ≡ Ok v
+      → L ≡ lent ls l → WellFormed ls l → R ≡ lent rs r → WellFormed rs r → FineTwo G ls l rs r
+  two-fine {L} {R} {v} {ls} {rs} {l} {r} is ok d u e w =
+      fine-two G ls l rs r u.long w.long
+      (ap₂ (λ o p. early (good_form o && good_form p) G) (sym d) (sym e) ∙ sym (early-read _ is) ∙ asked_ok ok)
