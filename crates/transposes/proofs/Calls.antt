@@ -1,5 +1,5 @@
 -- 15 and 26: what they ask, and what they give.
-use mathlib.Core.Path.{◌≡◌, refl, sym, ap, ap₂, ◌∙◌}
+use mathlib.Core.Path.{◌≡◌, refl, sym, ap, ap₂, subst, ◌∙◌}
 use mathlib.Core.List.{List, [], ◌∷◌, ◌++◌, map}
 use mathlib.Core.Bool.{Bool, true, false, not, cond}
 use Prim.Native.Nat.{ℕ, ◌≤◌}
@@ -7,7 +7,8 @@ use native.Mathlib.Omega.{arith}
 use borrow.Author.Tests.{eq-eqb, eqb-true}
 use lib.ListN.{length, drop, length-map, take}
 use lib.Dec.{eqb}
-use lib.IntN.{ℤ, ◌-ℤ◌}
+use lib.IntN.{ℤ, pos, ◌-ℤ◌}
+use Rattle.std.specs.Prelude.{Result, Ok, Err}
 use Rattle.shape.specs.declared.Shape.{Shape}
 use Rattle.shape.specs.Shape.{counted, count, count_of, shape_of}
 use Rattle.shape.proofs.Bools.{both}
@@ -17,15 +18,17 @@ use Rattle.meaning.specs.Refusal.{number, precedence}
 use Rattle.meaning.specs.Refusal.Refusal.{RANK, LENGTH, DOMAIN}
 use Rattle.meaning.specs.Terms.{rank, is_list, int_same, within, from_zero, every}
 use Rattle.meaning.specs.Primitives.{Meaning, axes_to, sent_lengths, brought_back, backwards, transpose, all_occur, transpose_by}
-use Rattle.meaning.specs.Reply.{primitives, named}
+use Rattle.meaning.specs.Reply.{primitives, named, reply}
 use Rattle.meaning.proofs.Positions.{within-lt}
 use Rattle.meaning.proofs.Sent.{length-backwards, all-occur}
-use Rattle.answer.specs.declared.Answer.{Answer}
-use Rattle.answer.specs.Answer.{lent, own, accepted}
+use Rattle.answer.specs.Answer.{lent, own, Replied}
+use Rattle.answer.specs.Refused.{asked, answered}
+use Rattle.answer.specs.declared.refusal.Refusal.{Refusal}
+use Rattle.answer.proofs.Exits.{refuses}
 use Rattle.answer.proofs.Lent.{Lent}
-use Rattle.answer.proofs.Order.{Names, own_first, early_of, Ready, Roomy}
+use Rattle.answer.proofs.Order.{Names, own_first, early_of, Ready, Roomy, late-fine, late-replied, given-replied}
 use Rattle.transposes.specs.declared.Sent.{Sent}
-use Rattle.transposes.specs.Steps.Sent.{SentBy, in_domain, sent_axes, sent_elements, Transposes, Moves}
+use Rattle.transposes.specs.Steps.Sent.{SentBy, Sending, in_domain, sent_axes, sent_elements, Transposes, Moves, Moved}
 use Rattle.transposes.proofs.Choosing.{backwards-few, backwards-occur}
 
 module _ (G K : ℤ) (L R : Operand) where
@@ -143,8 +146,8 @@ module _ {s : Sent} {rs : Shape} {r : List ℤ} {ts : List ℕ} {m : Meaning} {s
       → own n m.refusals ≡ 0 → Ready n operands G K L (lent rs r) m shape
   sent-ready names fine none = record { names = names; fine = fine; none = none; stands = made-stands shape m.lengths shape_is }
 
-  pub sent-given : {a : Answer} → a ≡ accepted shape → a ≡ accepted (shape_of m.lengths)
-  sent-given q = q ∙ ap accepted shape_is
+  pub sent-given : shape ≡ shape_of m.lengths
+  sent-given = shape_is
 
   pub sent-out : {total room : ℕ} {last : List ℤ} (out : List ℤ) → total ≡ count_of shape → Roomy shape room
       → last ≡ sent_elements (sent_axes s rs) (array_of (lent rs r)) ++ drop total out
@@ -152,3 +155,27 @@ module _ {s : Sent} {rs : Shape} {r : List ℤ} {ts : List ℕ} {m : Meaning} {s
   sent-out out c f q =
       q ∙ ap₂ (λ x n. sent_elements x (array_of (lent rs r)) ++ drop n out) (axes-are k) (c ∙ stands-count (made-stands shape m.lengths shape_is) f.good)
       ∙ sym (ap₂ (λ x y. (build x y).elements ++ drop (count m.lengths) out) g.lengths g.element)
+
+-- The reply to a call whose axes are sent.
+module _ {s : Sent} {rs : Shape} {r : List ℤ} {ts : List ℕ} {m : Meaning} (k : Known s rs r ts) (g : Means m ts (array_of (lent rs r)))
+    {n operands : ℕ} {G K : ℤ} {L : Operand} (names : Names n operands G K L (lent rs r) m) (fine : early_of operands G L (lent rs r) ≡ 0)
+    (none : own n m.refusals ≡ 0) where
+  abbrev shape : Shape
+  shape = shape_of (sent_lengths (sent_axes s rs) (counted rs))
+
+  pub moved-replied : (out last : List ℤ) (x : Result Shape Refusal) → Moved s rs r out last x → Replied (answered x) last (reply (pos n) G K L (lent rs r) out)
+  unfolding asked
+  moved-replied out last (Ok t) v =
+      let f : Roomy shape (length out) = late-fine _ v.asks refl refl in
+      given-replied (sent-ready k g refl names fine none) out v.asks refl refl (v.shape_is ∙ sent-given k g refl)
+      (sent-out k g refl out refl f v.elements)
+  moved-replied out last (Err d) v = rw (v.kept) (late-replied (sent-ready k g refl names fine none) out v.asks refl (refuses d))
+
+-- What `sent_by` tells, of the origin read from a local and of operands that are opened.
+pub sending-at : {x : Result Sent Refusal} {G H : ℤ} {l L r R : Operand} → H ≡ G → l ≡ L → r ≡ R
+    → Sending x (own 26 (transpose_by H (array_of l) (array_of r)).refusals) (map (from_zero H) (array_of l).elements)
+    → Sending x (own 26 (transpose_by G (array_of L) (array_of R)).refusals) (map (from_zero G) (array_of L).elements)
+sending-at {x} {G} {H} {l} {L} {r} {R} g e f h =
+    subst (λ (R : Operand). Sending x (own 26 (transpose_by G (array_of L) (array_of R)).refusals) (map (from_zero G) (array_of L).elements)) f
+    (subst (λ (L : Operand). Sending x (own 26 (transpose_by G (array_of L) (array_of r)).refusals) (map (from_zero G) (array_of L).elements)) e
+    (subst (λ (G : ℤ). Sending x (own 26 (transpose_by G (array_of l) (array_of r)).refusals) (map (from_zero G) (array_of l).elements)) g h))

@@ -1,7 +1,7 @@
 -- The axes that 15 and 26 send to, found one after the other.
 use mathlib.Core.Path.{◌≡◌, refl, sym, ap, ap₂, ◌∙◌}
 use mathlib.Core.List.{List, [], ◌∷◌, ◌++◌, map}
-use mathlib.Core.Bool.{Bool, true, false, not, cond, ◌&&◌, ◌||◌}
+use mathlib.Core.Bool.{Bool, true, false, ◌&&◌, ◌||◌}
 use Prim.Native.Nat.{ℕ, zero, suc, ◌+◌, ◌-◌, ◌≤◌, ◌<◌, max}
 use native.Mathlib.Numerals.{add-one}
 use native.Mathlib.Omega.{arith}
@@ -12,17 +12,14 @@ use lib.Seq.{take_all, take-suc, take-suc-set, get_or-set_same, get_or-set_other
 use lib.IntN.{ℤ, pos, ◌-ℤ◌}
 use Rattle.shape.specs.Shape.{max_rank}
 use Rattle.meaning.specs.Array.{tab}
-use Rattle.meaning.specs.Refusal.{number}
-use Rattle.meaning.specs.Refusal.Refusal.{DOMAIN}
 use Rattle.meaning.specs.Primitives.{sent_to, axes_to, backwards, occurs_in, all_occur}
 use Rattle.meaning.specs.Terms.{within, from_zero, every}
 use Rattle.meaning.proofs.Every.{every-next, every-stop, every-end}
 use Rattle.meaning.proofs.Sent.{length-backwards, get_or-backwards, axes-lt, axes-le, sent-has, Occur}
 use Rattle.meaning.proofs.Tab.{length-tab, get_or-tab}
-use Rattle.signed.specs.declared.Found.TheVariants.{Nothing}
-use Rattle.signed.proofs.Finding.{found_of, IsAt, found_none}
+use Rattle.signed.proofs.Finding.{IsAt}
 use Rattle.transposes.specs.declared.Sent.{Sent}
-use Rattle.transposes.specs.Steps.Sent.{SentBy, Sending, in_domain, all_used}
+use Rattle.transposes.specs.Steps.Sent.{SentBy, in_domain, all_used}
 
 -- The first i axes are sent to those of ts.
 pub record SentSoFar (ts to : List ℕ) (i : ℕ) : Type 0 where
@@ -41,14 +38,10 @@ module _ {ts to : List ℕ} {i : ℕ} (f : SentSoFar ts to i) where
     same = rw (add-one, take-suc-set to i t (omega (arith, f.long)), f.same, e) (sym (take-suc ts i 0 l));
   }
 
-  pub so-far-all : (s : Sent) → length ts ≤ i → s.own ≡ 0 → s.axes ≡ axes_to ts → s.to ≡ to → SentBy s ts
-  so-far-all s h o a e =
+  pub so-far-all : (s : Sent) → length ts ≤ i → s.axes ≡ axes_to ts → s.to ≡ to → SentBy s ts
+  so-far-all s h a e =
       let n : length ts ≡ i = omega (arith, f.few) in
-      record { own = o; axes = a; to = ap₂ take n e ∙ f.same ∙ take_all i ts h }
-
--- A refusal with the number w.
-pub sent-nowhere : {s : Sent} {ts : List ℕ} {n : ℕ} (w : ℕ) → s.own ≡ w → n ≡ w → (w ≡ 0 → ⊥) → Sending s n ts
-sent-nowhere w e q h = record { own_is = e ∙ sym q; sent = λ z. absurd (h (sym q ∙ z)) }
+      record { axes = a; to = ap₂ take n e ∙ f.same ∙ take_all i ts h }
 
 -- Each of some axes is used, from i on.
 abbrev pub used_from : List Bool → ℕ → ℕ → Bool
@@ -150,10 +143,6 @@ choosing-none G l = record {
   used-is = λ j. replicate-at false max_rank j;
 }
 
--- What `chosen` answers.
-abbrev pub Named : ℤ → List ℤ → Sent → Type 0
-Named G l s = Sending s (cond (not (in_domain G (length l) l)) (number DOMAIN) 0) (named-axes G l)
-
 module _ {G : ℤ} {l : List ℤ} {used : List Bool} {to : List ℕ} {axes i : ℕ} (f : Choosing G l used to axes i) where
   module _ (t : ℕ) (a : IsAt (get_or l i (pos 0)) G (length l) t) (h : i < length l) (high : length l ≤ max_rank) where
     named-at : get_or (named-axes G l) i 0 ≡ t
@@ -175,28 +164,20 @@ module _ {G : ℤ} {l : List ℤ} {used : List Bool} {to : List ℕ} {axes i : �
     }
 
   -- An element that names no axis.
-  pub choosing-stop : (s : Sent) → i < length l → Nothing ≡ found_of (get_or l i (pos 0)) G (length l) → s.own ≡ number DOMAIN → Named G l s
-  choosing-stop s h w e =
-      let none = f.inside ∙ every-stop (λ z. within (z -ℤ G) (length l)) l i (pos 0) h (found_none (get_or l i (pos 0)) G (length l) w) in
-      sent-nowhere (number DOMAIN) e (rw none) (λ z. omega arith)
+  pub choosing-stop : i < length l → within (get_or l i (pos 0) -ℤ G) (length l) ≡ false → in_domain G (length l) l ≡ false
+  choosing-stop h w = rw (f.inside ∙ every-stop (λ z. within (z -ℤ G) (length l)) l i (pos 0) h w)
 
   -- All name axes: what is left is whether each axis is used.
   module _ (end : length l ≤ i) where
     whole : take i (named-axes G l) ≡ named-axes G l
     whole = take_all i (named-axes G l) (rw length-map end)
 
-    domain-is : in_domain G (length l) l ≡ all_used used axes
+    pub domain-is : in_domain G (length l) l ≡ all_used used axes
     unfolding all_occur
     domain-is =
         ap (λ b. b && all_occur (named-axes G l)) (f.inside ∙ every-end (λ z. within (z -ℤ G) (length l)) l i end)
         ∙ ap (λ k. every (occurs_in (named-axes G l)) (tab k (λ j. j))) (sym (f.axes-is ∙ ap axes_to whole))
         ∙ every-same (occurs_in (named-axes G l)) (λ j. get_or used j false) (tab axes (λ j. j)) (λ j. sym (f.used-is j ∙ ap (λ ts. occurs_in ts j) whole))
 
-    module _ (s : Sent) {b : Bool} (q : b ≡ all_used used axes) where
-      pub choosing-no : b ≡ false → s.own ≡ number DOMAIN → Named G l s
-      choosing-no e o = sent-nowhere (number DOMAIN) o (rw (domain-is, ← q, e)) (λ z. omega arith)
-
-      pub choosing-yes : b ≡ true → s.own ≡ 0 → s.axes ≡ axes → s.to ≡ to → Named G l s
-      choosing-yes e o a t =
-          rw (domain-is, ← q, e)
-          (record { own_is = o; sent = λ z. so-far-all f.sent s (rw length-map end) o (a ∙ f.axes-is ∙ ap axes_to whole) t })
+    pub choosing-sent : (s : Sent) → s.axes ≡ axes → s.to ≡ to → SentBy s (named-axes G l)
+    choosing-sent s a t = so-far-all f.sent s (rw length-map end) (a ∙ f.axes-is ∙ ap axes_to whole) t

@@ -1,8 +1,8 @@
 // Transpositions: 15 and 26. R's axis i goes to result axis t, and axes sent together give the diagonal.
 #![tactic(auto)]
 
-ghost use Rattle.std.specs.Prelude.{◌≡◌, List, [], ◌∷◌, ◌++◌, map, true, not, cond, ◌≤◌, ◌<◌, length, drop, ℤ, pos};
-ghost use Rattle.shape.specs.Shape.{max_rank, counted, count, good_shape, shape_of};
+ghost use Rattle.std.specs.Prelude.{◌≡◌, [], ◌∷◌, ◌++◌, map, true, not, cond, ◌≤◌, ◌<◌, length, drop, ℤ, pos};
+ghost use Rattle.shape.specs.Shape.{max_rank, counted, count, shape_of};
 ghost use Rattle.meaning.specs.Array.{Operand, array_of, good_form};
 ghost use Rattle.meaning.specs.Refusal.{number};
 ghost use Rattle.meaning.specs.Refusal.Refusal.{DOMAIN};
@@ -10,70 +10,53 @@ ghost use Rattle.meaning.specs.Terms.{from_zero};
 ghost use Rattle.meaning.specs.Primitives.{backwards, sent_lengths, transpose_by};
 ghost use Rattle.meaning.specs.Reply.{reply};
 ghost use Rattle.answer.specs.Answer.{lent, own, Replied};
+ghost use Rattle.answer.specs.Refused.{answered};
 ghost use Rattle.transposes.specs.Steps.Strides.{strides, sent_strides, LineIn, strided, walked, Walk};
 ghost use Rattle.transposes.specs.Steps.Placed.{Reach, Placed, row_axes, Blocked};
-ghost use Rattle.transposes.specs.Steps.Sent.{Sending, SentBy, in_domain, all_used, sent_axes, sent_elements, Transposes, Moves};
+ghost use Rattle.transposes.specs.Steps.Sent.{Sending, SentBy, in_domain, all_used, sent_axes, sent_elements, Transposes, Moves, Moved};
 
-use answer::{Answer, refusal};
+use answer::{Formed, Operand, Refusal};
 use shape::Shape;
-use signed::Found;
 
 // 15: axes in reverse order, whatever K and L are.
-pub fn transpose(g: i32, rs: Shape, r: &[i32], out: &mut [i32]) -> Answer
-    ensures { (K : ℤ) (L : Operand) → Replied result out.new (reply (pos 15) g K L (lent rs r.now) out.old) }
+pub fn transpose(g: i32, r: &Operand<'_>, out: &mut [i32]) -> Result<Shape, Refusal>
+    ensures { (K : ℤ) (L : Operand) → Replied (answered result) out.new (reply (pos 15) g K L r.now out.old) }
 {
-    let early = answer::early_one(g, rs, r);
-    if early != 0 {
-        return Answer::refused(early);
-    }
-    let sent = backwards(rs.rank);
-    let shape = sent_shape(sent, rs);
-    let count = shape.count();
-    let late = answer::late(count, out.len());
-    if late != 0 {
-        return Answer::refused(late);
-    }
-    transpose_into(sent, shape, count, rs, r, out);
-    Answer::given(shape)
+    let r = answer::early_one(g, r)?;
+    transposed(backwards(r.shape.rank), r.shape, r.elements, out)
 }
 
 // 26: axis i goes to L's element i less G, whatever K is.
-pub fn transpose_by(g: i32, ls: Shape, l: &[i32], rs: Shape, r: &[i32], out: &mut [i32]) -> Answer
-    ensures { (K : ℤ) → Replied result out.new (reply (pos 26) g K (lent ls l.now) (lent rs r.now) out.old) }
+pub fn transpose_by(
+    g: i32,
+    l: &Operand<'_>,
+    r: &Operand<'_>,
+    out: &mut [i32],
+) -> Result<Shape, Refusal>
+    ensures { (K : ℤ) → Replied (answered result) out.new (reply (pos 26) g K l.now r.now out.old) }
 {
-    let early = answer::early_two(g, ls, l, rs, r);
-    if early != 0 {
-        return Answer::refused(early);
-    }
-    let sent = sent_by(g, ls, l, rs);
-    let own = sent.own;
-    if own != 0 {
-        return Answer::refused(own);
-    }
-    let shape = sent_shape(sent, rs);
-    let total = shape.count();
-    let late = answer::late(total, out.len());
-    if late != 0 {
-        return Answer::refused(late);
-    }
-    transpose_into(sent, shape, total, rs, r, out);
-    Answer::given(shape)
+    let (l, r) = answer::early_two(g, l, r)?;
+    let sent = sent_by(g, &l, &r)?;
+    transposed(sent, r.shape, r.elements, out)
 }
 
-// Where R's axes are sent: axis i to axis `to[i]`, of `axes` axes in all. With a refusal of the primitive's own, `own`, they are sent nowhere; it is 0
-// where none is met.
+// Where R's axes are sent: axis i to axis `to[i]`, of `axes` axes in all.
 #[derive(Clone, Copy)]
 struct Sent {
-    own: usize,
     axes: usize,
     to: [usize; Shape::MAX_RANK],
 }
 
-fn nowhere(own: usize) -> Sent
-    ensures { result.own ≡ own }
+// LIMIT and SPACE, or else the elements and the shape.
+fn transposed(sent: Sent, rs: Shape, r: &[i32], out: &mut [i32]) -> Result<Shape, Refusal>
+    requires { Transposes sent rs × (good_form (lent rs r.now) ≡ true) }
+    ensures { Moved sent rs r.now out.old out.new result }
 {
-    let to = [0; Shape::MAX_RANK];
-    Sent { own, axes: 0, to }
+    let shape = sent_shape(sent, rs);
+    let count = shape.count();
+    answer::late(count, out.len())?;
+    transpose_into(sent, shape, count, rs, r, out);
+    Ok(shape)
 }
 
 // 15 sends axis i to rank - 1 - i.
@@ -82,59 +65,46 @@ fn backwards(rank: usize) -> Sent
     ensures { SentBy result (backwards rank) }
 {
     let mut to = [0; Shape::MAX_RANK];
-    let mut i = 0;
-    while i < rank {
+    for i in 0..rank {
         to[i] = rank - 1 - i;
-        i += 1;
     }
-    Sent {
-        own: 0,
-        axes: rank,
-        to,
-    }
+    Sent { axes: rank, to }
 }
 
-// 26 sends axis i to L's element i less G: RANK, LENGTH and DOMAIN, whatever R's elements are.
-fn sent_by(g: i32, ls: Shape, l: &[i32], rs: Shape) -> Sent
-    requires { (good_form (lent ls l.now) ≡ true) × (good_shape rs ≡ true) }
-    ensures { (b : List ℤ) → Sending result (own 26 (transpose_by g (array_of (lent ls l.now)) (array_of (lent rs b))).refusals)
-        (map (from_zero g) (array_of (lent ls l.now)).elements) }
+// 26 sends axis i to L's element i less G: RANK, LENGTH and DOMAIN.
+fn sent_by(g: i32, l: &Formed<'_>, r: &Formed<'_>) -> Result<Sent, Refusal>
+    ensures { Sending result (own 26 (transpose_by g (array_of l.now) (array_of r.now)).refusals) (map (from_zero g) (array_of l.now).elements) }
 {
-    if 1 < ls.rank {
-        return nowhere(refusal::RANK);
+    if !l.is_list() {
+        return Err(Refusal::Rank);
     }
-    let rank = rs.rank;
-    if ls.count() != rank {
-        return nowhere(refusal::LENGTH);
+    let elements = l.elements();
+    if elements.len() != r.shape.rank {
+        return Err(Refusal::Length);
     }
-    chosen(g, &l[0..rank])
+    chosen(g, elements)
 }
 
 // DOMAIN: each element names an axis, and all of 0 to the largest occur.
-fn chosen(g: i32, l: &[i32]) -> Sent
+fn chosen(g: i32, l: &[i32]) -> Result<Sent, Refusal>
     requires { length l.now ≤ max_rank }
     ensures { Sending result (cond (not (in_domain g (length l.now) l.now)) (number DOMAIN) 0) (map (from_zero g) l.now) }
 {
-    let rank = l.len();
     let mut used = [false; Shape::MAX_RANK];
     let mut to = [0; Shape::MAX_RANK];
-    let mut axes = 0;
-    let mut i = 0;
-    while i < rank {
-        let Found::At(axis) = signed::position(l[i], g, rank) else {
-            return nowhere(refusal::DOMAIN);
+    let mut axes: usize = 0;
+    for (i, z) in l.iter().enumerate() {
+        let Some(axis) = signed::position(*z, g, l.len()) else {
+            return Err(Refusal::Domain);
         };
         to[i] = axis;
         used[axis] = true;
-        if axes <= axis {
-            axes = axis + 1;
-        }
-        i += 1;
+        axes = axes.max(axis + 1);
     }
     if all_used(used, axes) {
-        Sent { own: 0, axes, to }
+        Ok(Sent { axes, to })
     } else {
-        nowhere(refusal::DOMAIN)
+        Err(Refusal::Domain)
     }
 }
 
@@ -143,12 +113,10 @@ fn all_used(used: [bool; Shape::MAX_RANK], axes: usize) -> bool
     requires { axes ≤ max_rank }
     ensures { result ≡ all_used used axes }
 {
-    let mut i = 0;
-    while i < axes {
-        if !used[i] {
+    for j in 0..axes {
+        if !used[j] {
             return false;
         }
-        i += 1;
     }
     true
 }

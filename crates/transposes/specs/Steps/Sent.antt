@@ -1,22 +1,25 @@
 -- Where a transposition sends R's axes, as its code holds it.
-use Rattle.std.specs.Prelude.{ℕ, ◌≤◌, ◌≡◌, List, map, Bool, true, false, ◌&&◌, length, get_or, take, ℤ, ◌-ℤ◌}
+use Rattle.std.specs.Prelude.{Result, ◌++◌, drop, ℕ, ◌≤◌, ◌≡◌, List, map, Bool, true, false, ◌&&◌, length, get_or, take, ℤ, ◌-ℤ◌}
+use Rattle.std.specs.Result.{IfOk, OnOk, OnErr}
 use Rattle.shape.specs.declared.Shape.{Shape}
-use Rattle.shape.specs.Shape.{counted, count, good_shape, shape_of}
-use Rattle.meaning.specs.Array.{Operand, Array, at, tab, build, good_form}
+use Rattle.shape.specs.Shape.{counted, count, count_of, good_shape, shape_of}
+use Rattle.meaning.specs.Array.{Operand, Array, array_of, at, tab, build, good_form}
 use Rattle.meaning.specs.Terms.{within, from_zero, every}
 use Rattle.meaning.specs.Primitives.{axes_to, sent_lengths, brought_back, all_occur}
+use Rattle.answer.specs.Answer.{lent, late}
+use Rattle.answer.specs.Refused.{asked}
+use Rattle.answer.specs.declared.refusal.Refusal.{Refusal}
 use Rattle.transposes.specs.declared.Sent.{Sent}
 
--- To the axes ts, and nothing is refused.
+-- To the axes ts.
 pub record SentBy (s : Sent) (ts : List ℕ) : Type 0 where
-  pub own : s.own ≡ 0
   pub axes : s.axes ≡ axes_to ts
   pub to : take (length ts) s.to ≡ ts
 
 -- The same where no refusal of the primitive's own is met.
-pub record Sending (s : Sent) (own : ℕ) (ts : List ℕ) : Type 0 where
-  pub own_is : s.own ≡ own
-  pub sent : own ≡ 0 → SentBy s ts
+pub record Sending (r : Result Sent Refusal) (own : ℕ) (ts : List ℕ) : Type 0 where
+  pub own_is : asked r ≡ own
+  pub sent : IfOk r (λ s. SentBy s ts)
 
 -- DOMAIN of 26: each element names one of n axes, and all of 0 to the largest occur.
 abbrev pub in_domain : ℤ → ℕ → List ℤ → Bool
@@ -48,3 +51,11 @@ pub record Moves (s : Sent) (shape : Shape) (total : ℕ) (R : Operand) (room : 
   pub shape_is : shape ≡ shape_of (sent_lengths (sent_axes s R.shape) (counted R.shape))
   pub total-is : total ≡ count (sent_lengths (sent_axes s R.shape) (counted R.shape))
   pub space : total ≤ room
+
+-- The outcome of a call whose axes are sent: LIMIT and SPACE, or the shape and the elements; a refusal leaves the buffer.
+pub record Moved (s : Sent) (rs : Shape) (r : List ℤ) (old new : List ℤ) (result : Result Shape Refusal) : Type 0 where
+  pub asks : asked result ≡ late (count_of (shape_of (sent_lengths (sent_axes s rs) (counted rs)))) (length old)
+  pub shape_is : IfOk result (λ t. t ≡ shape_of (sent_lengths (sent_axes s rs) (counted rs)))
+  pub elements : OnOk result (new ≡ sent_elements (sent_axes s rs) (array_of (lent rs r))
+      ++ drop (count_of (shape_of (sent_lengths (sent_axes s rs) (counted rs)))) old)
+  pub kept : OnErr result (new ≡ old)
