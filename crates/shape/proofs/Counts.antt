@@ -4,13 +4,12 @@ use mathlib.Core.List.{List, [], ◌∷◌, ◌++◌}
 use mathlib.Core.Bool.{Bool, true, false, cond, and-false}
 use Prim.Native.Nat.{ℕ, zero, suc, ◌+◌, ◌*◌, ◌≤◌, ◌<◌, min}
 use native.Mathlib.Decide.{dec_le}
-use native.Mathlib.Numerals.{add-one}
 use native.Mathlib.Nat.{mul_assoc, mul_comm, zero-mul, mul-zero, min-eq_left, min-eq_right, le-mul_of_pos_right}
 use native.Mathlib.Omega.{arith}
 use borrow.Author.Tests.{le-leb, lt-leb}
 use lib.Dec.{leb}
 use lib.ListN.{length, get_or, take, drop, replicate}
-use lib.Seq.{slice, take-suc, drop-append-le, length-take-le}
+use Rattle.std.proofs.lemmas.List.{take_more}
 use Rattle.shape.proofs.Bools.{both, and-true}
 use Rattle.shape.proofs.Rule.{rule-rank, rule-high, rule-count}
 use Rattle.shape.specs.declared.Shape.{Shape}
@@ -118,16 +117,12 @@ module _ (s : Shape) where
       by true e = absurd (omega (arith, count-good e))
       by false e = e
 
--- One axis more of a part of the lengths, its count held at the limit.
-pub held_more : (ns : List ℕ) (from i total : ℕ) → from ≤ i → i < length ns → total ≡ held (count (slice from i ns))
-    → min (total * held (get_or ns i 0)) (suc max_count) ≡ held (count (slice from (i + 1) ns))
-held_more ns from i total h l e =
+-- One axis more, the count held at the limit.
+pub held_more : (ns : List ℕ) (i total m : ℕ) → i < length ns → total ≡ held (count (take i ns)) → m ≡ held (get_or ns i 0)
+    → min (total * m) (suc max_count) ≡ held (count (take (i + 1) ns))
+held_more ns i total m l e f =
     let n : ℕ = get_or ns i 0 in
     let c : ℕ = suc max_count in
-    let a : ℕ = count (slice from i ns) in
-    let part : slice from (i + 1) ns ≡ slice from i ns ++ (n ∷ []) =
-    ap (λ k. drop from (take k ns)) (add-one i)
-    ∙ ap (drop from) (take-suc ns i 0 l)
-    ∙ drop-append-le from (take i ns) (n ∷ []) (rw (length-take-le i ns (omega arith)) h) in
-    rw (e, part, count-snoc (slice from i ns) n)
+    let a : ℕ = count (take i ns) in
+    rw (e, f, take_more ns i 0 l, count-snoc (take i ns) n)
     (min-mul a (min n c) c ∙ ap (λ x. min x c) (mul_comm a (min n c)) ∙ min-mul n a c ∙ ap (λ x. min x c) (mul_comm n a))

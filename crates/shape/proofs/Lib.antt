@@ -6,6 +6,6 @@ pub mod Counts
 pub mod Padded
 pub mod Next
 pub mod Successor
+pub mod Shifted
 pub mod Surround
 pub mod Made
-pub mod Shifted

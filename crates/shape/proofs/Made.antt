@@ -5,11 +5,11 @@ use Prim.Native.Nat.{ℕ, ◌≤◌, ◌<◌}
 use native.Mathlib.Decide.{dec_le}
 use mathlib.Core.Bool.{true}
 use native.Mathlib.Omega.{arith}
-use borrow.Author.Tests.{le-leb, lt-leb, lt-ltb, le-ltb}
+use borrow.Author.Tests.{le-leb, lt-ltb}
 use lib.ListN.{length, take, set}
 use lib.Seq.{take_at}
 use Rattle.shape.specs.declared.Shape.{Shape}
-use Rattle.shape.specs.Shape.{max_rank, counted, count, count_of, good_shape, scalar, shape_of, shape_rule, made_of, with_length, without, without_axis}
+use Rattle.shape.specs.Shape.{max_rank, counted, count, count_of, good_shape, shape_of, shape_rule, made_of, with_length, without, without_axis}
 use Rattle.shape.proofs.Counts.{count-of}
 use Rattle.shape.proofs.Rule.{rule-rank, rule-high}
 
@@ -46,28 +46,12 @@ module _ {s : Shape} {ns : List ℕ} (h : Stands s ns) where
 
 -- Another length of axis k, where there is such an axis and where there is none.
 module _ (s : Shape) (k n : ℕ) where
-  pub with-length-high : max_rank < s.rank → scalar ≡ with_length s k n
-  unfolding with_length
-  with-length-high h = rw (lt-leb s.rank max_rank h)
-
-  pub with-length-past : s.rank ≤ max_rank → s.rank ≤ k → scalar ≡ with_length s k n
-  unfolding with_length
-  with-length-past h l = rw (le-leb s.rank max_rank h, le-ltb k s.rank l)
-
   pub with-length-is : s.rank ≤ max_rank → k < s.rank → with_length s k n ≡ shape_of (set (counted s) k n)
   unfolding with_length
   with-length-is h l = rw (le-leb s.rank max_rank h, lt-ltb k s.rank l)
 
 -- The shape without axis k.
 module _ (s : Shape) (k : ℕ) where
-  pub without-axis-high : max_rank < s.rank → scalar ≡ without_axis s k
-  unfolding without_axis
-  without-axis-high h = rw (lt-leb s.rank max_rank h)
-
-  pub without-axis-past : s.rank ≤ max_rank → s.rank ≤ k → scalar ≡ without_axis s k
-  unfolding without_axis
-  without-axis-past h l = rw (le-leb s.rank max_rank h, le-ltb k s.rank l)
-
   pub without-axis-is : s.rank ≤ max_rank → k < s.rank → without_axis s k ≡ shape_of (without k (counted s))
   unfolding without_axis
   without-axis-is h l = rw (le-leb s.rank max_rank h, lt-ltb k s.rank l)

@@ -1,14 +1,16 @@
 -- A place of a shape and its successor, by the positions and the lengths that a loop reads.
-use mathlib.Core.Path.{◌≡◌, sym, ◌∙◌}
+use mathlib.Core.Path.{◌≡◌, refl, sym, ◌∙◌}
 use mathlib.Core.List.{List, [], ◌∷◌, ◌++◌}
-use mathlib.Core.Bool.{true, false, not, and-false}
+use mathlib.Core.Bool.{Bool, true, false, not, and-false}
 use Prim.Native.Nat.{ℕ, suc, ◌+◌, ◌-◌, ◌≤◌, ◌<◌}
 use native.Mathlib.Numerals.{add-one}
 use native.Mathlib.Omega.{arith}
 use borrow.Author.Tests.{lt-ltb, le-ltb}
 use lib.ListN.{length, get_or, take, drop, set, replicate, length-take, length-drop, drop_of_length-le}
 use lib.Seq.{length-take-le, get_or-take, take-take}
-use Rattle.shape.proofs.Bools.{refuted}
+use Rattle.std.specs.Bool.{IsTrue}
+use Rattle.std.proofs.Math.Logic.{◌↔◌}
+use Rattle.shape.proofs.Bools.{no_way, refuted}
 use Rattle.shape.proofs.Places.{In, in-inside, inside-in, place-length}
 use Rattle.shape.proofs.Axis.{in-at, in-from}
 use Rattle.shape.proofs.Counts.{good-rank}
@@ -24,7 +26,7 @@ module _ (lens pos : List ℕ) (rank : ℕ) (ll : rank ≤ length lens) (lp : ra
   axes : length (take rank lens) ≡ rank
   axes = length-take-le rank lens ll
 
-  pub inside-each : ((k : ℕ) → k < rank → get_or pos k 0 < get_or lens k 0) → inside (take rank lens) (take rank pos) ≡ true
+  inside-each : ((k : ℕ) → k < rank → get_or pos k 0 < get_or lens k 0) → inside (take rank lens) (take rank pos) ≡ true
   inside-each h =
       in-inside (take rank lens) (take rank pos)
       (in-from (take rank lens) (take rank pos) (length-take-le rank pos lp ∙ sym axes)
@@ -32,13 +34,14 @@ module _ (lens pos : List ℕ) (rank : ℕ) (ll : rank ≤ length lens) (lp : ra
       let r : k < rank = omega (arith, axes) in
       rw (get_or-take rank lens k 0 r, get_or-take rank pos k 0 r) (h k r)))
 
-  pub inside-at : inside (take rank lens) (take rank pos) ≡ true → (k : ℕ) → k < rank → get_or pos k 0 < get_or lens k 0
+  inside-at : inside (take rank lens) (take rank pos) ≡ true → (k : ℕ) → k < rank → get_or pos k 0 < get_or lens k 0
   inside-at e k r =
       rw (get_or-take rank lens k 0 r, get_or-take rank pos k 0 r)
       at (in-at (take rank lens) (take rank pos) k (inside-in (take rank lens) (take rank pos) e) (rw axes r))
 
-  pub inside-not : (k : ℕ) → k < rank → get_or lens k 0 ≤ get_or pos k 0 → inside (take rank lens) (take rank pos) ≡ false
-  inside-not k r h = refuted _ (λ e. omega (arith, inside-at e k r))
+  pub inside-is : (b : Bool) → IsTrue b ↔ ((k : ℕ) → k < rank → get_or pos k 0 < get_or lens k 0) → b ≡ inside (take rank lens) (take rank pos)
+  inside-is true h = sym (inside-each (h.0 refl))
+  inside-is false h = sym (refuted _ (λ e. no_way (h.1 (inside-at e))))
 
   -- The axes after axis k are at their end.
   module _ (h : In (take rank lens) (take rank pos)) (k : ℕ) (r : k < rank) (e : Last (drop (suc k) (take rank lens)) (drop (suc k) (take rank pos))) where
@@ -89,12 +92,28 @@ next p s = suc (index (counted s) (take s.rank p.positions))
 
 -- Carrying has come down to axis i: the axes from i on were at their end and start again, the positions before them are the place's.
 pub record Carry (p : Place) (s : Shape) (q : List ℕ) (i : ℕ) : Type 0 where
+  pub lies : LiesIn p s
   pub low : s.rank ≤ max_rank
   pub down : i ≤ s.rank
   pub cleared : q ≡ take i p.positions ++ replicate (max_rank - i) 0
   pub last : Last (drop i (counted s)) (drop i (take s.rank p.positions))
 
-module _ (p : Place) (s : Shape) (h : LiesIn p s) where
+pub carry-start : (p : Place) (s : Shape) (q : List ℕ) → LiesIn p s → q ≡ take s.rank p.positions ++ replicate (max_rank - s.rank) 0 → Carry p s q s.rank
+unfolding index count
+carry-start p s q h e =
+    let low : s.rank ≤ max_rank = good-rank s h.good in
+    let none : drop s.rank (counted s) ≡ [] = drop_of_length-le _ {i = s.rank} (simp length-take (omega arith)) in
+    record { lies = h; low = low; down = omega arith; cleared = e; last = rw none }
+
+pub carry-end : (p : Place) (s : Shape) (q : List ℕ) → Carry p s q 0 → successor p s ≡ end_place
+unfolding successor
+carry-end p s q t = rw (t.lies.unmarked, t.lies.good, t.lies.lies, le-ltb (next p s) (count (counted s)) (omega (arith, t.last)))
+
+-- One axis more, j.
+module _ (p : Place) (s : Shape) (q : List ℕ) (i j : ℕ) (e : i ≡ suc j) (t : Carry p s q i) where
+  h : LiesIn p s
+  h = t.lies
+
   lies_in : In (counted s) (take s.rank p.positions)
   lies_in = inside-in (counted s) (take s.rank p.positions) h.lies
 
@@ -102,52 +121,40 @@ module _ (p : Place) (s : Shape) (h : LiesIn p s) where
   unfolding successor
   successor-next b = rw (h.unmarked, h.good, h.lies, lt-ltb (next p s) (count (counted s)) b)
 
-  pub carry-start : (q : List ℕ) → q ≡ take s.rank p.positions ++ replicate (max_rank - s.rank) 0 → Carry p s q s.rank
-  unfolding index count
-  carry-start q e =
-      let low : s.rank ≤ max_rank = good-rank s h.good in
-      let none : drop s.rank (counted s) ≡ [] = drop_of_length-le _ {i = s.rank} (simp length-take (omega arith)) in
-      record { low = low; down = omega arith; cleared = e; last = rw none }
+  to-lens : s.rank ≤ length s.lens
+  to-lens = omega arith
 
-  pub carry-end : (q : List ℕ) → Carry p s q 0 → successor p s ≡ end_place
-  unfolding successor
-  carry-end q t = rw (h.unmarked, h.good, h.lies, le-ltb (next p s) (count (counted s)) (omega (arith, t.last)))
+  to-positions : s.rank ≤ length p.positions
+  to-positions = omega arith
 
-  -- One axis more, j.
-  module _ (q : List ℕ) (i j : ℕ) (e : i ≡ suc j) (t : Carry p s q i) where
-    to-lens : s.rank ≤ length s.lens
-    to-lens = omega arith
+  last : Last (drop (suc j) (counted s)) (drop (suc j) (take s.rank p.positions))
+  last = rw e at t.last
 
-    to-positions : s.rank ≤ length p.positions
-    to-positions = omega arith
+  pub carry-below : get_or p.positions j 0 < get_or s.lens j 0
+  carry-below = inside-at s.lens p.positions s.rank to-lens to-positions h.lies j (omega arith)
 
-    last : Last (drop (suc j) (counted s)) (drop (suc j) (take s.rank p.positions))
-    last = rw e at t.last
+  -- It is at its end.
+  pub carry-on : get_or s.lens j 0 ≤ get_or p.positions j 0 + 1 → Carry p s (set q j 0) j
+  carry-on b = record {
+    lies = h;
+    low = t.low;
+    down = omega arith;
+    cleared = rw t.cleared (padded-less p.positions max_rank i j e (omega arith) (omega arith));
+    last = last-from s.lens p.positions s.rank to-lens to-positions lies_in j (omega arith) last b;
+  }
 
-    pub carry-below : get_or p.positions j 0 < get_or s.lens j 0
-    carry-below = inside-at s.lens p.positions s.rank to-lens to-positions h.lies j (omega arith)
-
-    -- It is at its end.
-    pub carry-on : get_or s.lens j 0 ≤ get_or p.positions j 0 + 1 → Carry p s (set q j 0) j
-    carry-on b = record {
-      low = t.low;
-      down = omega arith;
-      cleared = rw t.cleared (padded-less p.positions max_rank i j e (omega arith) (omega arith));
-      last = last-from s.lens p.positions s.rank to-lens to-positions lies_in j (omega arith) last b;
-    }
-
-    -- It is not, and goes one further.
-    pub carry-stop : get_or p.positions j 0 + 1 < get_or s.lens j 0
-        → successor p s ≡ record { positions = set q j (get_or p.positions j 0 + 1); end = false }
-    carry-stop b =
-        let r : j < s.rank = omega arith in
-        successor-next (step-below s.lens p.positions s.rank to-lens to-positions lies_in j r last b)
-        ∙ rw (
-          place-length (counted s) (next p s),
-          axes s.lens p.positions s.rank to-lens to-positions,
-          step-place s.lens p.positions s.rank to-lens to-positions lies_in j r last b,
-          padded-on (take j p.positions) (get_or p.positions j 0 + 1) (suc j) s.rank max_rank r t.low,
-          ← e,
-          ← padded-set p.positions max_rank i j (get_or p.positions j 0 + 1) e (omega arith),
-          t.cleared,
-        )
+  -- It is not, and goes one further.
+  pub carry-stop : get_or p.positions j 0 + 1 < get_or s.lens j 0
+      → successor p s ≡ record { positions = set q j (get_or p.positions j 0 + 1); end = false }
+  carry-stop b =
+      let r : j < s.rank = omega arith in
+      successor-next (step-below s.lens p.positions s.rank to-lens to-positions lies_in j r last b)
+      ∙ rw (
+        place-length (counted s) (next p s),
+        axes s.lens p.positions s.rank to-lens to-positions,
+        step-place s.lens p.positions s.rank to-lens to-positions lies_in j r last b,
+        padded-on (take j p.positions) (get_or p.positions j 0 + 1) (suc j) s.rank max_rank r t.low,
+        ← e,
+        ← padded-set p.positions max_rank i j (get_or p.positions j 0 + 1) e (omega arith),
+        t.cleared,
+      )

@@ -1,30 +1,23 @@
 -- What stands around an axis, with rank and axis open.
 use mathlib.Core.Path.{◌≡◌, refl, sym, ap, ap₂, ◌∙◌}
 use mathlib.Core.List.{List}
-use Prim.Native.Nat.{ℕ, suc, ◌+◌, ◌*◌, ◌≤◌, ◌<◌}
-use native.Mathlib.Numerals.{add-one}
+use Prim.Native.Nat.{ℕ, suc, ◌+◌, ◌*◌, ◌-◌, ◌≤◌, ◌<◌}
 use native.Mathlib.Omega.{arith}
-use borrow.Author.Tests.{le-leb, lt-leb, lt-ltb, le-ltb}
+use borrow.Author.Tests.{le-leb, lt-ltb}
 use lib.ListN.{length, get_or, take, drop, set, length-set}
-use lib.Seq.{slice, take-take, get_or-take, length-take-le, take-set-le, drop-set-lt, get_or-set_same}
+use lib.Seq.{take-take, get_or-take, length-take-le, take-set-le, drop-set-lt, get_or-set_same}
 use Rattle.shape.specs.declared.Shape.{Shape}
 use Rattle.shape.specs.declared.Around.{Around}
 use Rattle.shape.specs.Shape.{max_rank, max_count, counted, count, held, around_of}
 use Rattle.shape.proofs.Axis.{count-axis}
 use Rattle.shape.proofs.Counts.{factor}
+use Rattle.shape.proofs.Shifted.{rest_after}
 
-abbrev none : Around
-none = record { outer = 0; length = 0; inner = 0 }
+-- What the default is.
+pub all-zero : (o n i : ℕ) → (o ≡ 0) × ((n ≡ 0) × (i ≡ 0)) → ◌≡◌ {A = Around} (record { outer = o; length = n; inner = i }) (record { outer = 0; length = 0; inner = 0 })
+all-zero o n i h = rw (h.0, h.1.0, h.1.1)
 
 module _ (s : Shape) (k : ℕ) where
-  pub around-high : max_rank < s.rank → none ≡ around_of s k
-  unfolding around_of
-  around-high h = rw (lt-leb s.rank max_rank h)
-
-  pub around-past : s.rank ≤ max_rank → s.rank ≤ k → none ≡ around_of s k
-  unfolding around_of
-  around-past h l = rw (le-leb s.rank max_rank h, le-ltb k s.rank l)
-
   module _ (h : s.rank ≤ max_rank) (l : k < s.rank) where
     around-in : around_of s k ≡ record {
       outer =
@@ -35,13 +28,10 @@ module _ (s : Shape) (k : ℕ) where
     unfolding around_of
     around-in = rw (le-leb s.rank max_rank h, lt-ltb k s.rank l)
 
-    pub around-is : (o n i : ℕ) → o ≡ held (count (slice 0 k s.lens)) → n ≡ get_or s.lens k 0 → i ≡ held (count (slice (k + 1) s.rank s.lens))
-        → record { outer = o; length = n; inner = i } ≡ around_of s k
-    around-is o n i eo en ei =
-        let before : o ≡ held (count (take k (counted s))) = eo ∙ ap (λ x. held (count x)) (sym (take-take k s.rank s.lens (omega arith))) in
-        let at : n ≡ get_or (counted s) k 0 = en ∙ sym (get_or-take s.rank s.lens k 0 l) in
-        let after : i ≡ held (count (drop (suc k) (counted s))) = ei ∙ ap (λ x. held (count (drop x (counted s)))) (add-one k) in
-        rw (before, at, after) (sym around-in)
+    pub around-is : (o i : ℕ) → o ≡ held (count (take k s.lens)) → i ≡ held (count (take (s.rank - (k + 1)) (drop (k + 1) s.lens)))
+        → record { outer = o; length = get_or s.lens k 0; inner = i } ≡ around_of s k
+    around-is o i eo ei =
+        rw (eo, ei, ← rest_after s.lens k s.rank l, ← take-take k s.rank s.lens (omega arith), ← get_or-take s.rank s.lens k 0 l) (sym around-in)
 
 -- The count of the lengths with m at axis k.
 pub count_set : (ns : List ℕ) (k m : ℕ) → k < length ns → count (set ns k m) ≡ count (take k ns) * m * count (drop (suc k) ns)

@@ -1,8 +1,8 @@
 // The shape of an array, and a place in it.
 #![tactic(auto)]
 
-ghost use Rattle.std.specs.Prelude.{◌≡◌, true, false, [], ◌∷◌, ◌++◌, suc, ◌*◌, ◌-◌, ◌≤◌, ◌<◌, min, take, replicate};
-ghost use Rattle.std.proofs.Math.Seq.{slice};
+ghost use Rattle.std.specs.Prelude.{◌≡◌, ℕ, true, false, [], ◌∷◌, ◌++◌, suc, ◌*◌, ◌-◌, ◌≤◌, ◌<◌, min, take, replicate};
+ghost use Rattle.std.specs.Prelude.{leb, ltb, ◌&&◌, ◌↔◌, IsTrue, slice_index};
 ghost use Rattle.shape.specs.Shape.{max_rank, max_count, counted, good_shape, count_of, shape_of, made_of, with_length, without_axis, scalar, count};
 ghost use Rattle.shape.specs.Shape.{held, around_of};
 ghost use Rattle.shape.specs.Place.{end_place, successor, inside};
@@ -19,6 +19,9 @@ impl Shape {
     pub const MAX_RANK: usize = 8;
 
     pub const MAX_COUNT: usize = 16384;
+
+    // What every count above the limit is held at.
+    const OVER: usize = Shape::MAX_COUNT + 1;
 
     pub fn scalar() -> Shape
         ensures { result ≡ scalar }
@@ -57,27 +60,22 @@ impl Shape {
         if Shape::MAX_RANK < rank {
             return Shape::scalar();
         }
-        let kept = cleared(lens, rank);
-        Shape { rank, lens: kept }
+        let lens = cleared(lens, rank);
+        Shape { rank, lens }
     }
 
     // The shape of a result with the same lengths: those past the rank are 0.
     pub fn as_result(self) -> Shape
         ensures { result ≡ made_of self.rank self.lens }
     {
-        let rank = self.rank;
-        let lens = self.lens;
-        Shape::of_lengths(rank, lens)
+        Shape::of_lengths(self.rank, self.lens)
     }
 
     // The same shape with another length of an axis; the scalar where there is no such axis.
     pub fn with_length(self, axis: usize, n: usize) -> Shape
         ensures { result ≡ with_length self axis n }
     {
-        if Shape::MAX_RANK < self.rank {
-            return Shape::scalar();
-        }
-        if self.rank <= axis {
+        if !self.has_axis(axis) {
             return Shape::scalar();
         }
         let mut lens = self.lens;
@@ -89,39 +87,27 @@ impl Shape {
     pub fn without_axis(self, axis: usize) -> Shape
         ensures { result ≡ without_axis self axis }
     {
-        if Shape::MAX_RANK < self.rank {
+        if !self.has_axis(axis) {
             return Shape::scalar();
         }
-        if self.rank <= axis {
-            return Shape::scalar();
-        }
-        let last = self.rank - 1;
         let mut lens = self.lens;
-        let mut i = axis;
-        while i < last {
-            lens[i] = lens[i + 1];
-            i += 1;
-        }
-        Shape::of_lengths(last, lens)
+        lens.copy_within(axis + 1..self.rank, axis);
+        Shape::of_lengths(self.rank - 1, lens)
     }
 
     // One more than the largest count for a bad shape. A zero counts even after a product above the limit.
     pub fn count(self) -> usize
         ensures { result ≡ count_of self }
     {
-        let rank = self.rank;
-        if Shape::MAX_RANK < rank {
-            return Shape::MAX_COUNT + 1;
+        if Shape::MAX_RANK < self.rank {
+            return Shape::OVER;
         }
         let mut total = 1;
-        let mut i = 0;
-        while i < rank {
-            let n = self.lens[i];
-            if Shape::MAX_COUNT < n {
-                return Shape::MAX_COUNT + 1;
+        for n in &self.lens[..self.rank] {
+            if Shape::MAX_COUNT < *n {
+                return Shape::OVER;
             }
-            total = capped(total, n);
-            i += 1;
+            total = capped(total, *n);
         }
         total
     }
@@ -129,63 +115,41 @@ impl Shape {
     pub fn around(self, axis: usize) -> Around
         ensures { result ≡ around_of self axis }
     {
-        let rank = self.rank;
-        let lens = self.lens;
-        if Shape::MAX_RANK < rank {
-            return Around {
-                outer: 0,
-                length: 0,
-                inner: 0,
-            };
+        if !self.has_axis(axis) {
+            return Around::default();
         }
-        if rank <= axis {
-            return Around {
-                outer: 0,
-                length: 0,
-                inner: 0,
-            };
-        }
-        let outer = held_count(lens, 0, axis);
-        let length = lens[axis];
-        let inner = held_count(lens, axis + 1, rank);
         Around {
-            outer,
-            length,
-            inner,
+            outer: held_count(&self.lens[..axis]),
+            length: self.lens[axis],
+            inner: held_count(&self.lens[axis + 1..self.rank]),
         }
+    }
+
+    // Whether the shape has this axis; a rank above the limit has none.
+    fn has_axis(self, axis: usize) -> bool
+        ensures { result ≡ (leb self.rank max_rank && ltb axis self.rank) }
+    {
+        self.rank <= Shape::MAX_RANK && axis < self.rank
     }
 }
 
 // What stands around an axis: the count of the axes before it, its length, and the count of the axes after it.
-#[derive(Clone, Copy)]
+#[derive(Clone, Copy, Default)]
 pub struct Around {
     pub outer: usize,
     pub length: usize,
     pub inner: usize,
 }
 
-// The count of the axes from `from` up to `to`, held one above the limit.
-fn held_count(lens: [usize; Shape::MAX_RANK], from: usize, to: usize) -> usize
-    requires { (from ≤ to) × (to ≤ max_rank) }
-    ensures { result ≡ held (count (slice from to lens)) }
+// The count of some axes, held one above the limit.
+fn held_count(lens: &[usize]) -> usize
+    ensures { result ≡ held (count lens.now) }
 {
     let mut total = 1;
-    let mut i = from;
-    while i < to {
-        total = capped(total, held(lens[i]));
-        i += 1;
+    for n in lens {
+        total = capped(total, (*n).min(Shape::OVER));
     }
     total
-}
-
-fn held(length: usize) -> usize
-    ensures { result ≡ held length }
-{
-    if Shape::MAX_COUNT < length {
-        Shape::MAX_COUNT + 1
-    } else {
-        length
-    }
 }
 
 // The product, or one more than the largest count where it is above that.
@@ -193,12 +157,7 @@ fn capped(total: usize, n: usize) -> usize
     requires { (total ≤ suc max_count) × (n ≤ suc max_count) }
     ensures { result ≡ min (total * n) (suc max_count) }
 {
-    let p = total * n;
-    if p <= Shape::MAX_COUNT {
-        p
-    } else {
-        Shape::MAX_COUNT + 1
-    }
+    (total * n).min(Shape::OVER)
 }
 
 // The first `rank` of the numbers, and zeros.
@@ -207,11 +166,7 @@ fn cleared(ns: [usize; Shape::MAX_RANK], rank: usize) -> [usize; Shape::MAX_RANK
     ensures { result ≡ take rank ns ++ replicate (max_rank - rank) 0 }
 {
     let mut out = [0; Shape::MAX_RANK];
-    let mut i = 0;
-    while i < rank {
-        out[i] = ns[i];
-        i += 1;
-    }
+    out[..rank].copy_from_slice(&ns[..rank]);
     out
 }
 
@@ -238,34 +193,22 @@ impl Place {
     pub fn successor(self, s: Shape) -> Place
         ensures { result ≡ successor self s }
     {
-        let marked = self.end;
-        if marked {
+        if self.end || Shape::MAX_COUNT < s.count() || !inside(self, s) {
             return Place::at_end();
         }
-        if Shape::MAX_COUNT < s.count() {
-            return Place::at_end();
-        }
-        if inside(self, s) {
-            stepped(self, s)
-        } else {
-            Place::at_end()
-        }
+        stepped(self, s)
     }
 }
 
 // Whether each position that counts is below its axis's length.
 fn inside(p: Place, s: Shape) -> bool
     requires { s.rank ≤ max_rank }
-    ensures { result ≡ inside (counted s) (take s.rank p.positions) }
+    ensures { IsTrue result ↔ ((k : ℕ) → k < s.rank → slice_index p.positions k < slice_index s.lens k) }
 {
-    let mut i = 0;
-    while i < s.rank {
-        if s.lens[i] <= p.positions[i] {
-            return false;
-        }
-        i += 1;
-    }
-    true
+    s.lens[..s.rank]
+        .iter()
+        .zip(&p.positions)
+        .all(|(n, i)| i < n)
 }
 
 // The successor of a place that lies in a good shape: from the last axis on, an axis at its end starts again and carries.
@@ -273,11 +216,8 @@ fn stepped(p: Place, s: Shape) -> Place
     requires { (p.end ≡ false) × ((good_shape s ≡ true) × (inside (counted s) (take s.rank p.positions) ≡ true)) }
     ensures { result ≡ successor p s }
 {
-    let rank = s.rank;
-    let mut q = cleared(p.positions, rank);
-    let mut i = rank;
-    while 0 < i {
-        i -= 1;
+    let mut q = cleared(p.positions, s.rank);
+    for i in (0..s.rank).rev() {
         let next = p.positions[i] + 1;
         if next < s.lens[i] {
             q[i] = next;
