@@ -15,7 +15,7 @@ use Rattle.shape.proofs.Rule.{rule-rank, rule-high, rule-count}
 use Rattle.shape.specs.declared.Shape.{Shape}
 use Rattle.shape.specs.Shape.{max_rank, max_count, counted, count, small, shape_rule, good_shape, count_of, held}
 
-pub count-snoc : (ns : List ℕ) (n : ℕ) → count (ns ++ (n ∷ [])) ≡ count ns * n
+count-snoc : (ns : List ℕ) (n : ℕ) → count (ns ++ (n ∷ [])) ≡ count ns * n
 unfolding count
 count-snoc [] n = omega arith
 count-snoc (m ∷ ns) n = ap (λ (x : ℕ). m * x) (count-snoc ns n) ∙ sym (mul_assoc m (count ns) n)
@@ -60,7 +60,7 @@ small-not (n ∷ ns) zero l h = rw (lt-leb n max_count h)
 small-not (n ∷ ns) (suc k) l h = rw (small-not ns k (omega arith) h) (and-false (leb n max_count))
 
 -- A product held at a limit on the way is the product held at the limit: a zero after it still counts.
-pub min-mul : (a n c : ℕ) → min (min a c * n) c ≡ min (a * n) c
+min-mul : (a n c : ℕ) → min (min a c * n) c ≡ min (a * n) c
 min-mul a zero c = simp mul-zero
 min-mul a (suc n) c = by (dec_le a c)
   where

@@ -39,10 +39,6 @@ module _ (lens pos : List ℕ) (rank : ℕ) (ll : rank ≤ length lens) (lp : ra
       rw (get_or-take rank lens k 0 r, get_or-take rank pos k 0 r)
       at (in-at (take rank lens) (take rank pos) k (inside-in (take rank lens) (take rank pos) e) (rw axes r))
 
-  pub inside-is : (b : Bool) → IsTrue b ↔ ((k : ℕ) → k < rank → get_or pos k 0 < get_or lens k 0) → b ≡ inside (take rank lens) (take rank pos)
-  inside-is true h = sym (inside-each (h.0 refl))
-  inside-is false h = sym (refuted _ (λ e. no_way (h.1 (inside-at e))))
-
   -- The axes after axis k are at their end.
   module _ (h : In (take rank lens) (take rank pos)) (k : ℕ) (r : k < rank) (e : Last (drop (suc k) (take rank lens)) (drop (suc k) (take rank pos))) where
     -- Axis k is too.
@@ -63,6 +59,13 @@ module _ (lens pos : List ℕ) (rank : ℕ) (ll : rank ≤ length lens) (lp : ra
       step-place =
           next_place (take rank lens) (take rank pos) k h (rw axes r) further e
           ∙ rw (take-take k rank pos (omega arith), get_or-take rank pos k 0 r, length-drop (suc k) (take rank lens), axes, add-one)
+
+-- A test of each axis that counts says whether a place lies in a shape.
+pub inside-is : (p : Place) (s : Shape) (b : Bool) → length p.positions ≡ max_rank → length s.lens ≡ max_rank → s.rank ≤ max_rank
+    → IsTrue b ↔ ((k : ℕ) → k < s.rank → get_or p.positions k 0 < get_or s.lens k 0)
+    → b ≡ inside (counted s) (take s.rank p.positions)
+inside-is p s true lp ll h e = sym (inside-each s.lens p.positions s.rank (omega arith) (omega arith) (e.0 refl))
+inside-is p s false lp ll h e = sym (refuted _ (λ i. no_way (e.1 (inside-at s.lens p.positions s.rank (omega arith) (omega arith) i))))
 
 -- The places that have none: marked, of a bad shape, outside it.
 module _ (p : Place) (s : Shape) where

@@ -14,7 +14,8 @@ use Rattle.shape.proofs.Counts.{factor}
 use Rattle.shape.proofs.Shifted.{rest_after}
 
 -- What the default is.
-pub all-zero : (o n i : ℕ) → (o ≡ 0) × ((n ≡ 0) × (i ≡ 0)) → ◌≡◌ {A = Around} (record { outer = o; length = n; inner = i }) (record { outer = 0; length = 0; inner = 0 })
+pub all-zero : (o n i : ℕ) → (o ≡ 0) × ((n ≡ 0) × (i ≡ 0))
+    → ◌≡◌ {A = Around} (record { outer = o; length = n; inner = i }) (record { outer = 0; length = 0; inner = 0 })
 all-zero o n i h = rw (h.0, h.1.0, h.1.1)
 
 module _ (s : Shape) (k : ℕ) where

@@ -193,7 +193,8 @@ impl Place {
     pub fn successor(self, s: Shape) -> Place
         ensures { result ≡ successor self s }
     {
-        if self.end || Shape::MAX_COUNT < s.count() || !inside(self, s) {
+        let marked = self.end;
+        if marked || Shape::MAX_COUNT < s.count() || !inside(self, s) {
             return Place::at_end();
         }
         stepped(self, s)
