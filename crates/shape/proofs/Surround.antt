@@ -18,21 +18,20 @@ pub all-zero : (o n i : ℕ) → (o ≡ 0) × ((n ≡ 0) × (i ≡ 0))
     → ◌≡◌ {A = Around} (record { outer = o; length = n; inner = i }) (record { outer = 0; length = 0; inner = 0 })
 all-zero o n i h = rw (h.0, h.1.0, h.1.1)
 
-module _ (s : Shape) (k : ℕ) where
-  module _ (h : s.rank ≤ max_rank) (l : k < s.rank) where
-    around-in : around_of s k ≡ record {
-      outer =
-          held (count (take k (counted s)));
-      length = get_or (counted s) k 0;
-      inner = held (count (drop (suc k) (counted s)));
-    }
-    unfolding around_of
-    around-in = rw (le-leb s.rank max_rank h, lt-ltb k s.rank l)
+module _ (s : Shape) (k : ℕ) (h : s.rank ≤ max_rank) (l : k < s.rank) where
+  around-in : around_of s k ≡ record {
+    outer =
+        held (count (take k (counted s)));
+    length = get_or (counted s) k 0;
+    inner = held (count (drop (suc k) (counted s)));
+  }
+  unfolding around_of
+  around-in = rw (le-leb s.rank max_rank h, lt-ltb k s.rank l)
 
-    pub around-is : (o i : ℕ) → o ≡ held (count (take k s.lens)) → i ≡ held (count (take (s.rank - (k + 1)) (drop (k + 1) s.lens)))
-        → record { outer = o; length = get_or s.lens k 0; inner = i } ≡ around_of s k
-    around-is o i eo ei =
-        rw (eo, ei, ← rest_after s.lens k s.rank l, ← take-take k s.rank s.lens (omega arith), ← get_or-take s.rank s.lens k 0 l) (sym around-in)
+  pub around-is : (o i : ℕ) → o ≡ held (count (take k s.lens)) → i ≡ held (count (take (s.rank - (k + 1)) (drop (k + 1) s.lens)))
+      → record { outer = o; length = get_or s.lens k 0; inner = i } ≡ around_of s k
+  around-is o i eo ei =
+      rw (eo, ei, ← rest_after s.lens k s.rank l, ← take-take k s.rank s.lens (omega arith), ← get_or-take s.rank s.lens k 0 l) (sym around-in)
 
 -- The count of the lengths with m at axis k.
 pub count_set : (ns : List ℕ) (k m : ℕ) → k < length ns → count (set ns k m) ≡ count (take k ns) * m * count (drop (suc k) ns)
