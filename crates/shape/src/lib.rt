@@ -7,7 +7,7 @@ ghost use Rattle.shape.specs.Shape.{max_rank, max_count, counted, good_shape, co
 ghost use Rattle.shape.specs.Shape.{held, around_of};
 ghost use Rattle.shape.specs.Place.{end_place, successor, inside};
 
-// A rank and a length for each axis; only the first `rank` lengths count.
+// A rank and a length for each axis; only the first `rank` lengths count. C reads both fields, so no slice stands for them.
 #[repr(C)]
 #[derive(Clone, Copy)]
 pub struct Shape {
@@ -20,7 +20,7 @@ impl Shape {
 
     pub const MAX_COUNT: usize = 16384;
 
-    // What every count above the limit is held at.
+    // What every count above the limit is held at. C reads this number, so no Option stands for it.
     const OVER: usize = Shape::MAX_COUNT + 1;
 
     pub fn scalar() -> Shape
@@ -112,6 +112,7 @@ impl Shape {
         total
     }
 
+    // All 0 where there is no such axis: no Option, since every call has had an answer.
     pub fn around(self, axis: usize) -> Around
         ensures { result ≡ around_of self axis }
     {
@@ -170,7 +171,7 @@ fn cleared(ns: [usize; Shape::MAX_RANK], rank: usize) -> [usize; Shape::MAX_RANK
     out
 }
 
-// One position for each axis, and whether the last place was passed.
+// One position for each axis, and whether the last place was passed. C reads both fields, so no Option stands for the end.
 #[repr(C)]
 #[derive(Clone, Copy)]
 pub struct Place {
@@ -194,40 +195,40 @@ impl Place {
         ensures { result ≡ successor self s }
     {
         let marked = self.end;
-        if marked || Shape::MAX_COUNT < s.count() || !inside(self, s) {
+        if marked || Shape::MAX_COUNT < s.count() || !self.inside(s) {
             return Place::at_end();
         }
-        stepped(self, s)
+        self.stepped(s)
     }
-}
 
-// Whether each position that counts is below its axis's length.
-fn inside(p: Place, s: Shape) -> bool
-    requires { s.rank ≤ max_rank }
-    ensures { IsTrue result ↔ ((k : ℕ) → k < s.rank → slice_index p.positions k < slice_index s.lens k) }
-{
-    s.lens[..s.rank]
-        .iter()
-        .zip(&p.positions)
-        .all(|(n, i)| i < n)
-}
+    // Whether each position that counts is below its axis's length.
+    fn inside(self, s: Shape) -> bool
+        requires { s.rank ≤ max_rank }
+        ensures { IsTrue result ↔ ((k : ℕ) → k < s.rank → slice_index self.positions k < slice_index s.lens k) }
+    {
+        s.lens[..s.rank]
+            .iter()
+            .zip(&self.positions)
+            .all(|(n, i)| i < n)
+    }
 
-// The successor of a place that lies in a good shape: from the last axis on, an axis at its end starts again and carries.
-fn stepped(p: Place, s: Shape) -> Place
-    requires { (p.end ≡ false) × ((good_shape s ≡ true) × (inside (counted s) (take s.rank p.positions) ≡ true)) }
-    ensures { result ≡ successor p s }
-{
-    let mut q = cleared(p.positions, s.rank);
-    for i in (0..s.rank).rev() {
-        let next = p.positions[i] + 1;
-        if next < s.lens[i] {
-            q[i] = next;
-            return Place {
-                positions: q,
-                end: false,
-            };
+    // The successor of a place that lies in a good shape: from the last axis on, an axis at its end starts again and carries.
+    fn stepped(self, s: Shape) -> Place
+        requires { (self.end ≡ false) × ((good_shape s ≡ true) × (inside (counted s) (take s.rank self.positions) ≡ true)) }
+        ensures { result ≡ successor self s }
+    {
+        let mut positions = cleared(self.positions, s.rank);
+        for i in (0..s.rank).rev() {
+            let next = self.positions[i] + 1;
+            if next < s.lens[i] {
+                positions[i] = next;
+                return Place {
+                    positions,
+                    end: false,
+                };
+            }
+            positions[i] = 0;
         }
-        q[i] = 0;
+        Place::at_end()
     }
-    Place::at_end()
 }
