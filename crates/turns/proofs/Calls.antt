@@ -4,10 +4,13 @@ use mathlib.Core.List.{List, ◌++◌}
 use mathlib.Core.Bool.{Bool, true, false, not, cond}
 use native.Mathlib.Omega.{arith}
 use borrow.Author.Tests.{eqb-true}
-use Prim.Native.Nat.{ℕ, ◌-◌, max}
+use Prim.Native.Nat.{ℕ, ◌-◌, ◌<◌, max}
 use lib.ListN.{length, drop, get_or}
 use lib.Dec.{eqb}
 use lib.IntN.{ℤ, pos, ◌+ℤ◌, ◌-ℤ◌}
+use mir.Syntax.{w32}
+use mir.Val.{SFits, to_z, of_z}
+use Rattle.std.specs.Prelude.{Result}
 use Rattle.shape.specs.declared.Shape.{Shape}
 use Rattle.shape.specs.Shape.{count}
 use Rattle.shape.proofs.Made.{Stands}
@@ -17,11 +20,15 @@ use Rattle.meaning.specs.Refusal.Refusal.{RANK, AXIS, LENGTH}
 use Rattle.meaning.specs.Terms.{rank, axis, is_list, as_vector, int_same, within, from_zero, along, modulo}
 use Rattle.meaning.specs.Primitives.{reverse, rotate}
 use Rattle.meaning.specs.Reply.{primitives, named}
+use Rattle.meaning.proofs.Positions.{within-lt}
 use Rattle.meaning.proofs.Scalars.{vector-rank}
 use Rattle.answer.specs.Answer.{lent, own}
+use Rattle.answer.specs.Refused.{asked}
+use Rattle.answer.specs.declared.refusal.Refusal as code
 use Rattle.signed.proofs.Finding.{IsAt}
+use Rattle.signed.proofs.Reading.{read32}
 use Rattle.answer.proofs.Lent.{Lent, lent-stands, FineOne}
-use Rattle.answer.proofs.Order.{Names, own_first, Ready}
+use Rattle.answer.proofs.Order.{Names, own_first, Ready, early_of}
 use Rattle.turns.specs.declared.Turn.TheVariants.{Back, By}
 use Rattle.turns.specs.Steps.{turn_position}
 
@@ -93,6 +100,27 @@ module _ {G K : ℤ} {s : Shape} {b : List ℤ} {n k : ℕ} (e : rank (as_vector
         none = reverse-own G K L (lent s b) n e ∙ rw (a.inside) refl;
         stands = reverse-stands G K f.operand;
       }
+
+pub rotate-ready : {G K : ℤ} {L : Operand} {s : Shape} {b : List ℤ} → early_of 2 G L (lent s b) ≡ 0
+    → own 25 (rotate G K (array_of L) (array_of (lent s b))).refusals ≡ 0 → Lent s b
+    → Ready 25 2 G K L (lent s b) (rotate G K (array_of L) (array_of (lent s b))) s
+rotate-ready {G} {K} {L} {s} {b} f o g =
+    record { names = rotate-names G K L (lent s b); fine = f; none = o; stands = rotate-stands G K g (array_of L) }
+
+-- What `rotation` asks for, of numbers that the call has read from locals.
+pub rotation-read : {G K : ℤ} (f : SFits w32 G) (h : SFits w32 K) {A : Type 0} (x : Result A code.Refusal) {L R l r : Operand}
+    → asked x ≡ own 25 (rotate (to_z w32 (of_z w32 G)) (to_z w32 (of_z w32 K)) (array_of l) (array_of r)).refusals
+    → l ≡ L → r ≡ R → asked x ≡ own 25 (rotate G K (array_of L) (array_of R)).refusals
+rotation-read {G} {K} f h x {l = l} {r = r} e p q =
+    e ∙ ap₂ (λ g k. own 25 (rotate g k (array_of l) (array_of r)).refusals) (read32 G f) (read32 K h)
+    ∙ ap₂ (λ l r. own 25 (rotate G K (array_of l) (array_of r)).refusals) p q
+
+-- The axis that 25 turns.
+pub rotate-axis : (G K : ℤ) (L : Operand) {s : Shape} {b : List ℤ} {k : ℕ} → own 25 (rotate G K (array_of L) (array_of (lent s b))).refusals ≡ 0
+    → Lent s b → k ≡ from_zero G K → k < max 1 s.rank
+rotate-axis G K L {s} {b} {k} o g e =
+    let a = rotates G K L (lent s b) o in
+    omega (arith, e, within-lt (K -ℤ G) _ a.inside, vector-rank (array_of (lent s b)), g.rank_is)
 
 -- The output buffer, with the axis and the amount as the program names them.
 module _ (G K : ℤ) (a : Array) (k : ℕ) (e : k ≡ from_zero G K) (out : List ℤ) where

@@ -39,9 +39,9 @@ pub fn rotate(
 {
     let (l, r) = answer::early_two(g, l, r)?;
     let (axis, amount) = rotation(g, k, &l, &r)?;
-    let count = r.shape.count();
-    answer::late(count, out.len())?;
-    turn_into(Turn::By(amount), r.shape, axis, count, r.elements, out);
+    let total = r.shape.count();
+    answer::late(total, out.len())?;
+    turn_into(Turn::By(amount), r.shape, axis, total, r.elements, out);
     Ok(r.shape.as_result())
 }
 
