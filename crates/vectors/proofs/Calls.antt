@@ -1,35 +1,34 @@
 -- 11, 12, 13 and 21: what they ask, and what they give.
 use mathlib.Core.Path.{◌≡◌, refl, sym, ap, ◌∙◌}
 use mathlib.Core.List.{List, [], ◌∷◌, ◌++◌, map}
-use mathlib.Core.Bool.{Bool, true, false, not, cond}
-use Prim.Native.Nat.{ℕ, ◌+◌, ◌-◌, ◌≤◌}
+use mathlib.Core.Bool.{true, not, cond}
+use Prim.Native.Nat.{ℕ, ◌+◌, ◌≤◌}
 use native.Mathlib.Omega.{arith}
-use borrow.Author.Tests.{eqb-true}
 use lib.Dec.{eqb}
-use lib.ListN.{length, take, drop, get_or}
+use lib.ListN.{length, drop, get_or}
 use lib.IntN.{ℤ, pos, nat_abs, ◌+ℤ◌}
 use Rattle.shape.specs.declared.Shape.{Shape}
 use Rattle.shape.specs.Shape.{counted, count, count_of, good_shape, shape_of}
-use Rattle.shape.proofs.Counts.{good-rank}
+use Rattle.shape.proofs.Counts.{good-rank, count-of, count-good}
 use Rattle.shape.proofs.Made.{Stands, made_counted}
 use Rattle.shape.proofs.Places.{index-place}
-use Rattle.meaning.specs.Array.{Operand, Array, array_of, build}
+use Rattle.meaning.specs.Array.{Operand, Array, array_of, good_form, build}
 use Rattle.meaning.specs.Refusal.{number, precedence}
 use Rattle.meaning.specs.Refusal.Refusal.{RANK, LENGTH, DOMAIN}
 use Rattle.meaning.specs.Terms.{int_same, is_list, negative, every}
 use Rattle.meaning.specs.Primitives.{lengths_of, ravel, interval, reshape}
-use Rattle.meaning.specs.Reply.{primitives, named, is_origin}
+use Rattle.meaning.specs.Reply.{primitives, named}
+use Rattle.meaning.proofs.Arrays.{form-shape, form-whole}
 use Rattle.meaning.proofs.Tab.{tab-ext, tab-get_or}
 use Rattle.signed.proofs.Equal.{origin-is}
 use Rattle.copying.specs.Steps.{filled}
 use Rattle.copying.specs.Runs.{copied}
 use Rattle.copying.proofs.Runs.{copied-fits}
-use Rattle.answer.specs.Answer.{lent, own, accepted}
-use Rattle.answer.specs.declared.Answer.{Answer}
-use Rattle.answer.proofs.Lent.{Lent, axis-is, lent-part}
-use Rattle.answer.proofs.Order.{Names, own_first}
+use Rattle.answer.specs.Answer.{lent, early, own}
+use Rattle.answer.proofs.Lent.{Lent, axis-is, FineOne, early-fine}
+use Rattle.answer.proofs.Order.{Names, own_first, Ready}
 use Rattle.vectors.specs.Steps.{cycled, Made}
-use Rattle.vectors.proofs.Vector.{Vector}
+use Rattle.vectors.proofs.Vector.{Vector, vector-stands, vector-counted}
 
 module _ (G K : ℤ) (L R : Operand) where
   pub shape-names : Names 11 1 G K L R (lengths_of (array_of R))
@@ -71,42 +70,53 @@ pub reshape-own : (l r : Array) → own 21 (reshape l r).refusals
 unfolding reshape precedence
 reshape-own l r = own_first 21 _ refl
 
--- Where 13 refuses nothing R has one element.
-pub interval-one : (G : ℤ) (a : Array) → own 13 (interval G a).refusals ≡ 0 → length a.elements ≡ 1
-interval-one G a h = by _ (is_list a) (eqb (length a.elements) 1) refl (sym (interval-own G a) ∙ h)
-  where
-    by : (w : ℕ) (x y : Bool) → eqb (length a.elements) 1 ≡ y → ◌≡◌ {A = ℕ} (cond (not x) (number RANK) (cond (not y) (number LENGTH) w)) 0
-        → length a.elements ≡ 1
-    by w false y q e = absurd (omega arith)
-    by w true false q e = absurd (omega arith)
-    by w true true q e = eqb-true _ 1 q
-
--- The vectors that 11, 12 and 13 give.
-module _ {s : Shape} {r : List ℤ} (g : Lent s r) where
-  abbrev a : Array
-  a = array_of (lent s r)
-
-  pub shape-vector : Vector (lengths_of a) s.rank (λ i. pos (get_or s.lens i 0))
+-- 11, of an operand that is opened: the vector that it gives, and all that is known where it refused nothing.
+module _ {s : Shape} {r : List ℤ} where
+  pub shape-vector : Lent s r → Vector (lengths_of (array_of (lent s r))) s.rank (λ i. pos (get_or s.lens i 0))
   unfolding lengths_of
-  shape-vector = record { lengths = ap (λ n. n ∷ []) g.rank_is; element = λ i l. ap pos (axis-is s r i l) }
+  shape-vector g = record { lengths = ap (λ n. n ∷ []) g.rank_is; element = λ i l. ap pos (axis-is s r i l) }
 
-  module _ {n : ℕ} (e : n ≡ count_of s) where
-    pub ravel-vector : Vector (ravel a) n (λ i. get_or a.elements i (pos 0))
-    unfolding ravel
-    ravel-vector = record { lengths = ap (λ k. k ∷ []) (g.whole ∙ sym g.count-is ∙ sym e); element = λ i l. refl }
+  pub shape-ready : {G : ℤ} → FineOne G s r → (K : ℤ) (L : Operand)
+      → Ready 11 1 G K L (lent s r) (lengths_of (array_of (lent s r))) (shape_of (s.rank ∷ []))
+  shape-ready {G} f K L =
+      record { names = shape-names G K L (lent s r); fine = f.none; none = shape-own _; stands = vector-stands (shape-vector f.operand) refl }
 
-    -- What the copy leaves.
-    pub ravel-copied : (out : List ℤ) → n ≤ length out → copied (take (n - 0) r) out ≡ filled (λ i. get_or a.elements i (pos 0)) n out
-    ravel-copied out h =
-        let long : length a.elements ≡ n = g.whole ∙ sym g.count-is ∙ sym e in
-        ap (λ x. copied x out) (lent-part s r g n e)
-        ∙ copied-fits a.elements out (omega arith)
-        ∙ ap (λ x. x ++ drop (length a.elements) out) (sym (tab-get_or a.elements (pos 0)))
-        ∙ ap (λ k. filled (λ i. get_or a.elements i (pos 0)) k out) long
+-- 12, of an operand that stays closed: n is the count of its elements.
+module _ (R : Operand) {n : ℕ} (e : n ≡ length (array_of R).elements) where
+  abbrev a : Array
+  a = array_of R
 
-pub interval-vector : (G : ℤ) (a : Array) {n : ℕ} → is_origin G ≡ true → n ≡ nat_abs (ends a) → Vector (interval G a) n (λ i. pos (nat_abs G + i))
-unfolding interval
-interval-vector G a o e = record { lengths = ap (λ k. k ∷ []) (sym e); element = λ i l. ap (λ z. z +ℤ pos i) (origin-is G o).0 }
+  pub ravel-vector : Vector (ravel (array_of R)) n (λ i. get_or (array_of R).elements i (pos 0))
+  unfolding ravel
+  ravel-vector = record { lengths = ap (λ k. k ∷ []) (sym e); element = λ i l. refl }
+
+  -- What the copy leaves.
+  pub ravel-copied : (out : List ℤ) → n ≤ length out → copied (array_of R).elements out ≡ filled (λ i. get_or (array_of R).elements i (pos 0)) n out
+  ravel-copied out h =
+      copied-fits a.elements out (omega arith)
+      ∙ ap (λ x. x ++ drop (length a.elements) out) (sym (tab-get_or a.elements (pos 0)))
+      ∙ ap (λ k. filled (λ i. get_or a.elements i (pos 0)) k out) (sym e)
+
+  module _ (G : ℤ) (z : early (good_form R) G ≡ 0) where
+    pub ravel-ready : (K : ℤ) (L : Operand) → Ready 12 1 G K L R (ravel (array_of R)) (shape_of (n ∷ []))
+    ravel-ready K L = record { names = ravel-names G K L R; fine = z; none = ravel-own (array_of R); stands = vector-stands ravel-vector refl }
+
+    pub ravel-count : n ≡ count_of (shape_of (n ∷ []))
+    ravel-count =
+        let f = (early-fine G (good_form R) z).forms in
+        let g = form-shape R f in
+        vector-counted n (omega (arith, e, form-whole R f, count-of R.shape g, count-good R.shape g))
+
+-- 13: n is the number whose interval it gives.
+module _ (R : Operand) {n : ℕ} (e : n ≡ nat_abs (ends (array_of R))) (G : ℤ) (z : early (good_form R) G ≡ 0) where
+  pub interval-vector : Vector (interval G (array_of R)) n (λ i. pos (nat_abs G + i))
+  unfolding interval
+  interval-vector =
+      record { lengths = ap (λ k. k ∷ []) (sym e); element = λ i l. ap (λ z. z +ℤ pos i) (origin-is G (early-fine G (good_form R) z).origin).0 }
+
+  pub interval-ready : own 13 (interval G (array_of R)).refusals ≡ 0 → {s : Shape} → s ≡ shape_of (n ∷ []) → (K : ℤ) (L : Operand)
+      → Ready 13 1 G K L R (interval G (array_of R)) s
+  interval-ready o q K L = record { names = interval-names G K L R; fine = z; none = o; stands = vector-stands interval-vector q }
 
 -- The shape and the elements that 21 gives.
 module _ (l r : Array) {s : Shape} (m : Made s (map nat_abs l.elements)) where
@@ -114,9 +124,9 @@ module _ (l r : Array) {s : Shape} (m : Made s (map nat_abs l.elements)) where
   unfolding reshape
   reshape-stands = record { rank = m.rank; lengths = λ h. ap counted (m.shape h) ∙ made_counted (map nat_abs l.elements) }
 
-  pub reshape-given : {a : Answer} → good_shape s ≡ true → a ≡ accepted s → a ≡ accepted (shape_of (reshape l r).lengths)
+  pub reshape-given : good_shape s ≡ true → s ≡ shape_of (reshape l r).lengths
   unfolding reshape
-  reshape-given g q = q ∙ ap accepted (m.shape (good-rank s g))
+  reshape-given g = m.shape (good-rank s g)
 
 pub reshape-out : (l r : Array) (out : List ℤ) {n : ℕ} → n ≡ count (reshape l r).lengths → filled (cycled r.elements) n out
     ≡ (build (reshape l r).lengths (reshape l r).element).elements ++ drop (count (reshape l r).lengths) out

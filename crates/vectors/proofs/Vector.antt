@@ -16,8 +16,6 @@ use Rattle.meaning.specs.Array.{tab, build}
 use Rattle.meaning.specs.Primitives.{Meaning}
 use Rattle.meaning.proofs.Tab.{tab-ext}
 use Rattle.copying.specs.Steps.{filled}
-use Rattle.answer.specs.Answer.{accepted}
-use Rattle.answer.specs.declared.Answer.{Answer}
 
 -- n elements, and f says which.
 pub record Vector (m : Meaning) (n : ℕ) (f : ℕ → ℤ) : Type 0 where
@@ -38,14 +36,11 @@ module _ {m : Meaning} {n : ℕ} {f : ℕ → ℤ} (v : Vector m n f) where
 
   -- The shape that `Shape::vector` gives.
   module _ {s : Shape} (e : s ≡ shape_of (n ∷ [])) where
-    is-shape : s ≡ shape_of m.lengths
-    is-shape = e ∙ ap shape_of (sym v.lengths)
+    pub vector-shape : s ≡ shape_of m.lengths
+    vector-shape = e ∙ ap shape_of (sym v.lengths)
 
     pub vector-stands : Stands s m.lengths
-    vector-stands = made-stands s m.lengths is-shape
-
-    pub vector-given : {a : Answer} → a ≡ accepted s → a ≡ accepted (shape_of m.lengths)
-    vector-given q = q ∙ ap accepted is-shape
+    vector-stands = made-stands s m.lengths vector-shape
 
     pub vector-count : good_shape s ≡ true → count_of s ≡ n
     vector-count g = stands-count vector-stands g ∙ ap count v.lengths ∙ count-one n

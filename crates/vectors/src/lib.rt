@@ -1,33 +1,29 @@
 // Results that are vectors or take R's elements in their order: shape, ravel, interval, reshape.
 #![tactic(auto)]
 
-ghost use Rattle.std.specs.Prelude.{◌≡◌, true, not, map, ◌+◌, ◌≤◌, ◌<◌, length, get_or, ℤ, pos, nat_abs};
+ghost use Rattle.std.specs.Prelude.{◌≡◌, true, not, map, ◌+◌, ◌≤◌, ◌<◌, length, get_or, ℤ, pos, nat_abs, IfOk};
 ghost use Rattle.shape.specs.Shape.{max_count, good_shape};
-ghost use Rattle.meaning.specs.Array.{Operand, Array, array_of, good_form};
+ghost use Rattle.meaning.specs.Array.{Operand, Array, array_of};
 ghost use Rattle.meaning.specs.Terms.{negative, every};
 ghost use Rattle.meaning.specs.Primitives.{interval, reshape};
 ghost use Rattle.meaning.specs.Reply.{reply};
 ghost use Rattle.copying.specs.Steps.{filled};
-ghost use Rattle.answer.specs.Answer.{lent, own, Replied};
+ghost use Rattle.answer.specs.Answer.{own, Replied};
+ghost use Rattle.answer.specs.Refused.{asked, answered};
 ghost use Rattle.vectors.specs.Steps.{cycled, Made};
 
-use answer::{Answer, refusal};
+use answer::{Formed, Operand, Refusal};
 use shape::Shape;
 
 // 11, whatever K and L are: they are not looked at.
-pub fn shape_of(g: i32, rs: Shape, r: &[i32], out: &mut [i32]) -> Answer
-    ensures { (K : ℤ) (L : Operand) → Replied result out.new (reply (pos 11) g K L (lent rs r.now) out.old) }
+pub fn shape_of(g: i32, r: &Operand<'_>, out: &mut [i32]) -> Result<Shape, Refusal>
+    ensures { (K : ℤ) (L : Operand) → Replied (answered result) out.new (reply (pos 11) g K L r.now out.old) }
 {
-    let early = answer::early_one(g, rs, r);
-    if early != 0 {
-        return Answer::refused(early);
-    }
-    let late = answer::late(rs.rank, out.len());
-    if late != 0 {
-        return Answer::refused(late);
-    }
-    put_lengths(rs, out);
-    Answer::given(Shape::vector(rs.rank))
+    let r = answer::early_one(g, r)?;
+    let rank = r.shape.rank;
+    answer::late(rank, out.len())?;
+    put_lengths(r.shape, out);
+    Ok(Shape::vector(rank))
 }
 
 // The lengths as elements.
@@ -44,59 +40,45 @@ fn put_lengths(s: Shape, out: &mut [i32])
 }
 
 // 12, whatever K and L are: they are not looked at.
-pub fn ravel(g: i32, rs: Shape, r: &[i32], out: &mut [i32]) -> Answer
-    ensures { (K : ℤ) (L : Operand) → Replied result out.new (reply (pos 12) g K L (lent rs r.now) out.old) }
+pub fn ravel(g: i32, r: &Operand<'_>, out: &mut [i32]) -> Result<Shape, Refusal>
+    ensures { (K : ℤ) (L : Operand) → Replied (answered result) out.new (reply (pos 12) g K L r.now out.old) }
 {
-    let early = answer::early_one(g, rs, r);
-    if early != 0 {
-        return Answer::refused(early);
-    }
-    let count = rs.count();
-    let late = answer::late(count, out.len());
-    if late != 0 {
-        return Answer::refused(late);
-    }
-    copying::copy_run(&r[0..count], out);
-    Answer::given(Shape::vector(count))
+    let r = answer::early_one(g, r)?;
+    let elements = r.elements();
+    let count = elements.len();
+    answer::late(count, out.len())?;
+    copying::copy_run(elements, out);
+    Ok(Shape::vector(count))
 }
 
 // 13, whatever K and L are: they are not looked at.
-pub fn interval(g: i32, rs: Shape, r: &[i32], out: &mut [i32]) -> Answer
-    ensures { (K : ℤ) (L : Operand) → Replied result out.new (reply (pos 13) g K L (lent rs r.now) out.old) }
+pub fn interval(g: i32, r: &Operand<'_>, out: &mut [i32]) -> Result<Shape, Refusal>
+    ensures { (K : ℤ) (L : Operand) → Replied (answered result) out.new (reply (pos 13) g K L r.now out.old) }
 {
-    let early = answer::early_one(g, rs, r);
-    if early != 0 {
-        return Answer::refused(early);
-    }
-    let own = interval_refusal(rs, r);
-    if own != 0 {
-        return Answer::refused(own);
-    }
+    let r = answer::early_one(g, r)?;
     // Too large a number is too large a length: the shape is a bad one.
-    let shape = Shape::vector(signed::magnitude(r[0]));
+    let shape = Shape::vector(interval_length(&r)?);
     let n = shape.count();
-    let late = answer::late(n, out.len());
-    if late != 0 {
-        return Answer::refused(late);
-    }
-    let first = signed::magnitude(g);
-    count_up(first, n, out);
-    Answer::given(shape)
+    answer::late(n, out.len())?;
+    count_up(signed::magnitude(g), n, out);
+    Ok(shape)
 }
 
-// RANK, LENGTH and DOMAIN, which G does not touch.
-fn interval_refusal(rs: Shape, r: &[i32]) -> usize
-    requires { good_form (lent rs r.now) ≡ true }
-    ensures { (G : ℤ) → result ≡ own 13 (interval G (array_of (lent rs r.now))).refusals }
+// RANK, LENGTH and DOMAIN, which G does not touch, or else R's one element as a length.
+fn interval_length(r: &Formed<'_>) -> Result<usize, Refusal>
+    ensures number { (G : ℤ) → asked result ≡ own 13 (interval G (array_of r.now)).refusals }
+    ensures length { IfOk result (λ n. n ≡ nat_abs (get_or (array_of r.now).elements 0 (pos 0))) }
 {
-    if 1 < rs.rank {
-        return refusal::RANK;
+    if !r.is_list() {
+        return Err(Refusal::Rank);
     }
-    if rs.count() != 1 {
-        return refusal::LENGTH;
+    let [z] = r.elements() else {
+        return Err(Refusal::Length);
+    };
+    if signed::negative(*z) {
+        return Err(Refusal::Domain);
     }
-    let below = signed::negative(r[0]);
-    if below { refusal::DOMAIN } else { 0 }
+    Ok(signed::magnitude(*z))
 }
 
 // The n numbers from `first` up.
@@ -115,45 +97,36 @@ fn count_up(first: usize, n: usize, out: &mut [i32])
 }
 
 // 21, whatever K is: it is not looked at.
-pub fn reshape(g: i32, ls: Shape, l: &[i32], rs: Shape, r: &[i32], out: &mut [i32]) -> Answer
-    ensures { (K : ℤ) → Replied result out.new (reply (pos 21) g K (lent ls l.now) (lent rs r.now) out.old) }
+pub fn reshape(g: i32, l: &Operand<'_>, r: &Operand<'_>, out: &mut [i32]) -> Result<Shape, Refusal>
+    ensures { (K : ℤ) → Replied (answered result) out.new (reply (pos 21) g K l.now r.now out.old) }
 {
-    let early = answer::early_two(g, ls, l, rs, r);
-    if early != 0 {
-        return Answer::refused(early);
-    }
-    let own = reshape_refusal(ls, l);
-    if own != 0 {
-        return Answer::refused(own);
-    }
-    let rank = ls.count();
-    let shape = shape_from(&l[0..rank]);
+    let (l, r) = answer::early_two(g, l, r)?;
+    let shape = reshaped(&l)?;
     let total = shape.count();
-    let late = answer::late(total, out.len());
-    if late != 0 {
-        return Answer::refused(late);
-    }
-    let n = rs.count();
+    answer::late(total, out.len())?;
+    let elements = r.elements();
     // In three arms: in two the compiler takes the loop of `cycle_run` in here, and rows of 16 elements take half as long again.
-    match n {
-        0 => copying::fill_run(0, &mut out[0..total]),
-        1 => copying::fill_run(r[0], &mut out[0..total]),
-        _ => cycle_run(&r[0..n], total, out),
+    match elements {
+        [] => copying::fill_run(0, &mut out[0..total]),
+        [x] => copying::fill_run(*x, &mut out[0..total]),
+        _ => cycle_run(elements, total, out),
     }
-    Answer::given(shape)
+    Ok(shape)
 }
 
-// RANK and DOMAIN, which R does not touch.
-fn reshape_refusal(ls: Shape, l: &[i32]) -> usize
-    requires { good_form (lent ls l.now) ≡ true }
-    ensures { (R : Array) → result ≡ own 21 (reshape (array_of (lent ls l.now)) R).refusals }
+// RANK and DOMAIN, which R does not touch, or else the shape that L's elements are the lengths of.
+fn reshaped(l: &Formed<'_>) -> Result<Shape, Refusal>
+    ensures number { (R : Array) → asked result ≡ own 21 (reshape (array_of l.now) R).refusals }
+    ensures shape { IfOk result (λ s. Made s (map nat_abs (array_of l.now).elements)) }
 {
-    if 1 < ls.rank {
-        return refusal::RANK;
+    if !l.is_list() {
+        return Err(Refusal::Rank);
     }
-    let count = ls.count();
-    let fine = none_negative(&l[0..count]);
-    if fine { 0 } else { refusal::DOMAIN }
+    let lengths = l.elements();
+    if !none_negative(lengths) {
+        return Err(Refusal::Domain);
+    }
+    Ok(shape_from(lengths))
 }
 
 fn none_negative(l: &[i32]) -> bool

@@ -1,0 +1,40 @@
+use Rattle.std.proofs.Common.{◌≡◌, ◌∙◌, sym}
+use native.Mathlib.Omega.{arith}
+use mathlib.Core.Path.{refl}
+use Rattle.answer.specs.Answer.{lent}
+use Rattle.answer.proofs.Early.{early-read, one-fine}
+use Rattle.answer.proofs.Exits.{exit, asked_ok}
+use Rattle.answer.proofs.Order.{early-replied, late-replied, given-replied, late-fine}
+use Rattle.answer.proofs.Lent.{formed}
+use Rattle.vectors.proofs.Vector.{vector-counted, vector-shape, vector-out}
+use Rattle.vectors.proofs.Calls.{shape-names, shape-vector, shape-ready}
+use Rattle.vectors.proofs.shape_of.Goals as goal
+
+pub returns-in_err-r : goal.returns-in_err-r
+returns-in_err-r c K L =
+    early-replied (shape-names _ _ L c.args.r.now) _ (exit c.in_err-r.was c.from_residual.result c.from_residual.ensures.1)
+    (early-read c.ranges.g c.early_one.result _ c.early_one.ensures.number)
+
+pub returns-in_err-late : goal.returns-in_err-late
+returns-in_err-late c K L =
+    let e : c.args.r.now ≡ lent c.r.inside.shape c.r.inside.elements.now = sym (c.r.view_is ∙ c.in_ok-r.ensures.operand) in
+    let f = one-fine c.ranges.g c.early_one.result c.early_one.ensures.number c.in_ok-r.was e c.r.invariant in
+    rw e
+    (late-replied (shape-ready f K L) _ c.late.ensures (vector-counted _ (omega (arith, f.operand.high)))
+    (exit c.in_err-late.was c.from_residual-in_err-late.result c.from_residual-in_err-late.ensures.1))
+
+pub put_lengths-requires : goal.put_lengths-requires
+put_lengths-requires c =
+    let g = formed c.r.invariant in
+    let n = vector-counted c.r.inside.shape.rank (omega (arith, g.high)) in
+    let roomy = late-fine _ (sym (asked_ok c.in_ok-late.was) ∙ c.late.ensures) n refl in
+    (g.good, omega (arith, roomy.space, n))
+
+pub returns : goal.returns
+returns c K L =
+    let e : c.args.r.now ≡ lent c.r.inside.shape c.r.inside.elements.now = sym (c.r.view_is ∙ c.in_ok-r.ensures.operand) in
+    let f = one-fine c.ranges.g c.early_one.result c.early_one.ensures.number c.in_ok-r.was e c.r.invariant in
+    let v = shape-vector f.operand in
+    rw e
+    (given-replied (shape-ready f K L) _ (sym (asked_ok c.in_ok-late.was) ∙ c.late.ensures) (vector-counted _ (omega (arith, f.operand.high))) refl
+    (vector-shape v c.vector.ensures) (c.put_lengths.ensures ∙ vector-out v _))
