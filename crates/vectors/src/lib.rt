@@ -60,7 +60,8 @@ pub fn interval(g: i32, r: &Operand<'_>, out: &mut [i32]) -> Result<Shape, Refus
     let shape = Shape::vector(interval_length(&r)?);
     let n = shape.count();
     answer::late(n, out.len())?;
-    count_up(signed::magnitude(g), n, out);
+    let first = signed::magnitude(g);
+    count_up(first, n, out);
     Ok(shape)
 }
 
@@ -78,7 +79,8 @@ fn interval_length(r: &Formed<'_>) -> Result<usize, Refusal>
     if signed::negative(*z) {
         return Err(Refusal::Domain);
     }
-    Ok(signed::magnitude(*z))
+    let length = signed::magnitude(*z);
+    Ok(length)
 }
 
 // The n numbers from `first` up.
@@ -126,7 +128,8 @@ fn reshaped(l: &Formed<'_>) -> Result<Shape, Refusal>
     if !none_negative(lengths) {
         return Err(Refusal::Domain);
     }
-    Ok(shape_from(lengths))
+    let made = shape_from(lengths);
+    Ok(made)
 }
 
 fn none_negative(l: &[i32]) -> bool

@@ -15,7 +15,7 @@ use Rattle.answer.proofs.Order.{early-replied, own-replied, late-replied, given-
 use Rattle.vectors.proofs.Vector.{vector-count, vector-shape, vector-out}
 use Rattle.vectors.proofs.Calls.{ends, interval-names, interval-vector, interval-ready}
 use Rattle.vectors.proofs.interval.Goals as goal
-use Rattle.vectors.proofs.interval.Goals.{After-interval_length, After-vector-shape, After-magnitude}
+use Rattle.vectors.proofs.interval.Goals.{After-interval_length, After-vector-shape, After-magnitude-first}
 
 pub returns-in_err-r : goal.returns-in_err-r
 returns-in_err-r c K L =
@@ -48,10 +48,10 @@ returns-in_err-late c K L =
     (exit c.in_err-late.was c.from_residual-in_err-late.result c.from_residual-in_err-late.ensures.1)
 
 -- G as a number from 0 up.
-first-is : (c : After-magnitude) → c.magnitude.result ≡ nat_abs c.args.g
-first-is c = c.magnitude.ensures ∙ ap nat_abs (read32 _ c.ranges.g)
+first-is : (c : After-magnitude-first) → c.magnitude-first.result ≡ nat_abs c.args.g
+first-is c = c.magnitude-first.ensures ∙ ap nat_abs (read32 _ c.ranges.g)
 
-roomy : (c : After-magnitude) → Roomy c.vector-shape.result (length c.args.out.now)
+roomy : (c : After-magnitude-first) → Roomy c.vector-shape.result (length c.args.out.now)
 roomy c = late-fine _ (sym (asked_ok c.in_ok-late.was) ∙ c.late.ensures) c.count-n.ensures refl
 
 pub count_up-requires : goal.count_up-requires
