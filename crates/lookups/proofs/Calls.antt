@@ -1,28 +1,32 @@
 -- 29 and 30: what they ask, and what they give.
 use mathlib.Core.Path.{◌≡◌, refl, sym, ap, ◌∙◌}
 use mathlib.Core.List.{List, ◌++◌}
-use mathlib.Core.Bool.{true, false, not, cond}
-use Prim.Native.Nat.{ℕ, ◌-◌}
+use mathlib.Core.Bool.{true, false, not, cond, ◌&&◌}
+use native.Mathlib.Omega.{arith}
+use borrow.Author.Tests.{eq-eqb}
+use Prim.Native.Nat.{ℕ, ◌≤◌}
 use lib.Dec.{eqb}
-use lib.ListN.{length, take, drop, get_or}
+use lib.ListN.{length, drop, get_or}
 use lib.IntN.{ℤ, pos, nat_abs, ◌+ℤ◌}
 use Rattle.shape.specs.declared.Shape.{Shape}
-use Rattle.shape.specs.Shape.{counted, count, count_of}
+use Rattle.shape.specs.Shape.{max_count, count, count_of}
+use Rattle.shape.proofs.Bools.{both}
+use Rattle.shape.proofs.Counts.{count-good, count-of}
 use Rattle.shape.proofs.Made.{Stands}
 use Rattle.shape.proofs.Places.{index-place}
-use Rattle.meaning.specs.Array.{Operand, Array, array_of, at, build}
+use Rattle.meaning.specs.Array.{Operand, Array, array_of, good_form, at, build}
 use Rattle.meaning.specs.Refusal.{number, precedence}
 use Rattle.meaning.specs.Refusal.Refusal.{RANK}
 use Rattle.meaning.specs.Terms.{int_same, rank, first_at}
 use Rattle.meaning.specs.Primitives.{index_of, member}
 use Rattle.meaning.specs.Reply.{primitives, named, is_origin}
 use Rattle.meaning.proofs.Tab.{tab-ext}
-use Rattle.meaning.proofs.Arrays.{Whole}
+use Rattle.meaning.proofs.Arrays.{Whole, form-shape, form-whole}
 use Rattle.signed.proofs.Equal.{origin-is}
 use Rattle.copying.specs.Steps.{filled}
-use Rattle.answer.specs.Answer.{lent, own}
-use Rattle.answer.proofs.Lent.{Lent, lent-part, lent-stands}
-use Rattle.answer.proofs.Order.{Names, own_first}
+use Rattle.answer.specs.Answer.{lent, own, early}
+use Rattle.answer.proofs.Lent.{Lent, lent-stands, early-fine}
+use Rattle.answer.proofs.Order.{Names, own_first, Ready}
 use Rattle.lookups.specs.Steps.{entry, entries}
 
 module _ (G K : ℤ) (L R : Operand) where
@@ -69,16 +73,53 @@ module _ (L R : Array) where
   unfolding member entry
   member-out out w f h q = q ∙ rw (f, h) (each L (λ x. entry true 0 (length R.elements) (first_at x R.elements)) out w)
 
+-- The elements of an operand of good form are few.
+pub few : (o : Operand) → good_form o ≡ true → length (array_of o).elements ≤ max_count
+few o h = omega (arith, form-whole o h, count-good o.shape (form-shape o h), count-of o.shape (form-shape o h))
+
+-- What is known of two operands where neither FORM nor ORIGIN was met.
+pub record Both (G : ℤ) (L R : Operand) : Type 0 where
+  pub origin : is_origin G ≡ true
+  pub left : good_form L ≡ true
+  pub right : good_form R ≡ true
+
+pub both-good : (G : ℤ) (L R : Operand) → early (good_form L && good_form R) G ≡ 0 → Both G L R
+both-good G L R h =
+    let f = early-fine G (good_form L && good_form R) h in
+    let t = both (good_form L) (good_form R) f.forms in
+    record { origin = f.origin; left = t.0; right = t.1 }
+
 module _ {s : Shape} {b : List ℤ} (g : Lent s b) where
-  -- The part of a buffer that an operand has.
-  pub part-long : {n : ℕ} → n ≡ count_of s → length (take (n - 0) b) ≡ count (counted s)
-  part-long {n} e = ap length (lent-part s b g n e) ∙ g.whole
+  -- Its count, as a call has it.
+  pub counts : {n : ℕ} → n ≡ length (array_of (lent s b)).elements → n ≡ count_of s
+  counts e = e ∙ g.whole ∙ sym g.count-is
 
   -- Their results have an operand's lengths.
-  pub index-stands : (G : ℤ) (L : Array) → Stands s (index_of G L (array_of (lent s b))).lengths
+  index-stands : (G : ℤ) (L : Array) → Stands s (index_of G L (array_of (lent s b))).lengths
   unfolding index_of
   index-stands G L = lent-stands g
 
-  pub member-stands : (R : Array) → Stands s (member (array_of (lent s b)) R).lengths
+  member-stands : (R : Array) → Stands s (member (array_of (lent s b)) R).lengths
   unfolding member
   member-stands R = lent-stands g
+
+  -- All that is known where 29 and 30 refused nothing of their own.
+  pub index-ready : {G K : ℤ} {L : Operand} → early (good_form L && good_form (lent s b)) G ≡ 0 → rank (array_of L) ≡ 1
+      → Ready 29 2 G K L (lent s b) (index_of G (array_of L) (array_of (lent s b))) s
+  index-ready {G} {K} {L} f e =
+      record {
+        names = index-names G K L (lent s b);
+        fine = f;
+        none = index-own G (array_of L) (array_of (lent s b)) ∙ rw (eq-eqb _ 1 e);
+        stands = index-stands G (array_of L);
+      }
+
+  pub member-ready : {G K : ℤ} {R : Operand} → early (good_form (lent s b) && good_form R) G ≡ 0
+      → Ready 30 2 G K (lent s b) R (member (array_of (lent s b)) (array_of R)) s
+  member-ready {G} {K} {R} f =
+      record {
+        names = member-names G K (lent s b) R;
+        fine = f;
+        none = member-own (array_of (lent s b)) (array_of R);
+        stands = member-stands (array_of R);
+      }

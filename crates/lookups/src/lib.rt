@@ -5,52 +5,37 @@ ghost use Rattle.std.specs.Prelude.{◌≡◌, ◌*◌, ◌≤◌, false, length
 ghost use Rattle.shape.specs.Shape.{max_count};
 ghost use Rattle.meaning.specs.Terms.{first_at};
 ghost use Rattle.meaning.specs.Reply.{reply};
-ghost use Rattle.answer.specs.Answer.{lent, Replied};
+ghost use Rattle.answer.specs.Answer.{Replied};
+ghost use Rattle.answer.specs.Refused.{answered};
 ghost use Rattle.lookups.specs.Steps.{entry, Looks, Entered, AllEntered, Passed, Table};
 
-use answer::{Answer, refusal};
+use answer::{Operand, Refusal};
 use shape::Shape;
 
 mod table;
 
 // 29, whatever K is: it is not looked at.
-pub fn index_of(g: i32, ls: Shape, l: &[i32], rs: Shape, r: &[i32], out: &mut [i32]) -> Answer
-    ensures { (K : ℤ) → Replied result out.new (reply (pos 29) g K (lent ls l.now) (lent rs r.now) out.old) }
+pub fn index_of(g: i32, l: &Operand<'_>, r: &Operand<'_>, out: &mut [i32]) -> Result<Shape, Refusal>
+    ensures { (K : ℤ) → Replied (answered result) out.new (reply (pos 29) g K l.now r.now out.old) }
 {
-    let early = answer::early_two(g, ls, l, rs, r);
-    if early != 0 {
-        return Answer::refused(early);
+    let (l, r) = answer::early_two(g, l, r)?;
+    if l.rank() != 1 {
+        return Err(Refusal::Rank);
     }
-    if ls.rank != 1 {
-        return Answer::refused(refusal::RANK);
-    }
-    let m = rs.count();
-    let late = answer::late(m, out.len());
-    if late != 0 {
-        return Answer::refused(late);
-    }
-    let n = ls.count();
+    answer::late(r.count(), out.len())?;
     let first = signed::magnitude(g);
-    put_each(false, first, &l[0..n], &r[0..m], out);
-    Answer::given(rs.as_result())
+    put_each(false, first, l.elements(), r.elements(), out);
+    Ok(r.shape.as_result())
 }
 
 // 30, whatever K is: it is not looked at.
-pub fn member(g: i32, ls: Shape, l: &[i32], rs: Shape, r: &[i32], out: &mut [i32]) -> Answer
-    ensures { (K : ℤ) → Replied result out.new (reply (pos 30) g K (lent ls l.now) (lent rs r.now) out.old) }
+pub fn member(g: i32, l: &Operand<'_>, r: &Operand<'_>, out: &mut [i32]) -> Result<Shape, Refusal>
+    ensures { (K : ℤ) → Replied (answered result) out.new (reply (pos 30) g K l.now r.now out.old) }
 {
-    let early = answer::early_two(g, ls, l, rs, r);
-    if early != 0 {
-        return Answer::refused(early);
-    }
-    let n = ls.count();
-    let late = answer::late(n, out.len());
-    if late != 0 {
-        return Answer::refused(late);
-    }
-    let m = rs.count();
-    put_each(true, 0, &r[0..m], &l[0..n], out);
-    Answer::given(ls.as_result())
+    let (l, r) = answer::early_two(g, l, r)?;
+    answer::late(l.count(), out.len())?;
+    put_each(true, 0, r.elements(), l.elements(), out);
+    Ok(l.shape.as_result())
 }
 
 // What is written for each element of r, looked for in l: whether l has it, or its first position counted from `first`.
