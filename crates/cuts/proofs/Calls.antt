@@ -1,33 +1,31 @@
 -- 23 and 24: what they ask, and what they give, with the kind open.
-use Prim.Native.Nat.{ℕ, zero, suc, ◌-◌, ◌≤◌}
-use native.Mathlib.Nat.{sub-zero}
+use Prim.Native.Nat.{ℕ, zero, suc, ◌≤◌}
 use native.Mathlib.Omega.{arith}
 use mathlib.Core.Path.{◌≡◌, refl, sym, ap, ap₂, ◌∙◌}
 use mathlib.Core.List.{List, ◌∷◌, ◌++◌}
-use mathlib.Core.Bool.{Bool, true, false, not, cond, ◌||◌}
+use mathlib.Core.Bool.{Bool, true, false, not, cond, ◌||◌, ◌&&◌}
 use borrow.Author.Tests.{eq-eqb, eqb-true, eqb-false}
-use lib.Dec.{eqb, leb}
+use lib.Dec.{eqb}
 use lib.ListN.{length, take, drop, replicate, length-replicate}
-use lib.Seq.{length-take-le}
+use lib.Seq.{length-take-le, take-length}
 use lib.IntN.{ℤ, pos}
 use Rattle.shape.specs.declared.Shape.{Shape}
 use Rattle.shape.specs.Shape.{max_rank, counted, count, count_of, shape_of}
 use Rattle.shape.proofs.Counts.{good-rank, count_ones}
 use Rattle.shape.proofs.Made.{made_counted, Stands, stands-count}
-use Rattle.meaning.specs.Array.{Operand, Array, array_of, tab, build}
+use Rattle.meaning.specs.Array.{Operand, Array, array_of, good_form, tab, build}
 use Rattle.meaning.specs.Refusal.{number, precedence}
 use Rattle.meaning.specs.Refusal.Refusal.{RANK, LENGTH}
 use Rattle.meaning.specs.Terms.{rank, is_list, as_rank, int_same}
 use Rattle.meaning.specs.Primitives.{takes, drops}
 use Rattle.meaning.specs.Reply.{primitives, named}
 use Rattle.meaning.proofs.Scalars.{scalar-as, array-as, scalar-count}
-use Rattle.answer.specs.Answer.{lent, own, accepted}
-use Rattle.answer.specs.declared.Answer.{Answer}
-use Rattle.answer.proofs.Lent.{Lent, lent-good, lent-part}
-use Rattle.answer.proofs.Order.{Names, own_first, Roomy}
+use Rattle.answer.specs.Answer.{lent, own, early}
+use Rattle.answer.proofs.Lent.{Lent}
+use Rattle.answer.proofs.Order.{Names, own_first, Ready, Roomy}
 use Rattle.cuts.specs.declared.CutKind.{CutKind}
 use Rattle.cuts.specs.declared.CutKind.TheVariants.{Take, Drop}
-use Rattle.cuts.specs.Steps.{cut_number, cut_meaning, CutRefusal, read_lengths, cut_lengths, CutShape, table_of, cut_at, Parts}
+use Rattle.cuts.specs.Steps.{cut_number, cut_meaning, read_lengths, cut_lengths, CutShape, table_of, cut_at, Parts}
 use Rattle.cuts.proofs.Building.{lengths-long}
 use Rattle.cuts.proofs.Bridges.{read, cut-lengths, cut-elements}
 
@@ -50,10 +48,6 @@ unfolding takes drops
 in-turn Take L R = own_first 23 _ (cut-names Take (pos 0) (pos 0) L R).own
 in-turn Drop L R = own_first 24 _ (cut-names Drop (pos 0) (pos 0) L R).own
 
--- The same by the shapes alone: a scalar has as many axes as L has numbers.
-abbrev pub by_shapes : Shape → Shape → ℕ
-by_shapes ls rs = cond (not (leb ls.rank 1)) (number RANK) (cond (not (eqb rs.rank 0 || eqb (count_of ls) rs.rank)) (number LENGTH) 0)
-
 rank_as : (n : ℕ) (a : Array) → eqb n (rank (as_rank n a)) ≡ (eqb (rank a) 0 || eqb n (rank a))
 rank_as n a = by (eqb (rank a) 0)
   where
@@ -61,13 +55,13 @@ rank_as n a = by (eqb (rank a) 0)
     by true = eq-eqb n (length (replicate {A = ℕ} n 1)) (sym (length-replicate n 1))
     by false = refl
 
-pub by-shapes : (ls rs : Shape) → length ls.lens ≡ max_rank → length rs.lens ≡ max_rank → CutRefusal ls rs (by_shapes ls rs)
-by-shapes ls rs a b kind l r f h =
-    let gl = lent-good ls l a f in
-    let gr = lent-good rs r b h in
-    sym (in-turn kind (lent ls l) (lent rs r)
-    ∙ ap₂ (λ x t. cond (not (leb x 1)) (number RANK) (cond (not t) (number LENGTH) 0)) gl.rank_is
-    (rank_as (length (array ls l).elements) (array rs r) ∙ ap₂ (λ x y. eqb x 0 || eqb y x) gr.rank_is (gl.whole ∙ sym gl.count-is)))
+-- A scalar has as many axes as L has numbers.
+pub cut-own : (kind : CutKind) (L R : Operand) → own (cut_number kind) (cut_meaning kind (array_of L) (array_of R)).refusals
+    ≡ cond (not (is_list (array_of L))) (number RANK)
+    (cond (not (eqb (rank (array_of R)) 0 || eqb (length (array_of L).elements) (rank (array_of R)))) (number LENGTH) 0)
+cut-own kind L R =
+    in-turn kind L R
+    ∙ ap (λ t. cond (not (is_list (array_of L))) (number RANK) (cond (not t) (number LENGTH) 0)) (rank_as (length (array_of L).elements) (array_of R))
 
 -- Neither was met.
 pub cut_fits : (kind : CutKind) (L R : Operand) → own (cut_number kind) (cut_meaning kind (array_of L) (array_of R)).refusals ≡ 0
@@ -92,31 +86,30 @@ ones-front zero m h = refl
 ones-front (suc k) zero h = absurd (omega arith)
 ones-front (suc k) (suc m) h = ap (λ ns. 1 ∷ ns) (ones-front k m (omega arith))
 
--- What is known where nothing before LIMIT was met: L has k numbers, lens are R's lengths as they are read, and s is the result's shape.
-pub record Cuts (kind : CutKind) (ls rs : Shape) (l r : List ℤ) (k : ℕ) (lens : List ℕ) (s : Shape) : Type 0 where
-  pub left : Lent ls l
+-- What is known where nothing before LIMIT was met: zs are L's numbers, lens are R's lengths as they are read, and s is the result's shape.
+pub record Cuts (kind : CutKind) (L : Array) (rs : Shape) (r : List ℤ) (zs : List ℤ) (lens : List ℕ) (s : Shape) : Type 0 where
   pub right : Lent rs r
-  pub fit : length (array ls l).elements ≡ rank (read (array ls l) (array rs r))
-  pub numbers : k ≡ count_of ls
+  pub fit : length L.elements ≡ rank (read L (array rs r))
+  pub numbers : zs ≡ L.elements
   pub lens-are : lens ≡ read_lengths rs
-  pub shape : CutShape kind k lens l s
+  pub shape : CutShape kind (length zs) lens zs s
 
-module _ {kind : CutKind} {ls rs : Shape} {l r : List ℤ} {k : ℕ} {lens : List ℕ} {s : Shape} (g : Cuts kind ls rs l r k lens s) where
-  abbrev L : Array
-  L = array ls l
-
+module _ {kind : CutKind} {L : Array} {rs : Shape} {r zs : List ℤ} {lens : List ℕ} {s : Shape} (g : Cuts kind L rs r zs lens s) where
   abbrev R : Array
   R = array rs r
+
+  abbrev k : ℕ
+  k = length zs
 
   -- The lengths of the result.
   abbrev ms : List ℕ
   ms = (cut_meaning kind L R).lengths
 
   so-many : length L.elements ≡ k
-  so-many = g.left.whole ∙ sym g.left.count-is ∙ sym g.numbers
+  so-many = ap length (sym g.numbers)
 
-  numbers-read : take k l ≡ L.elements
-  numbers-read = ap (λ x. take x l) (g.numbers ∙ g.left.count-is)
+  numbers-read : take k zs ≡ L.elements
+  numbers-read = take-length zs ∙ g.numbers
 
   -- If a shape can have so many.
   lens-read : k ≤ max_rank → take k lens ≡ (read L R).lengths
@@ -132,7 +125,7 @@ module _ {kind : CutKind} {ls rs : Shape} {l r : List ℤ} {k : ℕ} {lens : Lis
           let same : read L R ≡ R = array-as (length L.elements) R (omega (arith, g.right.rank_is)) in
           ap (λ x. take x rs.lens) (sym so-many ∙ g.fit ∙ ap rank same ∙ g.right.rank_is) ∙ sym (ap (λ a. a.lengths) same)
 
-  lengths-are : k ≤ max_rank → cut_lengths kind (take k l) (take k lens) ≡ ms
+  lengths-are : k ≤ max_rank → cut_lengths kind (take k zs) (take k lens) ≡ ms
   lengths-are h = ap₂ (cut_lengths kind) numbers-read (lens-read h) ∙ sym (cut-lengths L R g.fit kind)
 
   shape_is : k ≤ max_rank → s ≡ shape_of ms
@@ -145,26 +138,23 @@ module _ {kind : CutKind} {ls rs : Shape} {l r : List ℤ} {k : ℕ} {lens : Lis
   }
 
   -- Neither LIMIT nor SPACE was met: R's elements and as much of the output as the result counts are handed on.
-  module _ (out : List ℤ) (room : Roomy s (length out)) {src c : ℕ} (a : src ≡ count_of rs) (b : c ≡ count_of s) where
+  module _ (out : List ℤ) (room : Roomy s (length out)) {src : List ℤ} {c : ℕ} (a : src ≡ R.elements) (b : c ≡ count_of s) where
     high : k ≤ max_rank
     high = omega (arith, g.shape.rank_is, good-rank s room.good)
 
     count-is : c ≡ count ms
     count-is = b ∙ stands-count stands room.good
 
-    source_is : take (src - 0) r ≡ R.elements
-    source_is = lent-part rs r g.right src a
+    source-long : length src ≡ count (counted rs)
+    source-long = ap length a ∙ g.right.whole
 
-    source-long : length (take (src - 0) r) ≡ count (counted rs)
-    source-long = ap length source_is ∙ g.right.whole
+    pub out-long : length (take c out) ≡ c
+    out-long = length-take-le c out (omega (arith, b, room.space))
 
-    out-long : length (take (c - 0) out) ≡ c
-    out-long = ap (λ x. length (take x out)) (sub-zero c) ∙ length-take-le c out (omega (arith, b, room.space))
-
-    pub parts : Parts kind k lens s.lens l (length (take (src - 0) r)) (length (take (c - 0) out))
+    pub parts : Parts kind k lens s.lens zs (length src) (length (take c out))
     parts = record {
       high = high;
-      enough = omega (arith, g.numbers, g.left.count-is, g.left.room);
+      enough = omega arith;
       made = ap (λ x. take x s.lens) (sym g.shape.rank_is) ∙ ap counted (shape_is high) ∙ made_counted ms ∙ sym (lengths-are high);
       source = source-long ∙ sym (ap count (lens-read high) ∙ count-as (length L.elements) R);
       small = omega (arith, source-long, g.right.count_small);
@@ -172,11 +162,15 @@ module _ {kind : CutKind} {ls rs : Shape} {l r : List ℤ} {k : ℕ} {lens : Lis
       limit = omega (arith, out-long, b, room.small);
     }
 
-    pub given_is : {x : Answer} → x ≡ accepted s → x ≡ accepted (shape_of ms)
-    given_is e = e ∙ ap accepted (shape_is high)
+    pub given_is : s ≡ shape_of ms
+    given_is = shape_is high
 
-    pub out-is : {last : List ℤ} → last ≡ tab (length (take (c - 0) out)) (cut_at (table_of kind (take k l) (take k lens)) (take (src - 0) r) 0)
-        → last ++ drop (c - 0) out ≡ (build ms (cut_meaning kind L R).element).elements ++ drop (count ms) out
+    pub out-is : {last : List ℤ} → last ≡ tab (length (take c out)) (cut_at (table_of kind (take k zs) (take k lens)) src 0)
+        → last ++ drop c out ≡ (build ms (cut_meaning kind L R).element).elements ++ drop (count ms) out
     out-is q =
-        ap₂ (λ x y. x ++ drop y out) (rw (out-long ∙ count-is, numbers-read, lens-read high, source_is, ← cut-elements L R g.fit kind) at q)
-        (sub-zero c ∙ count-is)
+        ap₂ (λ x y. x ++ drop y out) (rw (out-long ∙ count-is, numbers-read, lens-read high, a, ← cut-elements L R g.fit kind) at q) count-is
+
+pub cut-ready : {kind : CutKind} {G K : ℤ} {L : Operand} {rs : Shape} {r zs : List ℤ} {lens : List ℕ} {s : Shape} → Cuts kind (array_of L) rs r zs lens s
+    → early (good_form L && good_form (lent rs r)) G ≡ 0 → own (cut_number kind) (cut_meaning kind (array_of L) (array_of (lent rs r))).refusals ≡ 0
+    → Ready (cut_number kind) 2 G K L (lent rs r) (cut_meaning kind (array_of L) (array_of (lent rs r))) s
+cut-ready {kind} {G} {K} {L} {rs} {r} g f n = record { names = cut-names kind G K L (lent rs r); fine = f; none = n; stands = stands g }

@@ -1,15 +1,14 @@
 -- What the contracts of private functions cite: 23 and 24 by their kind, a window on each axis, and what a result holds through it.
-use Rattle.std.specs.Prelude.{ℕ, ◌+◌, ◌*◌, ◌-◌, ◌/◌, ◌%◌, ◌<◌, ◌≤◌, min, ◌≡◌, List, [], ◌∷◌, Bool, true, false, not, cond, ◌&&◌, length, get_or, take}
+use Rattle.std.specs.Prelude.{ℕ, ◌+◌, ◌*◌, ◌-◌, ◌/◌, ◌%◌, ◌<◌, ◌≤◌, min, ◌≡◌, List, [], ◌∷◌, Bool, false, not, cond, ◌&&◌, length, get_or, take}
 use Rattle.std.specs.Prelude.{replicate, eqb, leb, ltb, ℤ, pos, nat_abs}
 use Rattle.shape.specs.Shape.{max_rank, max_count, count, shape_of}
 use Rattle.shape.specs.declared.Shape.{Shape}
 use Rattle.cuts.specs.declared.CutKind.{CutKind}
 use Rattle.cuts.specs.declared.CutKind.TheVariants.{Take, Drop}
 use Rattle.cuts.specs.declared.Window.{Window}
-use Rattle.meaning.specs.Array.{Array, array_of, good_form}
+use Rattle.meaning.specs.Array.{Array}
 use Rattle.meaning.specs.Terms.{negative}
 use Rattle.meaning.specs.Primitives.{Meaning, takes, drops}
-use Rattle.answer.specs.Answer.{lent, own}
 
 -- 23 and 24.
 abbrev pub cut_number : CutKind → ℕ
@@ -19,11 +18,6 @@ cut_number Drop = 24
 abbrev pub cut_meaning : CutKind → Array → Array → Meaning
 cut_meaning Take L R = takes L R
 cut_meaning Drop L R = drops L R
-
--- n is what RANK and LENGTH come to, of either kind: they are asked of the shapes alone, whatever the buffers hold.
-abbrev pub CutRefusal : Shape → Shape → ℕ → Type 0
-CutRefusal ls rs n = (kind : CutKind) (l r : List ℤ) → good_form (lent ls l) ≡ true → good_form (lent rs r) ≡ true
-    → n ≡ own (cut_number kind) (cut_meaning kind (array_of (lent ls l)) (array_of (lent rs r))).refusals
 
 -- The lengths of R, a scalar's read as ones.
 abbrev pub read_lengths : Shape → List ℕ

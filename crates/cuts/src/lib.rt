@@ -1,29 +1,30 @@
 // Take and drop: on each axis of the result a window of R's positions, and zeros outside it.
 #![tactic(auto)]
 
-ghost use Rattle.std.specs.Prelude.{◌≡◌, true, ◌-◌, ◌*◌, ◌≤◌, ◌<◌, ℤ, pos, length, take, drop};
+ghost use Rattle.std.specs.Prelude.{◌≡◌, true, ◌-◌, ◌*◌, ◌≤◌, ◌<◌, ℤ, pos, length, take, drop, IfOk};
 ghost use Rattle.shape.specs.Shape.{max_rank};
-ghost use Rattle.meaning.specs.Array.{tab};
+ghost use Rattle.meaning.specs.Array.{array_of, tab};
 ghost use Rattle.meaning.specs.Reply.{reply};
-ghost use Rattle.answer.specs.Answer.{lent, Replied};
-ghost use Rattle.cuts.specs.Steps.{cut_number, CutRefusal, read_lengths, cut_length, keeps_end, CutShape, window_of, table_of, cut_at};
+ghost use Rattle.answer.specs.Answer.{own, Replied};
+ghost use Rattle.answer.specs.Refused.{asked, answered};
+ghost use Rattle.cuts.specs.Steps.{cut_number, cut_meaning, read_lengths, cut_length, keeps_end, CutShape, window_of, table_of, cut_at};
 ghost use Rattle.cuts.specs.Steps.{Fitting, Blank, Nonempty, Parts};
 
-use answer::{Answer, refusal};
+use answer::{Formed, Operand, Refusal};
 use shape::Shape;
 
 // 23, whatever K is: it is not looked at.
-pub fn take(g: i32, ls: Shape, l: &[i32], rs: Shape, r: &[i32], out: &mut [i32]) -> Answer
-    ensures { (K : ℤ) → Replied result out.new (reply (pos 23) g K (lent ls l.now) (lent rs r.now) out.old) }
+pub fn take(g: i32, l: &Operand<'_>, r: &Operand<'_>, out: &mut [i32]) -> Result<Shape, Refusal>
+    ensures { (K : ℤ) → Replied (answered result) out.new (reply (pos 23) g K l.now r.now out.old) }
 {
-    take_or_drop(CutKind::Take, g, ls, l, rs, r, out)
+    take_or_drop(CutKind::Take, g, l, r, out)
 }
 
 // 24, whatever K is: it is not looked at.
-pub fn drop(g: i32, ls: Shape, l: &[i32], rs: Shape, r: &[i32], out: &mut [i32]) -> Answer
-    ensures { (K : ℤ) → Replied result out.new (reply (pos 24) g K (lent ls l.now) (lent rs r.now) out.old) }
+pub fn drop(g: i32, l: &Operand<'_>, r: &Operand<'_>, out: &mut [i32]) -> Result<Shape, Refusal>
+    ensures { (K : ℤ) → Replied (answered result) out.new (reply (pos 24) g K l.now r.now out.old) }
 {
-    take_or_drop(CutKind::Drop, g, ls, l, rs, r, out)
+    take_or_drop(CutKind::Drop, g, l, r, out)
 }
 
 // What L's numbers say of an axis: how many positions are taken, or how many are dropped.
@@ -36,52 +37,45 @@ enum CutKind {
 fn take_or_drop(
     kind: CutKind,
     g: i32,
-    ls: Shape,
-    l: &[i32],
-    rs: Shape,
-    r: &[i32],
+    l: &Operand<'_>,
+    r: &Operand<'_>,
     out: &mut [i32],
-) -> Answer
-    ensures { (K : ℤ)
-        → Replied result out.new (reply (pos (cut_number kind)) g K (lent ls l.now) (lent rs r.now) out.old) }
+) -> Result<Shape, Refusal>
+    ensures { (K : ℤ) → Replied (answered result) out.new (reply (pos (cut_number kind)) g K l.now r.now out.old) }
 {
-    let early = answer::early_two(g, ls, l, rs, r);
-    if early != 0 {
-        return Answer::refused(early);
-    }
-    let own = cut_refusal(ls, rs);
-    if own != 0 {
-        return Answer::refused(own);
-    }
-    let rank = ls.count();
-    let lens = read_lengths(rs);
-    let shape = cut_shape(kind, rank, lens, l);
+    let (l, r) = answer::early_two(g, l, r)?;
+    let numbers = cut_numbers(kind, &l, &r)?;
+    let rank = numbers.len();
+    let lens = read_lengths(r.shape);
+    let shape = cut_shape(kind, rank, lens, numbers);
     let count = shape.count();
-    let late = answer::late(count, out.len());
-    if late != 0 {
-        return Answer::refused(late);
-    }
-    let n = rs.count();
-    let result = shape.lens;
-    fill(kind, rank, lens, result, l, &r[0..n], &mut out[0..count]);
-    Answer::given(shape)
+    answer::late(count, out.len())?;
+    fill(
+        kind,
+        rank,
+        lens,
+        shape.lens,
+        numbers,
+        r.elements(),
+        &mut out[..count],
+    );
+    Ok(shape)
 }
 
-// RANK and LENGTH: L is a list with one number for each axis of R, and a scalar R has as many as L has numbers.
-fn cut_refusal(ls: Shape, rs: Shape) -> usize
-    ensures { CutRefusal ls rs result }
+// RANK and LENGTH: L is a list with one number for each axis of R, and a scalar R has as many as L has numbers. Or else L's numbers.
+fn cut_numbers<'a>(kind: CutKind, l: &Formed<'a>, r: &Formed<'_>) -> Result<&'a [i32], Refusal>
+    ensures number { asked result
+        ≡ own (cut_number kind) (cut_meaning kind (array_of l.now) (array_of r.now)).refusals }
+    ensures numbers { IfOk result (λ zs. zs.now ≡ (array_of l.now).elements) }
 {
-    if 1 < ls.rank {
-        return refusal::RANK;
+    if !l.is_list() {
+        return Err(Refusal::Rank);
     }
-    if rs.rank == 0 {
-        return 0;
+    let numbers = l.elements();
+    if r.rank() != 0 && numbers.len() != r.rank() {
+        return Err(Refusal::Length);
     }
-    if ls.count() == rs.rank {
-        0
-    } else {
-        refusal::LENGTH
-    }
+    Ok(numbers)
 }
 
 // The lengths of R, a scalar's read as ones.
