@@ -1,28 +1,33 @@
 -- A call of 27 or 28: what it asks, and what it gives.
 use mathlib.Core.Path.{◌≡◌, refl, sym, ap, ap₂, ◌∙◌}
 use mathlib.Core.List.{List, [], ◌∷◌, ◌++◌}
-use mathlib.Core.Bool.{Bool, true, false, not, cond, ◌||◌, or-true}
-use Prim.Native.Nat.{ℕ, ◌-◌, ◌≤◌, ◌<◌}
+use mathlib.Core.Bool.{Bool, true, false, not, cond, ◌&&◌, ◌||◌, or-true}
+use Prim.Native.Nat.{ℕ, ◌≤◌, ◌<◌}
 use native.Mathlib.Omega.{arith}
 use borrow.Author.Tests.{eq-eqb, eqb-true, not-false}
-use lib.ListN.{length, get_or, take, drop, set, replicate, length-replicate}
+use lib.ListN.{length, get_or, drop, set, replicate, length-replicate}
 use lib.Seq.{get_or-take}
 use lib.Dec.{eqb}
 use lib.IntN.{ℤ, pos, ◌-ℤ◌}
+use Rattle.std.specs.Prelude.{Result, Ok, Err}
+use Rattle.std.specs.Result.{result_and}
 use Rattle.shape.specs.declared.Shape.{Shape}
-use Rattle.shape.specs.Shape.{max_rank, counted, count, count_of, good_shape, shape_of, with_length}
+use Rattle.shape.specs.Shape.{max_rank, counted, count, count_of, shape_of, with_length}
 use Rattle.shape.proofs.Bools.{no_way}
 use Rattle.shape.proofs.Made.{with-length-is, made-stands, stands-count}
-use Rattle.meaning.specs.Array.{Operand, Array, array_of, build}
-use Rattle.meaning.specs.Refusal.{Rule, ◌unless◌, precedence, winner, meets}
-use Rattle.meaning.specs.Refusal.Refusal.{RANK, AXIS, LENGTH}
-use Rattle.meaning.specs.Terms.{rank, axis, as_vector, is_list, within, from_zero, int_same}
+use Rattle.meaning.specs.Array.{Operand, Array, array_of, good_form, build}
+use Rattle.meaning.specs.Refusal.{Rule, ◌unless◌, number, precedence, winner, meets}
+use Rattle.meaning.specs.Refusal.Refusal.{RANK, AXIS, LENGTH, DOMAIN}
+use Rattle.meaning.specs.Terms.{rank, axis, as_vector, is_list, within, from_zero, int_same, every, is_bit}
 use Rattle.meaning.specs.Primitives.{Meaning, compress, expand}
 use Rattle.meaning.specs.Reply.{primitives, named}
 use Rattle.meaning.proofs.Positions.{within-below}
-use Rattle.meaning.proofs.Winner.{neither, unmet, first_met, or_else, first-append}
-use Rattle.answer.specs.Answer.{lent, own}
-use Rattle.answer.proofs.Lent.{Lent, lent-part, rank-of, FineTwo}
+use Rattle.meaning.proofs.Winner.{neither, unmet, first_met, or_else, else-first, first-append}
+use Rattle.answer.specs.Answer.{lent, WellFormed, early, own}
+use Rattle.answer.specs.Refused.{meant, asked}
+use Rattle.answer.specs.declared.refusal.Refusal as code
+use Rattle.answer.proofs.Exits.{number-some}
+use Rattle.answer.proofs.Lent.{Lent, formed, rank-of}
 use Rattle.answer.proofs.Order.{Names, Own, own_first, Ready, Roomy}
 use Rattle.masks.specs.declared.Action.{Action}
 use Rattle.masks.specs.declared.Action.TheVariants.{Compress, Expand}
@@ -31,11 +36,44 @@ use Rattle.masks.specs.Steps.Actions.{mask_element, Masked}
 use Rattle.masks.proofs.Vectors.{read-good, read-long, read-lent, read-array, read-alone}
 
 -- In turn: L is a list, K names an axis, and what the mask can meet.
-abbrev pub asked : Action → Bool → Bool → List Rule → ℕ
-asked a list inside rules = or_else (first_met (RANK unless list ∷ AXIS unless inside ∷ [])) (own (action_number a) rules)
+abbrev pub mask_order : Action → Bool → Bool → List Rule → ℕ
+mask_order a list inside rules = or_else (first_met (RANK unless list ∷ AXIS unless inside ∷ [])) (own (action_number a) rules)
 
 in-turn : (n : ℕ) (front rest : List Rule) → Own n (front ++ rest) → Own n rest → own n (front ++ rest) ≡ or_else (first_met front) (own n rest)
 in-turn n front rest h k = own_first n (front ++ rest) h ∙ first-append front rest ∙ ap (or_else (first_met front)) (sym (own_first n rest k))
+
+-- What the two tests of a mask come to: 27 asks LENGTH first, 28 DOMAIN.
+abbrev mask-asks : Action → Bool → Bool → ℕ
+mask-asks a fits bits = own (action_number a) (LENGTH unless fits ∷ DOMAIN unless bits ∷ [])
+
+compress-turn : (f d : Bool) → or_else (cond f 0 (number LENGTH)) (cond d 0 (number DOMAIN)) ≡ mask-asks Compress f d
+unfolding precedence winner meets
+compress-turn true true = refl
+compress-turn true false = refl
+compress-turn false d = refl
+
+expand-turn : (f d : Bool) → or_else (cond d 0 (number DOMAIN)) (cond f 0 (number LENGTH)) ≡ mask-asks Expand f d
+unfolding precedence winner meets
+expand-turn true true = refl
+expand-turn false true = refl
+expand-turn true false = refl
+expand-turn false false = refl
+
+module _ {a : Action} {f d : Bool} (repeated : Bool) (l : List ℤ) (n : ℕ) (fits : f ≡ mask_fits a repeated l n) (bits : d ≡ every is_bit l) where
+  told : {x : Action} → a ≡ x → mask-asks x f d ≡ own (action_number a) (mask_rules a repeated l n)
+  told is = ap (λ (y : Action). mask-asks y f d) (sym is) ∙ ap₂ (mask-asks a) fits bits
+
+  pub compress-told : a ≡ Compress → or_else (cond f 0 (number LENGTH)) (cond d 0 (number DOMAIN)) ≡ own (action_number a) (mask_rules a repeated l n)
+  compress-told is = compress-turn f d ∙ told is
+
+  pub expand-told : a ≡ Expand → or_else (cond d 0 (number DOMAIN)) (cond f 0 (number LENGTH)) ≡ own (action_number a) (mask_rules a repeated l n)
+  expand-told is = expand-turn f d ∙ told is
+
+-- Two tests, one after the other.
+pub and-asked : {A B : Type 0} (x : Result A code.Refusal) (y : Result B code.Refusal) → asked (result_and x y) ≡ or_else (asked x) (asked y)
+unfolding asked
+and-asked (Ok u) y = refl
+and-asked (Err e) y = sym (else-first (number (meant e)) _ (number-some e))
 
 -- What is known where nothing of that is met.
 pub record Accepts (a : Action) (repeated inside : Bool) (l : List ℤ) (n : ℕ) : Type 0 where
@@ -61,8 +99,8 @@ module _ (G K : ℤ) (L R : Operand) where
   mask-names Expand = record { number = refl; arity = refl; meaning = refl; own = refl }
 
   -- What it asks, in turn, and what the result is.
-  masking-own : (a : Action) → own (action_number a) (masking a G K (array_of L) (array_of R)).refusals
-      ≡ asked a (is_list (array_of L)) (within (K -ℤ G) (rank w)) (mask_rules a (repeats a (rank (array_of R))) l (axis w (from_zero G K)))
+  pub masking-own : (a : Action) → own (action_number a) (masking a G K (array_of L) (array_of R)).refusals
+      ≡ mask_order a (is_list (array_of L)) (within (K -ℤ G) (rank w)) (mask_rules a (repeats a (rank (array_of R))) l (axis w (from_zero G K)))
   unfolding masking compress expand mask_fits precedence winner meets
   masking-own Compress = in-turn 27 first (drop 2 (masking Compress G K (array_of L) (array_of R)).refusals) (mask-names Compress).own refl
   masking-own Expand = in-turn 28 first (drop 2 (masking Expand G K (array_of L) (array_of R)).refusals) (mask-names Expand).own refl
@@ -85,17 +123,18 @@ module _ (G K : ℤ) (L R : Operand) where
   masking-element Expand = refl
 
 -- What it asks, by the shape s that R is read with.
-pub mask-own : (a : Action) (G K : ℤ) (L : Operand) (rs : Shape) {s : Shape} (b : List ℤ) → s ≡ vector_shape rs → length rs.lens ≡ max_rank
-    → good_shape rs ≡ true → own (action_number a) (masking a G K (array_of L) (array_of (lent rs b))).refusals
-    ≡ asked a (is_list (array_of L)) (within (K -ℤ G) s.rank) (mask_rules a (repeats a rs.rank) (array_of L).elements (get_or (counted s) (from_zero G K) 0))
-mask-own a G K L rs {s} b read long good =
-    let h : rank (array_of (lent rs b)) ≡ rs.rank = rank-of rs b long good in
+pub mask-own : (a : Action) (G K : ℤ) (L : Operand) {R : Operand} {rs s : Shape} {b : List ℤ} → WellFormed rs b → lent rs b ≡ R → s ≡ vector_shape rs
+    → own (action_number a) (masking a G K (array_of L) (array_of R)).refusals
+    ≡ mask_order a (is_list (array_of L)) (within (K -ℤ G) s.rank) (mask_rules a (repeats a rs.rank) (array_of L).elements (get_or (counted s) (from_zero G K) 0))
+mask-own a G K L {R} {rs} {s} {b} f v read =
+    let g = formed f in
     let k : ℕ = from_zero G K in
     let rules : ℕ → ℕ → List Rule = λ n m. mask_rules a (repeats a n) (array_of L).elements m in
-    masking-own G K L (lent rs b) a
-    ∙ ap₂ (λ (w : Array) n. asked a (is_list (array_of L)) (within (K -ℤ G) (rank w)) (rules n (axis w k))) (read-array rs read b h) h
-    ∙ ap (λ n. asked a (is_list (array_of L)) (within (K -ℤ G) n) (rules rs.rank (get_or (counted s) k 0)))
-    (rank-of s b (read-long rs read long) (read-good rs read good))
+    ap (λ o. own (action_number a) (masking a G K (array_of L) (array_of o)).refusals) (sym v)
+    ∙ masking-own G K L (lent rs b) a
+    ∙ ap₂ (λ (w : Array) n. mask_order a (is_list (array_of L)) (within (K -ℤ G) (rank w)) (rules n (axis w k))) (read-array rs read b g.rank_is) g.rank_is
+    ∙ ap (λ n. mask_order a (is_list (array_of L)) (within (K -ℤ G) n) (rules rs.rank (get_or (counted s) k 0)))
+    (rank-of s b (read-long rs read g.long) (read-good rs read g.good))
 
 -- A mask that fits suits the axis with an element for each position.
 mask-suits : (a : Action) (l : List ℤ) (n : ℕ) → mask_fits a false l n ≡ true → suits a (mask_of a l n) n ≡ true
@@ -115,23 +154,18 @@ alike : (P : List ℤ → ℕ → Array → ℕ → Type 0) {l l' : List ℤ} {n
     → P l n w k → P l' n' w' k'
 alike P e f g h p = rw (e, f, g, h) at p
 
--- What is known of a call where FORM, ORIGIN and its own refusals are not met: s is the shape that R is read with, c the mask's count.
-pub record Known (a : Action) (G K : ℤ) (ls rs : Shape) (l r : List ℤ) (s : Shape) (axis c : ℕ) : Type 0 where
-  pub fine : FineTwo G ls l rs r
-  pub none : own (action_number a) (masking a G K (array_of (lent ls l)) (array_of (lent rs r))).refusals ≡ 0
+-- What is known of a call where FORM, ORIGIN and its own refusals are not met: s is the shape that R is read with, l the mask.
+pub record Known (a : Action) (G K : ℤ) (L : Operand) (rs : Shape) (l r : List ℤ) (s : Shape) (axis : ℕ) : Type 0 where
+  pub fine : early (good_form L && good_form (lent rs r)) G ≡ 0
+  pub right : Lent rs r
+  pub none : own (action_number a) (masking a G K (array_of L) (array_of (lent rs r))).refusals ≡ 0
   pub read : s ≡ vector_shape rs
   pub axis-is : axis ≡ from_zero G K
-  pub count-is : c ≡ count_of ls
+  pub mask : l ≡ (array_of L).elements
 
-module _ {a : Action} {G K : ℤ} {ls rs : Shape} {l r : List ℤ} {s : Shape} {axis c : ℕ} (d : Known a G K ls rs l r s axis c) where
-  abbrev left : Operand
-  left = lent ls l
-
+module _ {a : Action} {G K : ℤ} {L : Operand} {rs : Shape} {l r : List ℤ} {s : Shape} {axis : ℕ} (d : Known a G K L rs l r s axis) where
   abbrev given : Meaning
-  given = masking a G K (array_of (lent ls l)) (array_of (lent rs r))
-
-  abbrev mask : List ℤ
-  mask = take (c - 0) l
+  given = masking a G K (array_of L) (array_of (lent rs r))
 
   abbrev right : Array
   right = array_of (lent s r)
@@ -140,20 +174,20 @@ module _ {a : Action} {G K : ℤ} {ls rs : Shape} {l r : List ℤ} {s : Shape} {
   rep = repeats a rs.rank
 
   good : Lent s r
-  good = read-lent rs d.read r d.fine.right
+  good = read-lent rs d.read r d.right
 
   -- The mask, R and its rank, and the axis, as the program sees them.
   seen : (P : List ℤ → ℕ → Array → ℕ → Type 0)
-      → P (array_of (lent ls l)).elements (rank (array_of (lent rs r))) (as_vector (array_of (lent rs r))) (from_zero G K)
-      → P mask rs.rank right axis
+      → P (array_of L).elements (rank (array_of (lent rs r))) (as_vector (array_of (lent rs r))) (from_zero G K)
+      → P l rs.rank right axis
   seen P x =
-      let h = d.fine.right.rank_is in
-      alike P (sym (lent-part ls l d.fine.left c d.count-is)) h (read-array rs d.read r h) (sym d.axis-is) x
+      let h = d.right.rank_is in
+      alike P (sym d.mask) h (read-array rs d.read r h) (sym d.axis-is) x
 
-  known : Accepts a rep (within (K -ℤ G) (rank right)) mask (get_or (counted s) axis 0)
+  known : Accepts a rep (within (K -ℤ G) (rank right)) l (get_or (counted s) axis 0)
   known =
       seen (λ l n w k. Accepts a (repeats a n) (within (K -ℤ G) (rank w)) l (get_or w.lengths k 0))
-      (accepts G K left (lent rs r) a d.none)
+      (accepts G K L (lent rs r) a d.none)
 
   pub known-has : axis < s.rank
   known-has = within-below _ _ _ _ good.rank_is d.axis-is known.has
@@ -162,29 +196,29 @@ module _ {a : Action} {G K : ℤ} {ls rs : Shape} {l r : List ℤ} {s : Shape} {
   known-high = good.high
 
   -- The result has m positions, by what `width_of` answered.
-  module _ {m : ℕ} (w : m ≡ width a (mask_of a mask (get_or s.lens axis 0))) where
-    wide : m ≡ width a (mask_of a mask (get_or (counted s) axis 0))
-    wide = w ∙ ap (λ n. width a (mask_of a mask n)) (sym (get_or-take s.rank s.lens axis 0 known-has))
+  module _ {m : ℕ} (w : m ≡ width a (mask_of a l (get_or s.lens axis 0))) where
+    wide : m ≡ width a (mask_of a l (get_or (counted s) axis 0))
+    wide = w ∙ ap (λ n. width a (mask_of a l n)) (sym (get_or-take s.rank s.lens axis 0 known-has))
 
     lengths-are : given.lengths ≡ set (counted s) axis m
     lengths-are =
         seen (λ l n w k. given.lengths ≡ set w.lengths k (width a (mask_of a l (get_or w.lengths k 0))))
-        (masking-lengths G K left (lent rs r) a)
+        (masking-lengths G K L (lent rs r) a)
         ∙ ap (set (counted s) axis) (sym wide)
 
     module _ {shape : Shape} (made : shape ≡ with_length s axis m) where
       pub shape_is : shape ≡ shape_of given.lengths
       shape_is = made ∙ with-length-is s axis m good.high known-has ∙ ap shape_of (sym lengths-are)
 
-      pub known-ready : Ready (action_number a) 2 G K left (lent rs r) (given) shape
+      pub known-ready : Ready (action_number a) 2 G K L (lent rs r) (given) shape
       known-ready =
-          record { names = mask-names G K left (lent rs r) a; fine = d.fine.none; none = d.none; stands = made-stands shape _ shape_is }
+          record { names = mask-names G K L (lent rs r) a; fine = d.fine; none = d.none; stands = made-stands shape _ shape_is }
 
       module _ {total room : ℕ} (t : total ≡ count_of shape) (roomy : Roomy shape room) where
         whole : count given.lengths ≡ total
         whole = sym (t ∙ stands-count known-ready.stands roomy.good)
 
-        pub known-masked : Masked a rep mask s axis m total r room
+        pub known-masked : Masked a rep l s axis m total r room
         known-masked = record {
           form = good.form;
           has = known-has;
@@ -192,13 +226,13 @@ module _ {a : Action} {G K : ℤ} {ls rs : Shape} {l r : List ℤ} {s : Shape} {
           small = omega (arith, roomy.small);
           space = omega (arith, roomy.space);
           wide = wide;
-          fitting = λ e. mask-suits a mask _ (ap (λ x. mask_fits a x mask (get_or (counted s) axis 0)) (sym e) ∙ known.fitting);
+          fitting = λ e. mask-suits a l _ (ap (λ x. mask_fits a x l (get_or (counted s) axis 0)) (sym e) ∙ known.fitting);
           alone = λ e. let x = repeats-alone a rs.rank e in (x.0, read-alone rs d.read x.1);
         }
 
-        pub known_out : (out : List ℤ) → (build (set (counted s) axis m) (mask_element a rep mask right axis)).elements ++ drop total out
+        pub known_out : (out : List ℤ) → (build (set (counted s) axis m) (mask_element a rep l right axis)).elements ++ drop total out
             ≡ (build given.lengths given.element).elements ++ drop (count given.lengths) out
         known_out out =
-            let same = seen (λ l n w k. given.element ≡ mask_element a (repeats a n) l w k) (masking-element G K left (lent rs r) a) in
+            let same = seen (λ l n w k. given.element ≡ mask_element a (repeats a n) l w k) (masking-element G K L (lent rs r) a) in
             ap₂ (λ x f. (build x f).elements ++ drop total out) (sym lengths-are) (sym same)
             ∙ ap (λ n. (build given.lengths given.element).elements ++ drop n out) (sym whole)

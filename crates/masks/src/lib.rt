@@ -3,19 +3,20 @@
 
 mod rows;
 
-ghost use Rattle.std.specs.Prelude.{◌≡◌, List, ◌++◌, true, ◌*◌, ◌<◌, length, drop, set, ℤ, pos};
-ghost use Rattle.shape.specs.Shape.{counted, good_shape};
-ghost use Rattle.meaning.specs.Array.{array_of, good_form, tab, build};
-ghost use Rattle.meaning.specs.Terms.{every, is_bit, ones};
+ghost use Rattle.std.specs.Prelude.{◌≡◌, ◌++◌, true, cond, ◌*◌, ◌<◌, length, drop, set, pos, IfOk};
+ghost use Rattle.shape.specs.Shape.{counted};
+ghost use Rattle.meaning.specs.Array.{array_of, tab, build};
+ghost use Rattle.meaning.specs.Refusal.{number};
+ghost use Rattle.meaning.specs.Terms.{every, is_bit, ones, from_zero};
 ghost use Rattle.meaning.specs.Reply.{reply};
 ghost use Rattle.answer.specs.Answer.{lent, own, Replied};
+ghost use Rattle.answer.specs.Refused.{meant, asked, answered};
 ghost use Rattle.masks.specs.Steps.Actions.{action_number, action_of, masking, vector_shape, repeats, mask_fits, mask_rules};
 ghost use Rattle.masks.specs.Steps.Actions.{mask_of, width, mask_element, Masked};
 ghost use Rattle.masks.specs.Steps.Rows.{ByNotes, NotesPay, rows_of, placed_in, Block, InBlocks};
 
-use answer::{Answer, refusal};
+use answer::{Formed, Operand, Refusal};
 use shape::Shape;
-use signed::Found;
 
 // What a mask does to an axis: its ones keep positions, or they take the positions in order.
 #[derive(Clone, Copy)]
@@ -28,22 +29,26 @@ enum Action {
 pub fn compress(
     g: i32,
     k: i32,
-    ls: Shape,
-    l: &[i32],
-    rs: Shape,
-    r: &[i32],
+    l: &Operand<'_>,
+    r: &Operand<'_>,
     out: &mut [i32],
-) -> Answer
-    ensures { Replied result out.new (reply (pos 27) g k (lent ls l.now) (lent rs r.now) out.old) }
+) -> Result<Shape, Refusal>
+    ensures { Replied (answered result) out.new (reply (pos 27) g k l.now r.now out.old) }
 {
-    masked(Action::Compress, g, k, ls, l, rs, r, out)
+    masked(Action::Compress, g, k, l, r, out)
 }
 
 // 28: the positions in order at ones, zeros elsewhere.
-pub fn expand(g: i32, k: i32, ls: Shape, l: &[i32], rs: Shape, r: &[i32], out: &mut [i32]) -> Answer
-    ensures { Replied result out.new (reply (pos 28) g k (lent ls l.now) (lent rs r.now) out.old) }
+pub fn expand(
+    g: i32,
+    k: i32,
+    l: &Operand<'_>,
+    r: &Operand<'_>,
+    out: &mut [i32],
+) -> Result<Shape, Refusal>
+    ensures { Replied (answered result) out.new (reply (pos 28) g k l.now r.now out.old) }
 {
-    masked(Action::Expand, g, k, ls, l, rs, r, out)
+    masked(Action::Expand, g, k, l, r, out)
 }
 
 // Both actions: they differ in what they ask of the mask, in the positions of the result and in what those take.
@@ -51,51 +56,47 @@ fn masked(
     action: Action,
     g: i32,
     k: i32,
-    ls: Shape,
-    l: &[i32],
-    rs: Shape,
-    r: &[i32],
+    l: &Operand<'_>,
+    r: &Operand<'_>,
     out: &mut [i32],
-) -> Answer
-    ensures { Replied result out.new (reply (pos (action_number action)) g k (lent ls l.now) (lent rs r.now) out.old) }
+) -> Result<Shape, Refusal>
+    ensures { Replied (answered result) out.new (reply (pos (action_number action)) g k l.now r.now out.old) }
 {
-    let early = answer::early_two(g, ls, l, rs, r);
-    if early != 0 {
-        return Answer::refused(early);
-    }
-    let own = mask_refusal(action, g, k, ls, l, rs);
-    if own != 0 {
-        return Answer::refused(own);
-    }
-    let s = as_vector(rs);
-    let axis = signed::from_zero(k, g);
-    let c = ls.count();
-    let m = width_of(action, &l[0..c], s.lens[axis]);
+    let (l, r) = answer::early_two(g, l, r)?;
+    let (s, axis) = mask_refusal(action, g, k, &l, &r)?;
+    let mask = l.elements();
+    let m = width_of(action, mask, s.lens[axis]);
     let shape = s.with_length(axis, m);
     let count = shape.count();
-    let late = answer::late(count, out.len());
-    if late != 0 {
-        return Answer::refused(late);
-    }
-    let repeated = repeats(action, rs.rank);
-    mask_into(action, repeated, &l[0..c], s, axis, m, count, r, out);
-    Answer::given(shape)
+    answer::late(count, out.len())?;
+    let repeated = repeats(action, r.shape.rank);
+    mask_into(action, repeated, mask, s, axis, m, count, r.elements, out);
+    Ok(shape)
 }
 
-// RANK, AXIS and what the mask meets, whatever R's elements are.
-fn mask_refusal(action: Action, g: i32, k: i32, ls: Shape, l: &[i32], rs: Shape) -> usize
-    requires { (good_form (lent ls l.now) ≡ true) × (good_shape rs ≡ true) }
-    ensures { (b : List ℤ) → result ≡ own (action_number action) (masking action g k (array_of (lent ls l.now)) (array_of (lent rs b))).refusals }
+// RANK, AXIS and what the mask meets, or else the shape that R is read with, and its axis.
+fn mask_refusal(
+    action: Action,
+    g: i32,
+    k: i32,
+    l: &Formed<'_>,
+    r: &Formed<'_>,
+) -> Result<(Shape, usize), Refusal>
+    ensures number { asked result ≡ own (action_number action) (masking action g k (array_of l.now) (array_of r.now)).refusals }
+    ensures found { IfOk result (λ t. (t.0 ≡ vector_shape r.now.shape) × (t.1 ≡ from_zero g k)) }
 {
-    if 1 < ls.rank {
-        return refusal::RANK;
+    if !l.is_list() {
+        return Err(Refusal::Rank);
     }
-    let s = as_vector(rs);
-    let Found::At(axis) = signed::position(k, g, s.rank) else {
-        return refusal::AXIS;
-    };
-    let c = ls.count();
-    mask_test(action, repeats(action, rs.rank), &l[0..c], s.lens[axis])
+    let s = as_vector(r.shape);
+    let axis = answer::axis(g, k, s.rank)?;
+    mask_test(
+        action,
+        repeats(action, r.shape.rank),
+        l.elements(),
+        s.lens[axis],
+    )?;
+    Ok((s, axis))
 }
 
 // A scalar's shape is read as that of a vector of one.
@@ -118,26 +119,22 @@ fn repeats(action: Action, rank: usize) -> bool
     }
 }
 
-// LENGTH and DOMAIN, 0 where neither is met: compress asks LENGTH first, expand DOMAIN.
-fn mask_test(action: Action, repeated: bool, l: &[i32], n: usize) -> usize
-    ensures { result ≡ own (action_number action) (mask_rules action repeated l.now n) }
+// LENGTH and DOMAIN: compress asks LENGTH first, expand DOMAIN.
+fn mask_test(action: Action, repeated: bool, l: &[i32], n: usize) -> Result<(), Refusal>
+    ensures { asked result ≡ own (action_number action) (mask_rules action repeated l.now n) }
 {
-    let fits = mask_fits(action, repeated, l, n);
-    let bits = all_bits(l);
+    let fits = unless(mask_fits(action, repeated, l, n), Refusal::Length);
+    let bits = unless(all_bits(l), Refusal::Domain);
     match action {
-        Action::Compress => {
-            if !fits {
-                return refusal::LENGTH;
-            }
-            if bits { 0 } else { refusal::DOMAIN }
-        }
-        Action::Expand => {
-            if !bits {
-                return refusal::DOMAIN;
-            }
-            if fits { 0 } else { refusal::LENGTH }
-        }
+        Action::Compress => fits.and(bits),
+        Action::Expand => bits.and(fits),
     }
+}
+
+fn unless(holds: bool, refusal: Refusal) -> Result<(), Refusal>
+    ensures { asked result ≡ cond holds 0 (number (meant refusal)) }
+{
+    if holds { Ok(()) } else { Err(refusal) }
 }
 
 // The mask is as long as the axis, or one of both is 1; or its ones number the axis length, or R is repeated.
