@@ -6,15 +6,15 @@ ghost use Rattle.answer.specs.Refused.{meant};
 #[derive(Clone, Copy, Debug, PartialEq, Eq)]
 pub enum Refusal {
     Number = 1,
-    Form,
-    Origin,
-    Rank,
-    Axis,
-    Length,
-    Domain,
-    Index,
-    Limit,
-    Space,
+    Form = 2,
+    Origin = 3,
+    Rank = 4,
+    Axis = 5,
+    Length = 6,
+    Domain = 7,
+    Index = 8,
+    Limit = 9,
+    Space = 10,
 }
 
 impl Refusal {

@@ -10,7 +10,7 @@ ghost use Rattle.answer.specs.Answer.{lent, Replied};
 ghost use Rattle.items.specs.Part.{item_part, part_in};
 ghost use Rattle.items.specs.Sister.{item_answer};
 
-use answer::Answer;
+use answer::{Answer, Operand};
 use items::Part;
 use shape::{Place, Shape};
 
@@ -28,7 +28,15 @@ pub extern "C" fn gillgrater_call(
 ) -> Answer
     ensures { Replied result out.new (reply primitive g k (lent ls l.now) (lent rs r.now) out.old) }
 {
-    kernel::call(primitive, g, k, ls, l, rs, r, out)
+    let left = Operand {
+        shape: ls,
+        elements: l,
+    };
+    let right = Operand {
+        shape: rs,
+        elements: r,
+    };
+    Answer::from(kernel::call(primitive, g, k, &left, &right, out))
 }
 
 // The leading item as a part of R's buffer, 0 and 0 for a refusal. A slice cannot be returned to C.

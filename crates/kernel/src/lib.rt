@@ -3,43 +3,49 @@
 
 ghost use Rattle.meaning.specs.Array.{Operand};
 ghost use Rattle.meaning.specs.Reply.{reply};
-ghost use Rattle.answer.specs.Answer.{lent, Replied};
+ghost use Rattle.answer.specs.Answer.{Replied};
+ghost use Rattle.answer.specs.Refused.{answered};
 ghost use Rattle.kernel.specs.Steps.{OneOperand, TwoOperands};
 
-use answer::{Answer, refusal};
+use answer::{Operand, Refusal};
 use shape::Shape;
 
-// A call by its primitive's number: 11 to 15 take one operand, 21 to 31 take two, and every other number is refused.
+// A call by its primitive's number: 11 to 15 take one operand, 21 to 31 take two, and every other number is refused. The paper and C name a primitive
+// by its number, so the choice is a match on it and no enum.
 pub fn call(
     primitive: i32,
     g: i32,
     k: i32,
-    ls: Shape,
-    l: &[i32],
-    rs: Shape,
-    r: &[i32],
+    l: &Operand<'_>,
+    r: &Operand<'_>,
     out: &mut [i32],
-) -> Answer
-    ensures { Replied result out.new (reply primitive g k (lent ls l.now) (lent rs r.now) out.old) }
+) -> Result<Shape, Refusal>
+    ensures { Replied (answered result) out.new (reply primitive g k l.now r.now out.old) }
 {
     match primitive {
-        11..=15 => call_one(primitive, g, k, rs, r, out),
-        21..=31 => call_two(primitive, g, k, ls, l, rs, r, out),
-        _ => Answer::refused(refusal::NUMBER),
+        11..=15 => call_one(primitive, g, k, r, out),
+        21..=31 => call_two(primitive, g, k, l, r, out),
+        _ => Err(Refusal::Number),
     }
 }
 
-fn call_one(primitive: i32, g: i32, k: i32, rs: Shape, r: &[i32], out: &mut [i32]) -> Answer
+fn call_one(
+    primitive: i32,
+    g: i32,
+    k: i32,
+    r: &Operand<'_>,
+    out: &mut [i32],
+) -> Result<Shape, Refusal>
     requires { OneOperand primitive }
-    ensures { (L : Operand) → Replied result out.new (reply primitive g k L (lent rs r.now) out.old) }
+    ensures { (L : Operand) → Replied (answered result) out.new (reply primitive g k L r.now out.old) }
 {
     match primitive {
-        11 => vectors::shape_of(g, rs, r, out),
-        12 => vectors::ravel(g, rs, r, out),
-        13 => vectors::interval(g, rs, r, out),
-        14 => turns::reverse(g, k, rs, r, out),
-        15 => transposes::transpose(g, rs, r, out),
-        _ => Answer::refused(refusal::NUMBER),
+        11 => vectors::shape_of(g, r, out),
+        12 => vectors::ravel(g, r, out),
+        13 => vectors::interval(g, r, out),
+        14 => turns::reverse(g, k, r, out),
+        15 => transposes::transpose(g, r, out),
+        _ => Err(Refusal::Number),
     }
 }
 
@@ -47,27 +53,25 @@ fn call_two(
     primitive: i32,
     g: i32,
     k: i32,
-    ls: Shape,
-    l: &[i32],
-    rs: Shape,
-    r: &[i32],
+    l: &Operand<'_>,
+    r: &Operand<'_>,
     out: &mut [i32],
-) -> Answer
+) -> Result<Shape, Refusal>
     requires { TwoOperands primitive }
-    ensures { Replied result out.new (reply primitive g k (lent ls l.now) (lent rs r.now) out.old) }
+    ensures { Replied (answered result) out.new (reply primitive g k l.now r.now out.old) }
 {
     match primitive {
-        21 => vectors::reshape(g, ls, l, rs, r, out),
-        22 => joins::catenate(g, k, ls, l, rs, r, out),
-        23 => cuts::take(g, ls, l, rs, r, out),
-        24 => cuts::drop(g, ls, l, rs, r, out),
-        25 => turns::rotate(g, k, ls, l, rs, r, out),
-        26 => transposes::transpose_by(g, ls, l, rs, r, out),
-        27 => masks::compress(g, k, ls, l, rs, r, out),
-        28 => masks::expand(g, k, ls, l, rs, r, out),
-        29 => lookups::index_of(g, ls, l, rs, r, out),
-        30 => lookups::member(g, ls, l, rs, r, out),
-        31 => selects::select(g, k, ls, l, rs, r, out),
-        _ => Answer::refused(refusal::NUMBER),
+        21 => vectors::reshape(g, l, r, out),
+        22 => joins::catenate(g, k, l, r, out),
+        23 => cuts::take(g, l, r, out),
+        24 => cuts::drop(g, l, r, out),
+        25 => turns::rotate(g, k, l, r, out),
+        26 => transposes::transpose_by(g, l, r, out),
+        27 => masks::compress(g, k, l, r, out),
+        28 => masks::expand(g, k, l, r, out),
+        29 => lookups::index_of(g, l, r, out),
+        30 => lookups::member(g, l, r, out),
+        31 => selects::select(g, k, l, r, out),
+        _ => Err(Refusal::Number),
     }
 }
