@@ -1,14 +1,18 @@
 -- 31: what it asks.
-use mathlib.Core.Path.{◌≡◌, refl, ◌∙◌}
+use mathlib.Core.Path.{◌≡◌, refl, sym, ap₂, ◌∙◌}
 use mathlib.Core.List.{List}
-use mathlib.Core.Bool.{Bool, not, cond}
-use Prim.Native.Nat.{ℕ, ◌≤◌}
+use mathlib.Core.Bool.{Bool, true, false, not, cond}
+use Prim.Native.Nat.{ℕ}
 use native.Mathlib.Omega.{arith}
 use borrow.Author.Tests.{ne_eqb}
 use lib.ListN.{get_or}
 use lib.IntN.{ℤ, ◌-ℤ◌}
+use mir.Syntax.{w32}
+use mir.Val.{SFits, to_z, of_z}
+use Rattle.std.specs.Prelude.{Result}
 use Rattle.shape.specs.declared.Shape.{Shape}
 use Rattle.signed.proofs.Finding.{IsAt}
+use Rattle.signed.proofs.Reading.{read32}
 use Rattle.meaning.specs.Array.{Operand, array_of}
 use Rattle.meaning.specs.Refusal.{number, precedence}
 use Rattle.meaning.specs.Refusal.Refusal.{RANK, AXIS, INDEX}
@@ -16,7 +20,9 @@ use Rattle.meaning.specs.Terms.{rank, axis, is_scalar, is_list, int_same, within
 use Rattle.meaning.specs.Primitives.{select}
 use Rattle.meaning.specs.Reply.{primitives, named}
 use Rattle.answer.specs.Answer.{lent, own}
-use Rattle.answer.proofs.Lent.{Lent, list-yes, axis-is}
+use Rattle.answer.specs.Refused.{asked as asks}
+use Rattle.answer.specs.declared.refusal.Refusal as code
+use Rattle.answer.proofs.Lent.{Lent, axis-is}
 use Rattle.answer.proofs.Order.{Names, own_first}
 
 -- In turn: R has an axis, L is a list, K names an axis, and all of L's elements name positions.
@@ -35,11 +41,26 @@ module _ (G K : ℤ) (L R : Operand) where
   unfolding select
   select-own = own_first 31 _ select-names.own
 
+-- Where R has an axis.
+pub select-on : (G K : ℤ) (L R : Operand) → (rank (array_of R) ≡ 0 → ⊥)
+    → own 31 (select G K (array_of L) (array_of R)).refusals
+    ≡ asked false (is_list (array_of L)) (within (K -ℤ G) (rank (array_of R)))
+    (every (λ z. within (z -ℤ G) (axis (array_of R) (from_zero G K))) (array_of L).elements)
+select-on G K L R h = select-own G K L R ∙ rw (ne_eqb (rank (array_of R)) 0 h) refl
+
 -- Where L is a list and K names axis k of R, INDEX is left.
-pub select-rest : (G K : ℤ) {ls : Shape} {l : List ℤ} (g : Lent ls l) (rs : Shape) (b : List ℤ) {k : ℕ} → rank (array_of (lent rs b)) ≡ rs.rank
-    → ls.rank ≤ 1 → IsAt K G rs.rank k
-    → own 31 (select G K (array_of (lent ls l)) (array_of (lent rs b))).refusals
-    ≡ cond (not (every (λ z. within (z -ℤ G) (get_or rs.lens k 0)) (array_of (lent ls l)).elements)) (number INDEX) 0
-select-rest G K {ls} {l} g rs b {k} e h a =
-    select-own G K (lent ls l) (lent rs b)
-    ∙ rw (ne_eqb (rank (array_of (lent rs b))) 0 (λ z. omega (arith, a.below)), list-yes g h, e, a.inside, ← a.is, axis-is rs b k a.below)
+pub select-rest : (G K : ℤ) (L : Operand) {s : Shape} {b : List ℤ} {n k : ℕ} → Lent s b → is_list (array_of L) ≡ true
+    → n ≡ rank (array_of (lent s b)) → IsAt K G n k
+    → own 31 (select G K (array_of L) (array_of (lent s b))).refusals
+    ≡ cond (not (every (λ z. within (z -ℤ G) (get_or s.lens k 0)) (array_of L).elements)) (number INDEX) 0
+select-rest G K L {s} {b} {n} {k} g h e a =
+    select-on G K L (lent s b) (λ z. omega (arith, a.below, e))
+    ∙ rw (h, sym e, a.inside, ← a.is, axis-is s b k (omega (arith, a.below, e, g.rank_is))) refl
+
+-- What `chosen_axis` asks for, of numbers that the call has read from locals.
+pub chosen-read : {G K : ℤ} (f : SFits w32 G) (h : SFits w32 K) {A : Type 0} (x : Result A code.Refusal) {L R l r : Operand}
+    → asks x ≡ own 31 (select (to_z w32 (of_z w32 G)) (to_z w32 (of_z w32 K)) (array_of l) (array_of r)).refusals
+    → l ≡ L → r ≡ R → asks x ≡ own 31 (select G K (array_of L) (array_of R)).refusals
+chosen-read {G} {K} f h x {l = l} {r = r} e p q =
+    e ∙ ap₂ (λ g k. own 31 (select g k (array_of l) (array_of r)).refusals) (read32 G f) (read32 K h)
+    ∙ ap₂ (λ l r. own 31 (select G K (array_of l) (array_of r)).refusals) p q

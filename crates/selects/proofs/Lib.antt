@@ -1,3 +1,4 @@
+pub mod Tested
 pub mod Rows
 pub mod Calls
 pub mod Selecting

@@ -1,7 +1,7 @@
 -- A call that 31 itself does not refuse, by what its code finds.
 use mathlib.Core.Path.{◌≡◌, refl, sym, ap, ap₂, ◌∙◌}
 use mathlib.Core.List.{List, ◌++◌}
-use mathlib.Core.Bool.{Bool, true, false, cond}
+use mathlib.Core.Bool.{Bool, true, false, cond, ◌&&◌}
 use Prim.Native.Nat.{ℕ, ◌*◌, ◌≤◌, ◌<◌}
 use native.Mathlib.Omega.{arith}
 use borrow.Author.Tests.{eqb-true}
@@ -9,79 +9,80 @@ use lib.ListN.{length, get_or, set, drop}
 use lib.IntN.{ℤ, pos, ◌-ℤ◌}
 use Rattle.shape.specs.declared.Shape.{Shape}
 use Rattle.shape.specs.declared.Around.{Around}
-use Rattle.shape.specs.Shape.{max_count, counted, count, count_of, around_of, without}
+use Rattle.shape.specs.Shape.{max_count, counted, count, around_of, shape_of, without}
+use Rattle.shape.proofs.Bools.{both}
+use Rattle.shape.proofs.Made.{made-stands}
 use Rattle.shape.proofs.Surround.{Parts, parts}
-use Rattle.meaning.specs.Array.{Array, array_of, at, build}
+use Rattle.meaning.specs.Array.{Operand, Array, array_of, good_form, at, build}
 use Rattle.meaning.specs.Terms.{rank, axis, is_scalar, is_list, within, from_zero, every, put_in, along}
 use Rattle.meaning.specs.Primitives.{select}
-use Rattle.meaning.proofs.Arrays.{build-lengths, build-whole}
+use Rattle.meaning.proofs.Arrays.{build-lengths, build-whole, form-whole}
 use Rattle.meaning.proofs.Every.{every-at}
 use Rattle.meaning.proofs.Positions.{within-lt, within-below}
 use Rattle.meaning.proofs.Scalars.{scalar-count}
 use Rattle.meaning.proofs.Without.{removed}
 use Rattle.copying.specs.Steps.{filled}
-use Rattle.answer.specs.Answer.{lent, own}
-use Rattle.answer.proofs.Lent.{Lent}
+use Rattle.answer.specs.Answer.{lent, early, own}
+use Rattle.answer.proofs.Lent.{Lent, early-fine}
+use Rattle.answer.proofs.Order.{Ready, early_of}
 use Rattle.answer.proofs.Moved.{along-lent}
 use Rattle.selects.specs.Steps.{position_at, Positions, selected_lengths, Chooses, BlocksFit, blocks_at}
-use Rattle.selects.proofs.Calls.{asked, select-own}
+use Rattle.selects.proofs.Calls.{asked, select-names, select-own}
 
--- All that a call knows where 31 refuses nothing: k is the axis, and m the count of L's elements.
-pub record Selects (G K : ℤ) (ls : Shape) (l : List ℤ) (rs : Shape) (r : List ℤ) (k m : ℕ) : Type 0 where
-  pub left : Lent ls l
+-- All that a call knows where 31 refuses nothing: k is the axis.
+pub record Selects (G K : ℤ) (L : Operand) (rs : Shape) (r : List ℤ) (k : ℕ) : Type 0 where
+  pub left : good_form L ≡ true
   pub right : Lent rs r
   pub has : k < rs.rank
-  pub positions : Positions G (array_of (lent ls l)).elements (get_or (counted rs) k 0)
+  pub positions : Positions G (array_of L).elements (get_or (counted rs) k 0)
   pub axis-is : k ≡ from_zero G K
-  pub count-is : m ≡ count_of ls
 
-module _ (G K : ℤ) {ls : Shape} {l : List ℤ} {rs : Shape} {r : List ℤ} (gl : Lent ls l) (gr : Lent rs r) where
+module _ (G K : ℤ) (L : Operand) {rs : Shape} {r : List ℤ} (f : early (good_form L && good_form (lent rs r)) G ≡ 0) (gr : Lent rs r) where
   abbrev inside : Bool
   inside = within (K -ℤ G) (rank (array_of (lent rs r)))
 
   abbrev all : Bool
-  all = every (λ z. within (z -ℤ G) (axis (array_of (lent rs r)) (from_zero G K))) (array_of (lent ls l)).elements
+  all = every (λ z. within (z -ℤ G) (axis (array_of (lent rs r)) (from_zero G K))) (array_of L).elements
 
-  pub selects : {k m : ℕ} → k ≡ from_zero G K → m ≡ count_of ls → own 31 (select G K (array_of (lent ls l)) (array_of (lent rs r))).refusals ≡ 0
-      → Selects G K ls l rs r k m
-  selects {k} {m} e q z = by (is_scalar (array_of (lent rs r))) (is_list (array_of (lent ls l))) _ refl _ refl
-      (sym (select-own G K (lent ls l) (lent rs r)) ∙ z)
+  pub selects : {k : ℕ} → own 31 (select G K (array_of L) (array_of (lent rs r))).refusals ≡ 0 → k ≡ from_zero G K → Selects G K L rs r k
+  selects {k} z e = by (is_scalar (array_of (lent rs r))) (is_list (array_of L)) _ refl _ refl (sym (select-own G K L (lent rs r)) ∙ z)
     where
-      by : (s t i : Bool) → inside ≡ i → (a : Bool) → all ≡ a → asked s t i a ≡ 0 → Selects G K ls l rs r k m
+      by : (s t i : Bool) → inside ≡ i → (a : Bool) → all ≡ a → asked s t i a ≡ 0 → Selects G K L rs r k
       by true t i u a v w = absurd (omega arith)
       by false false i u a v w = absurd (omega arith)
       by false true false u a v w = absurd (omega arith)
       by false true true u false v w = absurd (omega arith)
       by false true true u true v w = record {
-        left = gl;
+        left = (both (good_form L) (good_form (lent rs r)) (early-fine G _ f).forms).0;
         right = gr;
         has = within-below (K -ℤ G) _ rs.rank k gr.rank_is e u;
         positions = record {
           inside = λ i h.
-              ap (λ n. within (get_or (array_of (lent ls l)).elements i (pos 0) -ℤ G) (get_or (counted rs) n 0)) e ∙ every-at _ _ (pos 0) v i h;
+              ap (λ n. within (get_or (array_of L).elements i (pos 0) -ℤ G) (get_or (counted rs) n 0)) e ∙ every-at _ _ (pos 0) v i h;
         };
         axis-is = e;
-        count-is = q;
       }
 
-module _ {G K : ℤ} {ls : Shape} {l : List ℤ} {rs : Shape} {r : List ℤ} {k m : ℕ} (c : Selects G K ls l rs r k m) where
+module _ {G K : ℤ} {o : Operand} {rs : Shape} {r : List ℤ} {k : ℕ} (c : Selects G K o rs r k) where
   abbrev L : Array
-  L = array_of (lent ls l)
+  L = array_of o
 
   abbrev R : Array
   R = array_of (lent rs r)
 
   abbrev φ : ℕ → ℕ
-  φ = position_at G (array_of (lent ls l)).elements
+  φ = position_at G L.elements
 
-  many : length L.elements ≡ m
-  many = c.left.whole ∙ sym c.left.count-is ∙ sym c.count-is
-
-  pub lengths-are : selected_lengths ls.rank m k (counted rs) ≡ (select G K L R).lengths
+  pub lengths-are : {t m : ℕ} → t ≡ rank L → m ≡ length L.elements → selected_lengths t m k (counted rs) ≡ (select G K L R).lengths
   unfolding select
-  lengths-are =
-      ap₂ (λ x n. selected_lengths x n k (counted rs)) (sym c.left.rank_is) (sym many)
+  lengths-are e f =
+      ap₂ (λ x n. selected_lengths x n k (counted rs)) e f
       ∙ ap (λ k. selected_lengths (rank L) (length L.elements) k (counted rs)) c.axis-is
+
+  -- Of the result's shape, nothing is refused but LIMIT and SPACE.
+  pub select-ready : early_of 2 G o (lent rs r) ≡ 0 → own 31 (select G K L R).refusals ≡ 0 → {s : Shape} → s ≡ shape_of (select G K L R).lengths
+      → Ready 31 2 G K o (lent rs r) (select G K L R) s
+  select-ready f z {s} e = record { names = select-names G K o (lent rs r); fine = f; none = z; stands = made-stands _ _ e }
 
   -- A scalar L is a vector of one that leaves no axis behind.
   moved : (build (select G K L R).lengths (select G K L R).element).elements ≡ (build (set (counted rs) k (length L.elements)) (along R k φ)).elements
@@ -96,7 +97,7 @@ module _ {G K : ℤ} {ls : Shape} {l : List ℤ} {rs : Shape} {r : List ℤ} {k 
           → (build (cond b (without k (counted rs)) (set (counted rs) k (length L.elements))) (cond b (λ p. at R (put_in k (φ 0) p)) (along R k φ))).elements
           ≡ (build (set (counted rs) k (length L.elements)) (along R k φ)).elements
       by true q =
-          let one : length L.elements ≡ 1 = c.left.whole ∙ scalar-count (counted ls) (eqb-true (rank L) 0 q) in
+          let one : length L.elements ≡ 1 = form-whole o c.left ∙ scalar-count (counted o.shape) (eqb-true (rank L) 0 q) in
           removed R k φ (omega (arith, c.has, c.right.rank_is)) ∙ ap (λ n. (build (set (counted rs) k n) (along R k φ)).elements) (sym one)
       by false q = refl
 
@@ -108,8 +109,7 @@ module _ {G K : ℤ} {ls : Shape} {l : List ℤ} {rs : Shape} {r : List ℤ} {k 
       whole ns f = build-whole ns f ∙ ap count (build-lengths ns f)
 
   -- L's elements as a part of its buffer, and the result's count as the program finds it.
-  module _ {xs : List ℤ} (e : xs ≡ (array_of (lent ls l)).elements) {total : ℕ}
-      (t : total ≡ count (select G K (array_of (lent ls l)) (array_of (lent rs r))).lengths) where
+  module _ {xs : List ℤ} (e : xs ≡ L.elements) {total : ℕ} (t : total ≡ count (select G K L R).lengths) where
     pub chooses : {room : ℕ} → total ≤ max_count → total ≤ room → Chooses G xs k total rs r room
     chooses small space = rw e (record {
       form = c.right.form;

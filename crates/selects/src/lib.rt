@@ -1,79 +1,69 @@
 // Select: chosen positions of one axis.
 #![tactic(auto)]
 
-ghost use Rattle.std.specs.Prelude.{◌≡◌, List, ◌++◌, true, false, ◌*◌, ◌≤◌, ◌<◌, length, set, drop, ℤ, pos, ◌-ℤ◌};
-ghost use Rattle.shape.specs.Shape.{max_rank, counted, good_shape, shape_of};
-ghost use Rattle.meaning.specs.Array.{array_of, good_form, build};
+ghost use Rattle.std.specs.Prelude.{◌≡◌, List, ◌++◌, true, false, ◌*◌, ◌≤◌, ◌<◌, length, set, drop, ℤ, pos, ◌-ℤ◌, IfOk};
+ghost use Rattle.shape.specs.Shape.{max_rank, counted, shape_of};
+ghost use Rattle.meaning.specs.Array.{array_of, build};
 ghost use Rattle.meaning.specs.Terms.{negative, within, from_zero, every, along};
 ghost use Rattle.meaning.specs.Primitives.{select};
 ghost use Rattle.meaning.specs.Reply.{reply};
 ghost use Rattle.copying.specs.Steps.{filled};
 ghost use Rattle.answer.specs.Answer.{lent, own, Replied};
+ghost use Rattle.answer.specs.Refused.{asked, answered};
 ghost use Rattle.selects.specs.Steps.{position_at, Chooses, selected_lengths, BlocksFit, RowsFit, blocks_at, rows_at};
 
-use answer::{Answer, refusal};
+use answer::{Formed, Operand, Refusal};
 use shape::Shape;
-use signed::Found;
 
 // 31. A vector L replaces the axis, a scalar L removes it.
-pub fn select(g: i32, k: i32, ls: Shape, l: &[i32], rs: Shape, r: &[i32], out: &mut [i32]) -> Answer
-    ensures { Replied result out.new (reply (pos 31) g k (lent ls l.now) (lent rs r.now) out.old) }
+pub fn select(
+    g: i32,
+    k: i32,
+    l: &Operand<'_>,
+    r: &Operand<'_>,
+    out: &mut [i32],
+) -> Result<Shape, Refusal>
+    ensures { Replied (answered result) out.new (reply (pos 31) g k l.now r.now out.old) }
 {
-    let early = answer::early_two(g, ls, l, rs, r);
-    if early != 0 {
-        return Answer::refused(early);
-    }
-    let own = select_refusal(g, k, ls, l, rs);
-    if own != 0 {
-        return Answer::refused(own);
-    }
-    let axis = signed::from_zero(k, g);
-    let m = ls.count();
-    let shape = selected(ls.rank, m, rs, axis);
+    let (l, r) = answer::early_two(g, l, r)?;
+    let axis = chosen_axis(g, k, &l, &r)?;
+    let positions = l.elements();
+    let shape = selected(l.rank(), positions.len(), r.shape, axis);
     let count = shape.count();
-    let late = answer::late(count, out.len());
-    if late != 0 {
-        return Answer::refused(late);
-    }
-    select_into(g, &l[0..m], axis, count, rs, r, out);
-    Answer::given(shape)
+    answer::late(count, out.len())?;
+    select_into(g, positions, axis, count, r.shape, r.elements, out);
+    Ok(shape)
 }
 
-// RANK, AXIS and INDEX. No element of R is looked at.
-fn select_refusal(g: i32, k: i32, ls: Shape, l: &[i32], rs: Shape) -> usize
-    requires { (good_form (lent ls l.now) ≡ true) × (good_shape rs ≡ true) }
-    ensures { (b : List ℤ) → result ≡ own 31 (select g k (array_of (lent ls l.now)) (array_of (lent rs b))).refusals }
+// RANK, AXIS and INDEX, or else the axis. No element of R is looked at.
+fn chosen_axis(g: i32, k: i32, l: &Formed<'_>, r: &Formed<'_>) -> Result<usize, Refusal>
+    ensures number { asked result ≡ own 31 (select g k (array_of l.now) (array_of r.now)).refusals }
+    ensures axis { IfOk result (λ axis. axis ≡ from_zero g k) }
 {
-    if rs.rank == 0 {
-        return refusal::RANK;
+    if r.rank() == 0 {
+        return Err(Refusal::Rank);
     }
-    if 1 < ls.rank {
-        return refusal::RANK;
+    if !l.is_list() {
+        return Err(Refusal::Rank);
     }
-    let Found::At(axis) = signed::position(k, g, rs.rank) else {
-        return refusal::AXIS;
-    };
-    let n = rs.lens[axis];
-    let m = ls.count();
-    if all_within(g, &l[0..m], n) {
-        0
-    } else {
-        refusal::INDEX
+    let axis = answer::axis(g, k, r.rank())?;
+    if !all_within(g, l.elements(), r.shape.lens[axis]) {
+        return Err(Refusal::Index);
     }
+    Ok(axis)
 }
 
 // Whether each number less g is a position of an axis of length n.
 fn all_within(g: i32, l: &[i32], n: usize) -> bool
     ensures { result ≡ every (λ z. within (z -ℤ g) n) l.now }
 {
-    let mut i = 0;
-    while i < l.len() {
-        let Found::At(_) = signed::position(l[i], g, n) else {
-            return false;
-        };
-        i += 1;
-    }
-    true
+    l.iter().all(|&z| names_one(z, g, n))
+}
+
+fn names_one(z: i32, g: i32, n: usize) -> bool
+    ensures { result ≡ within (z -ℤ g) n }
+{
+    signed::position(z, g, n).is_some()
 }
 
 // The result's shape, by L's rank and the count of its elements.
