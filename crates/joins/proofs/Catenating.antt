@@ -10,12 +10,18 @@ use lib.Dec.{eqb, ltb}
 use lib.ListN.{length, get_or, set, drop}
 use lib.Seq.{get_or-take}
 use lib.IntN.{ℤ, pos, ◌-ℤ◌}
+use mir.Syntax.{w32}
+use mir.Val.{SFits, to_z, of_z}
+use Rattle.std.specs.Prelude.{Result, Ok}
 use Rattle.shape.specs.declared.Shape.{Shape}
-use Rattle.shape.specs.Shape.{max_count, counted, count}
+use Rattle.shape.specs.Shape.{max_count, counted, count, count_of, good_shape, shape_of, with_length}
 use Rattle.shape.specs.Place.{index}
 use Rattle.shape.proofs.Bools.{both, cond_same}
 use Rattle.shape.proofs.Places.{index-lt}
 use Rattle.shape.proofs.Rule.{rule-length}
+use Rattle.shape.proofs.Made.{with-length-is, made-stands, stands-count}
+use Rattle.signed.proofs.Reading.{read32}
+use Rattle.signed.proofs.Finding.{read-from-zero}
 use Rattle.meaning.specs.Array.{Array, array_of, tab, build}
 use Rattle.meaning.specs.Terms.{rank, within, from_zero}
 use Rattle.meaning.specs.Primitives.{Side, side, catenate}
@@ -25,10 +31,14 @@ use Rattle.meaning.proofs.Scalars.{scalar-count}
 use Rattle.meaning.proofs.Sides.{beside-as, same-is, side-extent, side-flat, side-count}
 use Rattle.copying.specs.Steps.{filled}
 use Rattle.answer.specs.Answer.{lent, own}
-use Rattle.answer.proofs.Lent.{Lent, axis-is}
+use Rattle.answer.specs.Refused as answers
+use Rattle.answer.specs.declared.refusal.Refusal as code
+use Rattle.answer.proofs.Lent.{Lent, axis-is, FineTwo}
+use Rattle.answer.proofs.Exits.{asked_ok}
+use Rattle.answer.proofs.Order.{Ready}
 use Rattle.joins.specs.Steps.{higher_shape, extent_of, agree, run_of, joined_at, joined_along, sized, Gives, Joinable}
 use Rattle.joins.specs.declared.Run.{Run}
-use Rattle.joins.proofs.Heights.{High, Higher, higher-is, besides, asked, catenate-own}
+use Rattle.joins.proofs.Heights.{High, Higher, higher-is, besides, asked, catenate-own, catenate-names}
 use Rattle.joins.proofs.Joining.{RowByRow, joined-flat}
 
 -- An operand beside the higher shape, its other lengths as they should be.
@@ -94,14 +104,19 @@ pub record Catenates (G K : ℤ) (ls : Shape) (l : List ℤ) (rs : Shape) (r : L
   pub right : Sided rs r hs k
   pub higher : Higher hs (array_of (lent ls l)) (array_of (lent rs r))
   pub axis-is : k ≡ from_zero G K
+  pub fine : FineTwo G ls l rs r
+  pub none : own 22 (catenate G K (array_of (lent ls l)) (array_of (lent rs r))).refusals ≡ 0
 
-module _ (G K : ℤ) {ls : Shape} {l : List ℤ} {rs : Shape} {r : List ℤ} (gl : Lent ls l) (gr : Lent rs r) {hs : Shape} {k : ℕ} where
+module _ {G : ℤ} (K : ℤ) {ls : Shape} {l : List ℤ} {rs : Shape} {r : List ℤ} (f : FineTwo G ls l rs r) {hs : Shape} {k : ℕ} where
   pub catenates : hs ≡ higher_shape ls rs → k ≡ from_zero G K → own 22 (catenate G K (array_of (lent ls l)) (array_of (lent rs r))).refusals ≡ 0
       → Catenates G K ls l rs r hs k
   catenates e q z = by _ refl _ refl _ refl (sym (catenate-own high G K l r) ∙ z)
     where
       high : High ls rs hs
-      high = record { left = record { good = gl.good; long = gl.long }; right = record { good = gr.good; long = gr.long }; is = e }
+      high =
+          let gl = f.left in
+          let gr = f.right in
+          record { left = record { good = gl.good; long = gl.long }; right = record { good = gr.good; long = gr.long }; is = e }
 
       sided : {s : Shape} {x : List ℤ} → Lent s x → within (K -ℤ G) hs.rank ≡ true → Beside s.rank hs.rank
           → agree (counted hs) (from_zero G K) (array_of (lent s x)) ≡ true → Sided s x hs k
@@ -113,16 +128,27 @@ module _ (G K : ℤ) {ls : Shape} {l : List ℤ} {rs : Shape} {r : List ℤ} (gl
         agrees = ap (λ k. agree (counted hs) k (array_of (lent s x))) q ∙ a;
       }
 
-      by : (f : Bool) → fit ls.rank rs.rank ≡ f → (i : Bool) → within (K -ℤ G) hs.rank ≡ i
+      by : (w : Bool) → fit ls.rank rs.rank ≡ w → (i : Bool) → within (K -ℤ G) hs.rank ≡ i
           → (t : Bool) → (agree (counted hs) (from_zero G K) (array_of (lent ls l)) && agree (counted hs) (from_zero G K) (array_of (lent rs r))) ≡ t
-          → asked f i t ≡ 0 → Catenates G K ls l rs r hs k
+          → asked w i t ≡ 0 → Catenates G K ls l rs r hs k
       by false p i u t v e = absurd (omega arith)
       by true p false u t v e = absurd (omega arith)
       by true p true u false v e = absurd (omega arith)
       by true p true u true v e =
           let b = besides high p in
           let a = both (agree (counted hs) (from_zero G K) (array_of (lent ls l))) _ v in
-          record { left = sided gl u b.0 a.0; right = sided gr u b.1 a.1; higher = higher-is high l r; axis-is = q }
+          record { left = sided f.left u b.0 a.0; right = sided f.right u b.1 a.1; higher = higher-is high l r; axis-is = q; fine = f; none = z }
+
+-- The same by what `joint` answers of signed numbers read from locals.
+module _ {G K : ℤ} (g : SFits w32 G) (h : SFits w32 K) {ls : Shape} {l : List ℤ} {rs : Shape} {r : List ℤ} (f : FineTwo G ls l rs r)
+    (x : Result (Shape × ℕ) code.Refusal) (is : (xs ys : List ℤ) → answers.asked x
+    ≡ own 22 (catenate (to_z w32 (of_z w32 G)) (to_z w32 (of_z w32 K)) (array_of (lent ls xs)) (array_of (lent rs ys))).refusals) where
+  pub joint-asked : answers.asked x ≡ own 22 (catenate G K (array_of (lent ls l)) (array_of (lent rs r))).refusals
+  joint-asked = is l r ∙ ap₂ (λ y z. own 22 (catenate y z (array_of (lent ls l)) (array_of (lent rs r))).refusals) (read32 G g) (read32 K h)
+
+  pub joint-found : {hs : Shape} {k : ℕ} → x ≡ Ok (hs, k)
+      → (hs ≡ higher_shape ls rs) × (k ≡ from_zero (to_z w32 (of_z w32 G)) (to_z w32 (of_z w32 K))) → Catenates G K ls l rs r hs k
+  joint-found e t = catenates K f t.0 (t.1 ∙ read-from-zero K G h g) (sym joint-asked ∙ asked_ok e)
 
 module _ {G K : ℤ} {ls : Shape} {l : List ℤ} {rs : Shape} {r : List ℤ} {hs : Shape} {k : ℕ} (c : Catenates G K ls l rs r hs k) where
   abbrev L : Array
@@ -156,6 +182,22 @@ module _ {G K : ℤ} {ls : Shape} {l : List ℤ} {rs : Shape} {r : List ℤ} {hs
       ap₂ (λ ns k. (build (lengths ns k) (element ns k)).elements) (sym c.higher.counts) (sym c.axis-is)
       ∙ joined-flat (counted hs) k _ _ (below c.left) f g (flat c.left) (flat c.right)
       ∙ ap₂ (λ x y. tab (count (set (counted hs) k (x + y))) (joined_at (x * n) (y * n) f g)) (sym (extent-is c.left)) (sym (extent-is c.right))
+
+  -- The result's shape, and that nothing is refused but LIMIT and SPACE.
+  module _ {a b : Run} (ea : a ≡ run_of ls hs.rank k) (eb : b ≡ run_of rs hs.rank k) {s : Shape} (e : s ≡ with_length hs k (a.width + b.width)) where
+    pub shape-made : s ≡ shape_of (catenate G K (array_of (lent ls l)) (array_of (lent rs r))).lengths
+    shape-made =
+        e
+        ∙ ap₂ (λ (x : Run) (y : Run). with_length hs k (x.width + y.width)) ea eb
+        ∙ with-length-is _ _ _ c.higher.high c.left.has
+        ∙ ap shape_of lengths-are
+
+    pub catenate-ready : Ready 22 2 G K (lent ls l) (lent rs r) (catenate G K (array_of (lent ls l)) (array_of (lent rs r))) s
+    catenate-ready =
+        record { names = catenate-names G K (lent ls l) (lent rs r); fine = (c.fine).none; none = c.none; stands = made-stands _ _ shape-made }
+
+    pub catenate-total : {n : ℕ} → good_shape s ≡ true → n ≡ count_of s → n ≡ count (catenate G K (array_of (lent ls l)) (array_of (lent rs r))).lengths
+    catenate-total g q = q ∙ stands-count (catenate-ready).stands g
 
   -- With the runs and the count as the program has them.
   module _ {a b : Run} {total : ℕ} (ea : a ≡ run_of ls hs.rank k) (eb : b ≡ run_of rs hs.rank k) (t : total ≡ count (catenate G K L R).lengths) where

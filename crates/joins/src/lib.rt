@@ -1,73 +1,58 @@
 // Catenate: two operands joined along an axis.
 #![tactic(auto)]
 
-ghost use Rattle.std.specs.Prelude.{◌≡◌, List, true, ◌+◌, ◌*◌, ◌≤◌, ◌<◌, length, ℤ, pos};
+ghost use Rattle.std.specs.Prelude.{◌≡◌, List, true, ◌+◌, ◌*◌, ◌≤◌, ◌<◌, length, ℤ, pos, IfOk};
 ghost use Rattle.std.proofs.Math.Seq.{slice};
 ghost use Rattle.shape.specs.Shape.{max_rank, counted, good_shape};
 ghost use Rattle.meaning.specs.Array.{array_of};
-ghost use Rattle.meaning.specs.Terms.{same_lengths};
+ghost use Rattle.meaning.specs.Terms.{same_lengths, from_zero};
 ghost use Rattle.meaning.specs.Primitives.{catenate};
 ghost use Rattle.meaning.specs.Reply.{reply};
 ghost use Rattle.meaning.specs.Steps.{fit, side_at};
 ghost use Rattle.copying.specs.Steps.{filled};
 ghost use Rattle.answer.specs.Answer.{lent, own, Replied};
+ghost use Rattle.answer.specs.Refused.{asked, answered};
 ghost use Rattle.joins.specs.Steps.{higher_shape, extent_of, run_of, Compared, agree, RunFits, RunsFit, runs_at, joined_along, Joinable};
 
-use answer::{Answer, refusal};
+use answer::{Operand, Refusal};
 use shape::Shape;
-use signed::Found;
 
 // 22, L before R.
 pub fn catenate(
     g: i32,
     k: i32,
-    ls: Shape,
-    l: &[i32],
-    rs: Shape,
-    r: &[i32],
+    l: &Operand<'_>,
+    r: &Operand<'_>,
     out: &mut [i32],
-) -> Answer
-    ensures { Replied result out.new (reply (pos 22) g k (lent ls l.now) (lent rs r.now) out.old) }
+) -> Result<Shape, Refusal>
+    ensures { Replied (answered result) out.new (reply (pos 22) g k l.now r.now out.old) }
 {
-    let early = answer::early_two(g, ls, l, rs, r);
-    if early != 0 {
-        return Answer::refused(early);
-    }
-    let own = catenate_refusal(g, k, ls, rs);
-    if own != 0 {
-        return Answer::refused(own);
-    }
-    let hs = higher(ls, rs);
-    let axis = signed::from_zero(k, g);
-    let left = run_of(ls, hs.rank, axis);
-    let right = run_of(rs, hs.rank, axis);
+    let (l, r) = answer::early_two(g, l, r)?;
+    let (hs, axis) = joint(g, k, l.shape, r.shape)?;
+    let left = run_of(l.shape, hs.rank, axis);
+    let right = run_of(r.shape, hs.rank, axis);
     let shape = hs.with_length(axis, left.width + right.width);
     let count = shape.count();
-    let late = answer::late(count, out.len());
-    if late != 0 {
-        return Answer::refused(late);
-    }
-    join_into(left, l, right, r, hs, axis, count, out);
-    Answer::given(shape)
+    answer::late(count, out.len())?;
+    join_into(left, l.elements, right, r.elements, hs, axis, count, out);
+    Ok(shape)
 }
 
-// RANK, AXIS and LENGTH. No element is looked at.
-fn catenate_refusal(g: i32, k: i32, ls: Shape, rs: Shape) -> usize
+// RANK, AXIS and LENGTH, or else the higher shape and the axis. No element is looked at.
+fn joint(g: i32, k: i32, ls: Shape, rs: Shape) -> Result<(Shape, usize), Refusal>
     requires { (good_shape ls ≡ true) × (good_shape rs ≡ true) }
-    ensures { (x y : List ℤ) → result ≡ own 22 (catenate g k (array_of (lent ls x)) (array_of (lent rs y))).refusals }
+    ensures number { (x y : List ℤ) → asked result ≡ own 22 (catenate g k (array_of (lent ls x)) (array_of (lent rs y))).refusals }
+    ensures found { IfOk result (λ t. (t.0 ≡ higher_shape ls rs) × (t.1 ≡ from_zero g k)) }
 {
     if !ranks_fit(ls.rank, rs.rank) {
-        return refusal::RANK;
+        return Err(Refusal::Rank);
     }
     let hs = higher(ls, rs);
-    let Found::At(axis) = signed::position(k, g, hs.rank) else {
-        return refusal::AXIS;
-    };
+    let axis = answer::axis(g, k, hs.rank)?;
     if agrees(ls, hs, axis) && agrees(rs, hs, axis) {
-        0
-    } else {
-        refusal::LENGTH
+        return Ok((hs, axis));
     }
+    Err(Refusal::Length)
 }
 
 // Equal, one apart, or one of them a scalar's.
