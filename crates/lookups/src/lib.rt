@@ -24,7 +24,7 @@ pub fn index_of(g: i32, l: &Operand<'_>, r: &Operand<'_>, out: &mut [i32]) -> Re
     }
     answer::late(r.count(), out.len())?;
     let first = signed::magnitude(g);
-    put_each(false, first, l.elements(), r.elements(), out);
+    put_each::<false>(first, l.elements(), r.elements(), out);
     Ok(r.shape.as_result())
 }
 
@@ -34,20 +34,20 @@ pub fn member(g: i32, l: &Operand<'_>, r: &Operand<'_>, out: &mut [i32]) -> Resu
 {
     let (l, r) = answer::early_two(g, l, r)?;
     answer::late(l.count(), out.len())?;
-    put_each(true, 0, r.elements(), l.elements(), out);
+    put_each::<true>(0, r.elements(), l.elements(), out);
     Ok(l.shape.as_result())
 }
 
-// What is written for each element of r, looked for in l: whether l has it, or its first position counted from `first`.
-// The choice is a bool all the way down: an enum in its place took a tenth longer.
-fn put_each(bits: bool, first: usize, l: &[i32], r: &[i32], out: &mut [i32])
+// What is written for each element of r, looked for in l: whether l has it, or its first position counted from `first`. The choice is a constant all
+// the way down, so that the compiler makes a loop for each: one loop for both, or an enum in the constant's place, took a tenth longer.
+fn put_each<const BITS: bool>(first: usize, l: &[i32], r: &[i32], out: &mut [i32])
     requires { Looks first l.now r.now (length out.old) }
-    ensures { AllEntered bits first l.now r.now out.old out.new }
+    ensures { AllEntered BITS first l.now r.now out.old out.new }
 {
     let m = r.len();
-    let done = put_searched(bits, first, l, r, out);
+    let done = put_searched::<BITS>(first, l, r, out);
     if done < m {
-        put_hashed(bits, first, l, &r[done..m], &mut out[done..m]);
+        put_hashed::<BITS>(first, l, &r[done..m], &mut out[done..m]);
     }
 }
 
@@ -66,44 +66,35 @@ fn tests_allowed(m: usize) -> usize
 }
 
 // The first elements of r, each searched for by itself, until a table would have paid. How many they are.
-fn put_searched(bits: bool, first: usize, l: &[i32], r: &[i32], out: &mut [i32]) -> usize
+fn put_searched<const BITS: bool>(first: usize, l: &[i32], r: &[i32], out: &mut [i32]) -> usize
     requires { Looks first l.now r.now (length out.old) }
-    ensures { Entered bits first l.now r.now out.old out.new result }
+    ensures { Entered BITS first l.now r.now out.old out.new result }
 {
-    let m = r.len();
-    let allowed = tests_allowed(m);
+    let allowed = tests_allowed(r.len());
     let mut tests = 0;
-    let mut j = 0;
-    while j < m {
+    for (j, x) in r.iter().enumerate() {
         if allowed < tests {
             return j;
         }
-        let at = position(l, r[j]);
-        out[j] = entry(bits, first, l, at);
+        let at = position(l, *x);
+        out[j] = entry::<BITS>(first, l.len(), at);
         tests += at;
-        j += 1;
     }
-    m
+    r.len()
 }
 
 // Every element of r, looked for along its bucket's chain.
-fn put_hashed(bits: bool, first: usize, l: &[i32], r: &[i32], out: &mut [i32])
+fn put_hashed<const BITS: bool>(first: usize, l: &[i32], r: &[i32], out: &mut [i32])
     requires { Looks first l.now r.now (length out.old) }
-    ensures { AllEntered bits first l.now r.now out.old out.new }
+    ensures { AllEntered BITS first l.now r.now out.old out.new }
 {
     let mut heads = [table::NONE; table::BUCKETS];
     let mut links = [table::NONE; Shape::MAX_COUNT];
     table::link(l, &mut heads, &mut links);
-    // By constants, so that the compiler makes a loop for each: one loop for both takes a tenth longer.
-    if bits {
-        put_looked_up(true, first, l, &heads, &links, r, out);
-    } else {
-        put_looked_up(false, first, l, &heads, &links, r, out);
-    }
+    put_looked_up::<BITS>(first, l, &heads, &links, r, out);
 }
 
-fn put_looked_up(
-    bits: bool,
+fn put_looked_up<const BITS: bool>(
     first: usize,
     l: &[i32],
     heads: &[u16; table::BUCKETS],
@@ -112,24 +103,21 @@ fn put_looked_up(
     out: &mut [i32],
 )
     requires { Looks first l.now r.now (length out.old) × Table l.now heads.now links.now }
-    ensures { AllEntered bits first l.now r.now out.old out.new }
+    ensures { AllEntered BITS first l.now r.now out.old out.new }
 {
-    let m = r.len();
-    let mut j = 0;
-    while j < m {
-        let at = table::look(l, heads, links, r[j]);
-        out[j] = entry(bits, first, l, at);
-        j += 1;
+    for (j, x) in r.iter().enumerate() {
+        let at = table::look(l, heads, links, *x);
+        out[j] = entry::<BITS>(first, l.len(), at);
     }
 }
 
-// What is written for an element whose first position in l is `at`.
-fn entry(bits: bool, first: usize, l: &[i32], at: usize) -> i32
+// What is written for an element whose first position among n is `at`.
+fn entry<const BITS: bool>(first: usize, n: usize, at: usize) -> i32
     requires { (first ≤ 1) × (at ≤ max_count) }
-    ensures { result ≡ entry bits first (length l.now) at }
+    ensures { result ≡ entry BITS first n at }
 {
-    if bits {
-        return if at < l.len() { 1 } else { 0 };
+    if BITS {
+        return i32::from(at < n);
     }
     (first + at) as i32
 }
