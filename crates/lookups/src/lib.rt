@@ -152,19 +152,17 @@ fn position_from(l: &[i32], from: usize, x: i32) -> usize
     start + first_at(&l[start..n], x)
 }
 
-// The first position that holds x, the length where none does, element by element.
+// The first position that holds x, the length where none does, element by element. A `for`, and not `position`: of the items of a chain no proof knows
+// that they are numbers of 32 bits.
 fn first_at(l: &[i32], x: i32) -> usize
     ensures { result ≡ first_at x l.now }
 {
-    let n = l.len();
-    let mut i = 0;
-    while i < n {
-        if signed::same(x, l[i]) {
+    for (i, y) in l.iter().enumerate() {
+        if x == *y {
             return i;
         }
-        i += 1;
     }
-    n
+    l.len()
 }
 
 // Blocks from `from` on that do not have x are passed over.
@@ -184,18 +182,13 @@ fn passed(l: &[i32], from: usize, x: i32) -> usize
     start
 }
 
-// False only where l does not have x. Nothing leaves the loop early, so that many elements are tested at once.
+// False only where l does not have x. Nothing leaves the loop early, as `any` would, so that many elements are tested at once.
 fn may_have(l: &[i32], x: i32) -> bool
     ensures { result ≡ false → Passed x l.now (length l.now) }
 {
-    let n = l.len();
     let mut has = false;
-    let mut i = 0;
-    while i < n {
-        if signed::same(x, l[i]) {
-            has = true;
-        }
-        i += 1;
+    for y in l {
+        has |= x == *y;
     }
     has
 }
