@@ -125,7 +125,8 @@ module _ (G K : ℤ) (L R : Operand) where
 -- What it asks, by the shape s that R is read with.
 pub mask-own : (a : Action) (G K : ℤ) (L : Operand) {R : Operand} {rs s : Shape} {b : List ℤ} → WellFormed rs b → lent rs b ≡ R → s ≡ vector_shape rs
     → own (action_number a) (masking a G K (array_of L) (array_of R)).refusals
-    ≡ mask_order a (is_list (array_of L)) (within (K -ℤ G) s.rank) (mask_rules a (repeats a rs.rank) (array_of L).elements (get_or (counted s) (from_zero G K) 0))
+    ≡ mask_order a (is_list (array_of L)) (within (K -ℤ G) s.rank)
+    (mask_rules a (repeats a rs.rank) (array_of L).elements (get_or (counted s) (from_zero G K) 0))
 mask-own a G K L {R} {rs} {s} {b} f v read =
     let g = formed f in
     let k : ℕ = from_zero G K in

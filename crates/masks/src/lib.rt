@@ -147,31 +147,28 @@ fn mask_fits(action: Action, repeated: bool, l: &[i32], n: usize) -> bool
     }
 }
 
-// No element ends the loop, so that it is compiled to tests of many elements.
+// A loop that no element ends, so that it is compiled to tests of many elements: `all` tests one at a time, and the proof of a `fold` did not close.
 fn all_bits(l: &[i32]) -> bool
     ensures { result ≡ every is_bit l.now }
 {
     let mut all = true;
-    let mut i = 0;
-    while i < l.len() {
-        if !signed::is_bit(l[i]) {
+    for z in l {
+        if !signed::is_bit(*z) {
             all = false;
         }
-        i += 1;
     }
     all
 }
 
+// A loop, which is compiled to tests of many elements: `filter` and `count` test one at a time.
 fn count_ones(l: &[i32]) -> usize
     ensures { result ≡ length (ones l.now) }
 {
     let mut n: usize = 0;
-    let mut i = 0;
-    while i < l.len() {
-        if l[i] == 1 {
+    for z in l {
+        if *z == 1 {
             n += 1;
         }
-        i += 1;
     }
     n
 }
