@@ -81,14 +81,10 @@ fn answer_line(
     if over {
         return sheet_answer::print_bad(line, text);
     }
-    let read = sheet_line::read_line(bytes, l, r);
-    let good = read.good;
-    if !good {
+    let Some(read) = sheet_line::read_line(bytes, l, r) else {
         return sheet_answer::print_bad(line, text);
-    }
-    let left = read.left;
-    let right = read.right;
-    let a = kernel::call(read.primitive, read.origin, read.k, left, l, right, r, out);
+    };
+    let a = kernel::call(read.primitive, read.origin, read.k, read.left, l, read.right, r, out);
     let shape = a.shape;
     sheet_answer::print_reply(line, a.number, shape, out, text)
 }

@@ -4,6 +4,7 @@ use native.Mathlib.Omega.{arith}
 use mathlib.Core.Path.{◌≡◌, refl, sym, ap, ap₂, subst, ◌∙◌}
 use mathlib.Core.List.{List, [], ◌∷◌, ◌++◌, append-nil}
 use mathlib.Core.Option.{Option, none, some}
+use Rattle.std.specs.Prelude as code
 use mathlib.Core.Bool.{Bool, true, false, cond}
 use lib.Dec.{leb}
 use lib.ListN.{length, drop, replicate, length-append, length-replicate}
@@ -19,7 +20,7 @@ use Rattle.meaning.specs.Primitives.{Meaning}
 use Rattle.meaning.specs.Reply.{Primitive, Reply, primitives, named, refusals, settle, meaning_of, reply}
 use Rattle.meaning.proofs.Arrays.{Whole, build-lengths, build-whole}
 use Rattle.sheet_line.specs.Numbers.{and_then, numbers}
-use Rattle.sheet_line.specs.declared.Read.{Read}
+use Rattle.sheet_line.specs.declared.Call as Read
 use Rattle.sheet_line.specs.Call.{max_held, max_line, Reader, give, fail, ◌then◌, natural, many, operand, head, Call, call, all_read, call_of, line_call}
 use Rattle.sheet_line.specs.Call.{read_of, left_of, right_of, front, room}
 use Rattle.sheet_line.proofs.Calls.{too_long}
@@ -143,8 +144,17 @@ reply-line line n G K L R out out' e =
     let wins = winner (precedence p.number) in
     settled-line line (wins (refusals p G L R m (length out))) m out out' ∙ ap (λ k. line_of line (settle (wins (refusals p G L R m k)) m out')) e
 
--- The line that is printed for what was read, with the operands' elements in l and r.
-abbrev line_for : ℕ → List ℤ → Read → List ℤ → List ℤ → List ℕ
+-- What is read of a call, and the line that is printed for it, with the operands' elements in l and r.
+abbrev read_call : Call → Read.Call
+read_call c = record {
+  primitive = c.head.primitive;
+  origin = c.head.origin;
+  k = c.head.k;
+  left = shape_of c.left.lengths;
+  right = shape_of c.right.lengths;
+}
+
+abbrev line_for : ℕ → List ℤ → Read.Call → List ℤ → List ℤ → List ℕ
 line_for line out a l r =
     line_of line
     (reply a.primitive a.origin a.k (record { shape = a.left; buffer = l }) (record { shape = a.right; buffer = r }) out)
@@ -152,7 +162,7 @@ line_for line out a l r =
 -- It is the answer.
 module _ (line : ℕ) (bytes : List ℕ) (l r out : List ℤ) (hl : length l ≡ max_held) (hr : length r ≡ max_held) (ho : length out ≡ max_held) where
   call_line : (c : Call) → line_call max_held max_held bytes ≡ some c
-      → line_for line out (read_of (some c)) (front c.left.elements l) (front c.right.elements r) ≡ answer_to line (some c)
+      → line_for line out (read_call c) (front c.left.elements l) (front c.right.elements r) ≡ answer_to line (some c)
   unfolding answer_to reply_to
   call_line c e =
       let w = line-whole max_held max_held bytes c e in
@@ -164,24 +174,24 @@ module _ (line : ℕ) (bytes : List ℕ) (l r out : List ℤ) (hl : length l ≡
   held-call : line_call (room l) (room r) bytes ≡ line_call max_held max_held bytes
   held-call = rw (hl, hr)
 
-  module _ (a : Read) (e : a ≡ read_of (line_call (room l) (room r) bytes)) where
-    pub bad-answer : a.good ≡ false → sheet_answer line bytes ≡ bad_line line
-    unfolding sheet_answer answer_to
-    bad-answer g = ap (answer_to line) (sym held-call) ∙ by-case (line_call (room l) (room r) bytes) e
-      where
-        by-case : (o : Option Call) → a ≡ read_of o → answer_to line o ≡ bad_line line
-        by-case none q = refl
-        by-case (some c) q = no_way (sym g ∙ ap (λ x. x.good) q)
+  pub bad-answer : code.None ≡ read_of (line_call (room l) (room r) bytes) → sheet_answer line bytes ≡ bad_line line
+  unfolding sheet_answer answer_to
+  bad-answer e = ap (answer_to line) (sym held-call) ∙ by-case (line_call (room l) (room r) bytes) e
+    where
+      by-case : (o : Option Call) → code.None ≡ read_of o → answer_to line o ≡ bad_line line
+      by-case none q = refl
+      by-case (some c) q = absurd (let z : ◌≡◌ {A = ℕ} 0 1 = cc in omega arith)
 
-    pub good-answer : a.good ≡ true → (l' r' : List ℤ) → l' ≡ front (left_of (line_call (room l) (room r) bytes)) l
-        → r' ≡ front (right_of (line_call (room l) (room r) bytes)) r → line_for line out a l' r' ≡ sheet_answer line bytes
-    unfolding sheet_answer
-    good-answer g l' r' p q = by-case (line_call (room l) (room r) bytes) (sym held-call) e p q ∙ ap (answer_to line) held-call
-      where
-        by-case : (o : Option Call) → line_call max_held max_held bytes ≡ o → a ≡ read_of o → l' ≡ front (left_of o) l → r' ≡ front (right_of o) r
-            → line_for line out a l' r' ≡ answer_to line o
-        by-case none f s x y = no_way (sym (ap (λ z. z.good) s) ∙ g)
-        by-case (some c) f s x y = (λ i. line_for line out (s i) (x i) (y i)) ∙ call_line c f
+  pub good-answer : (a : Read.Call) → code.Some a ≡ read_of (line_call (room l) (room r) bytes) → (l' r' : List ℤ)
+      → l' ≡ front (left_of (line_call (room l) (room r) bytes)) l → r' ≡ front (right_of (line_call (room l) (room r) bytes)) r
+      → line_for line out a l' r' ≡ sheet_answer line bytes
+  unfolding sheet_answer
+  good-answer a e l' r' p q = by-case (line_call (room l) (room r) bytes) (sym held-call) e p q ∙ ap (answer_to line) held-call
+    where
+      by-case : (o : Option Call) → line_call max_held max_held bytes ≡ o → code.Some a ≡ read_of o → l' ≡ front (left_of o) l → r' ≡ front (right_of o) r
+          → line_for line out a l' r' ≡ answer_to line o
+      by-case none f s x y = absurd (let z : ◌≡◌ {A = ℕ} 0 1 = cc in omega arith)
+      by-case (some c) f s x y = let same : a ≡ read_call c = cc in (λ i. line_for line out (same i) (x i) (y i)) ∙ call_line c f
 
 -- A line that fits the text is printed whole.
 pub printed-whole : (bytes line before after : List ℕ) (n : ℕ) → bytes ≡ line → length bytes ≤ max_line → max_line ≤ length before

@@ -1,19 +1,12 @@
 -- A line's call, by what was taken of it.
-use Rattle.std.proofs.Common.{◌≡◌, ℕ, ◌<◌, ◌≤◌, true, false, List, [], ◌∷◌, length, drop, ℤ, sym, refl, ap, ◌∙◌, arith, to_z-of_z, w32, SFits, le-leb}
-use mathlib.Core.Option.{Option, none, some}
+use Rattle.std.proofs.Common.{◌≡◌, ℕ, ◌<◌, ◌≤◌, List, [], ◌∷◌, length, ℤ, refl, ◌∙◌, Some, None, le-leb}
+use mathlib.Core.Option.{none, some}
 use borrow.Author.Tests.{lt-leb}
-use Rattle.shape.specs.declared.Shape.{Shape}
-use Rattle.shape.proofs.Bools.{no_way}
 use Rattle.meaning.specs.Array.{Array}
-use Rattle.sheet_line.specs.declared.Head as Found
-use Rattle.sheet_line.specs.declared.Read.{Read}
-use Rattle.sheet_line.specs.declared.operand.Operand.{Operand}
 use Rattle.sheet_line.specs.Numbers.{and_then, numbers}
-use Rattle.sheet_line.specs.Call.{max_line, Reader, give, ◌then◌, operand, Head, head, Call, call, all_read, call_of}
-use Rattle.sheet_line.specs.Call.{line_call, read_of, left_of, right_of, front, room}
-use Rattle.sheet_line.specs.Steps.{left, read_at, head_taken, held_in, Taken}
-use Rattle.sheet_line.proofs.Readers.{Reads, Lacks, held, then-lacks, then-reads}
-use Rattle.sheet_line.proofs.Round.{read-is-printing}
+use Rattle.sheet_line.specs.Call.{max_line, Reader, give, ◌then◌, next_number, operand, Head, head, Call, call, all_read, call_of, line_call}
+use Rattle.sheet_line.specs.Steps.{Takes}
+use Rattle.sheet_line.proofs.Readers.{Left, then-none, then-some, gives}
 
 -- A line and the call at its start.
 module _ (a b : ℕ) (line : List ℕ) where
@@ -22,31 +15,56 @@ module _ (a b : ℕ) (line : List ℕ) where
   too_long h = rw (lt-leb (length line) max_line h)
 
   module _ (h : length line ≤ max_line) where
-    line-is : line_call a b line ≡ and_then (read_at line 0 (call a b)) all_read
-    unfolding line_call call_of read_at left
-    line-is = rw (le-leb (length line) max_line h, le-leb 0 (length line) (omega arith)) (by-case (numbers line))
+    line-is : line_call a b line ≡ and_then (and_then (numbers line) (call a b)) all_read
+    unfolding line_call call_of
+    line-is = rw (le-leb (length line) max_line h) (by-case (numbers line))
       where
-        by-case : (x : Option (List ℤ)) → and_then x (λ zs. and_then (call a b zs) all_read) ≡ and_then (and_then x (call a b)) all_read
+        by-case : (x : Left) → and_then x (λ zs. and_then (call a b zs) all_read) ≡ and_then (and_then x (call a b)) all_read
         by-case none = refl
         by-case (some zs) = refl
 
-    pub no_call : Lacks line (call a b) 0 → line_call a b line ≡ none
+    pub no_call : {after : Left} → Takes (call a b) (numbers line) after None → line_call a b line ≡ none
     no_call e = line-is ∙ rw e.is
 
-    module _ {c : Call} {end : ℕ} (e : Reads line (call a b) 0 (give c) end) where
+    module _ {c : Call} {after : Left} (e : Takes (call a b) (numbers line) after (Some c)) where
       -- What follows the call has a number, or is bad.
-      pub left_over : end ≤ length line → line_call a b line ≡ none
-      unfolding read_at left
-      left_over k = line-is ∙ rw (e.is, le-leb end (length line) k) (by-case (numbers (drop end line)) refl)
+      pub left_over : (after ≡ some [] → ⊥) → line_call a b line ≡ none
+      left_over k = line-is ∙ rw e.is (by-case after k)
         where
-          by-case : (x : Option (List ℤ)) → numbers (drop end line) ≡ x → and_then (and_then x (give c)) all_read ≡ none
+          by-case : (x : Left) → (x ≡ some [] → ⊥) → and_then (and_then x (give c)) all_read ≡ none
           by-case none q = refl
-          by-case (some []) q = absurd (omega (arith, (read-is-printing (drop end line) [] q).some_number))
+          by-case (some []) q = absurd (q refl)
           by-case (some (z ∷ zs)) q = refl
 
-      pub line-call : length line < end → line_call a b line ≡ some c
-      unfolding read_at left
-      line-call k = line-is ∙ rw (e.is, lt-leb end (length line) k)
+      pub line-call : after ≡ some [] → line_call a b line ≡ some c
+      line-call k = line-is ∙ rw (e.is, k)
+
+-- What is still to be read of a head.
+abbrev k_on : ℤ → ℤ → Reader Head
+k_on n G = next_number then λ K. give (record { primitive = n; origin = G; k = K })
+
+abbrev origin_on : ℤ → Reader Head
+origin_on n = next_number then k_on n
+
+-- By what the code has found: no primitive, no origin, no K, or all of them.
+module _ {before : Left} where
+  pub no-primitive : {after last : Left} → Takes next_number before after None → Takes head before last None
+  unfolding head
+  no-primitive e = then-none origin_on e
+
+  module _ (n : ℤ) {first : Left} (e : Takes next_number before first (Some n)) where
+    pub no-origin : {after last : Left} → Takes next_number first after None → Takes head before last None
+    unfolding head
+    no-origin f = then-some origin_on e (then-none (k_on n) f)
+
+    module _ (G : ℤ) {second : Left} (f : Takes next_number first second (Some G)) where
+      pub no-k : {after last : Left} → Takes next_number second after None → Takes head before last None
+      unfolding head
+      no-k g = then-some origin_on e (then-some (k_on n) f (then-none (λ K. give (record { primitive = n; origin = G; k = K })) g))
+
+      pub head-is : (K : ℤ) {last : Left} → Takes next_number second last (Some K) → Takes head before last (Some (record { primitive = n; origin = G; k = K }))
+      unfolding head
+      head-is K g = then-some origin_on e (then-some (k_on n) f (then-some (λ K. give (record { primitive = n; origin = G; k = K })) g gives))
 
 -- What is still to be read of a call: after the head, and after L.
 abbrev pub right_on : ℕ → Head → Array → Reader Call
@@ -55,42 +73,24 @@ right_on b h L = operand b then λ R. give (record { head = h; left = L; right =
 abbrev pub left_on : ℕ → ℕ → Head → Reader Call
 left_on a b h = operand a then right_on b h
 
--- By what the code has found.
-module _ (a b : ℕ) {line : List ℕ} {at : ℕ} {r : Found.Head} (e : read_at line at head ≡ head_taken line r) where
-  pub head_read : {n g k : ℤ} {next : ℕ} → r ≡ Found.Head.Is n g k next → SFits w32 n → SFits w32 g → SFits w32 k
-      → Reads line (call a b) at (left_on a b (record { primitive = held n; origin = held g; k = held k })) next
+-- By what the code has found: no head, no L, no R, or all of them.
+module _ (a b : ℕ) {before : Left} where
+  pub no-head : {after last : Left} → Takes head before after None → Takes (call a b) before last None
   unfolding call
-  head_read f p q s = then-reads {p = head} (left_on a b) (record { is = rw (to_z-of_z p, to_z-of_z q, to_z-of_z s) (e ∙ ap (head_taken line) f) })
+  no-head e = then-none (left_on a b) e
 
-  pub head-lacks : r ≡ Found.Head.Nothing → Lacks line (call a b) at
-  unfolding call
-  head-lacks f = then-lacks (left_on a b) (record { is = e ∙ ap (head_taken line) f })
+  module _ (h : Head) {headed : Left} (e : Takes head before headed (Some h)) where
+    pub no-left : {after last : Left} → Takes (operand a) headed after None → Takes (call a b) before last None
+    unfolding call
+    no-left f = then-some (left_on a b) e (then-none (right_on b h) f)
 
-module _ {line : List ℕ} {at : ℕ} {before after : List ℤ} {o : Operand} (t : Taken line at before after o) where
-  pub operand_read : o.good ≡ true → Reads line (operand (room before)) at (give (held_in after o)) o.next
-  operand_read g = record { is = rw g at t.read }
+    module _ (L : Array) {halved : Left} (f : Takes (operand a) headed halved (Some L)) where
+      pub no-right : {after last : Left} → Takes (operand b) halved after None → Takes (call a b) before last None
+      unfolding call
+      no-right g = then-some (left_on a b) e (then-some (right_on b h) f (then-none (λ R. give (record { head = h; left = L; right = R })) g))
 
-  pub operand-lacks : o.good ≡ false → Lacks line (operand (room before)) at
-  operand-lacks g = record { is = rw g at t.read }
-
--- What read_line promises.
-abbrev pub Promise : List ℕ → List ℤ → List ℤ → List ℤ → List ℤ → Read → Type 0
-Promise line l l' r r' answer =
-    (answer ≡ read_of (line_call (room l) (room r) line))
-    × ((answer.good ≡ true → l' ≡ front (left_of (line_call (room l) (room r) line)) l)
-    × ((answer.good ≡ true → r' ≡ front (right_of (line_call (room l) (room r) line)) r)
-    × ((length l' ≡ length l) × (length r' ≡ length r))))
-
-module _ (line : List ℕ) (l l' r r' : List ℤ) {answer : Read} (kept : (length l' ≡ length l) × (length r' ≡ length r)) where
-  pub bad-line : answer ≡ read_of none → line_call (room l) (room r) line ≡ none → Promise line l l' r r' answer
-  bad-line b e =
-      let not_good : answer.good ≡ false = ap (λ x. x.good) b in
-      (b ∙ rw e, (λ g. no_way (sym not_good ∙ g), (λ g. no_way (sym not_good ∙ g), kept)))
-
-  pub good-line : (c : Call) → answer ≡ read_of (some c) → line_call (room l) (room r) line ≡ some c
-      → l' ≡ front c.left.elements l → r' ≡ front c.right.elements r → Promise line l l' r r' answer
-  good-line c b e p q = (b ∙ rw e, (λ g. rw e p, (λ g. rw e q, kept)))
-
--- The answer to a good line.
-abbrev pub answered : ℤ → ℤ → ℤ → Shape → Shape → Read
-answered n g k s t = record { good = true; primitive = n; origin = g; k = k; left = s; right = t }
+      pub call-is : (R : Array) {last : Left} → Takes (operand b) halved last (Some R)
+          → Takes (call a b) before last (Some (record { head = h; left = L; right = R }))
+      unfolding call
+      call-is R g =
+          then-some (left_on a b) e (then-some (right_on b h) f (then-some (λ R. give (record { head = h; left = L; right = R })) g gives))

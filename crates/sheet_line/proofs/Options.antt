@@ -1,5 +1,7 @@
 -- Tests and findings, taken apart.
 use Rattle.std.proofs.Common.{◌≡◌, ℕ, Bool, true, false, cond, refl, arith}
+use Rattle.std.proofs.Common.{Some, None, Result, Ok, Err}
+use Rattle.std.specs.Result.{OkIff, result_ok}
 use mathlib.Core.Option.{Option, none, some}
 use Rattle.sheet_line.specs.Numbers.{and_then}
 
@@ -28,3 +30,13 @@ module _ {A : Type 0} where
   pub unless-some : (t : Bool) (o : Option A) (a : A) → cond t none o ≡ some a → (t ≡ false) × (o ≡ some a)
   unless-some true o a e = none-some e
   unless-some false o a e = (refl, e)
+
+-- What a conversion promised, by what was made of its result.
+module _ {T E : Type 0} {P : Type 0} (v : T) where
+  pub no-value : (r : Result T E) → OkIff r P v → None ≡ result_ok r → P → ⊥
+  no-value (Ok x) h e p = absurd (let z : ◌≡◌ {A = ℕ} 0 1 = cc in omega arith)
+  no-value (Err x) h e p = h p
+
+  pub value-is : (r : Result T E) (x : T) → OkIff r P v → Some x ≡ result_ok r → P × (x ≡ v)
+  value-is (Ok y) x h e = (h.0, cc)
+  value-is (Err y) x h e = absurd (let z : ◌≡◌ {A = ℕ} 0 1 = cc in omega arith)

@@ -1,9 +1,10 @@
 -- Paper 01, "The sheet program": the call that a line says.
 use Rattle.std.specs.Prelude.{ℕ, zero, suc, min, true, false, cond, List, [], ◌∷◌, ◌++◌, length, drop, ℤ, pos, negsuc, nat_le}
+use Rattle.std.specs.Prelude as code
 use Rattle.std.proofs.Math.Option.{Option, none, some}
-use Rattle.shape.specs.Shape.{max_rank, count, shape_of, scalar}
+use Rattle.shape.specs.Shape.{max_rank, count, shape_of}
 use Rattle.meaning.specs.Array.{Array}
-use Rattle.sheet_line.specs.declared.Read.{Read}
+use Rattle.sheet_line.specs.declared.Call as Read
 use Rattle.sheet_line.specs.Numbers.{and_then, numbers}
 
 infixr 4 ◌then◌
@@ -90,17 +91,16 @@ call_of room_l room_r zs = and_then (call room_l room_r zs) all_read
 unfoldable pub line_call : ℕ → ℕ → List ℕ → Option Call
 line_call room_l room_r line = cond (nat_le (length line) max_line) (and_then (numbers line) (call_of room_l room_r)) none
 
--- What is answered to a line. A bad one has numbers 0 and scalar shapes.
-abbrev pub read_of : Option Call → Read
-read_of (some c) = record {
-  good = true;
+-- What is answered to a line: nothing to a bad one.
+abbrev pub read_of : Option Call → code.Option Read.Call
+read_of (some c) = code.Some (record {
   primitive = c.head.primitive;
   origin = c.head.origin;
   k = c.head.k;
   left = shape_of c.left.lengths;
   right = shape_of c.right.lengths;
-}
-read_of none = record { good = false; primitive = pos 0; origin = pos 0; k = pos 0; left = scalar; right = scalar }
+})
+read_of none = code.None
 
 -- The elements of a line's operands.
 abbrev pub left_of : Option Call → List ℤ

@@ -1,4 +1,4 @@
-use Rattle.std.proofs.Common.{ℕ, ◌≡◌, ◌<◌, ◌≤◌, ◌^◌, List, Bool, length, sym, ◌∙◌, arith, rules}
+use Rattle.std.proofs.Common.{ℕ, ◌≡◌, ◌<◌, ◌≤◌, ◌^◌, List, Bool, length, refl, sym, ◌∙◌, arith, rules}
 use mir.Syntax.{w32}
 use mir.Val.{SFits}
 use mir.Facts.{to_z-of_z}
@@ -26,14 +26,13 @@ returns-then-over c =
     (not-held a.line a.over a.bytes.now c.if-over.true) (told.ensures.count, told.ensures.text) in
     record { count = p.0; text = p.1 }
 
-pub returns-then-not-good : goal.returns-then-not-good
-returns-then-not-good c =
+pub returns-in_default : goal.returns-in_default
+returns-in_default c =
     let a = c.args in
-    let read = c.read_line-read in
-    let told = c.print_bad-then-not-good in
+    let told = c.print_bad-in_default in
     let bad =
     bad-answer a.line a.bytes.now a.l.now a.r.now a.out.now c.requires.left c.requires.right c.requires.result
-    read.result read.ensures.answer c.if-not-good.true in
+    c.in_default.ensures.answer in
     let p =
     bad_printed a.line a.over a.bytes.now a.text.now told.new.text told.result (omega arith) c.requires.room
     (held_whole a.line a.over a.bytes.now c.if-over.false ∙ bad) (told.ensures.count, told.ensures.text) in
@@ -42,18 +41,18 @@ returns-then-not-good c =
 pub returns : goal.returns
 returns c =
     let a = c.args in
-    let read = c.read_line-read in
+    let read = c.in-Some.read in
+    let said = c.in-Some.ensures in
     let call = c.call-a in
     let told = c.print_reply in
-    let primitive : SFits w32 read.result.primitive = search rules in
-    let origin : SFits w32 read.result.origin = search rules in
-    let k : SFits w32 read.result.k = search rules in
+    let primitive : SFits w32 read.primitive = search rules in
+    let origin : SFits w32 read.origin = search rules in
+    let k : SFits w32 read.k = search rules in
     let y = rw (to_z-of_z primitive, to_z-of_z origin, to_z-of_z k) at call.ensures in
-    let g = c.if-not-good.false in
     let few : length call.new.out ≤ max_held = omega (arith, call.auto.out, c.requires.result) in
     let same =
     good-answer a.line a.bytes.now a.l.now a.r.now a.out.now c.requires.left c.requires.right c.requires.result
-    read.result read.ensures.answer g read.new.l read.new.r (read.ensures.left g) (read.ensures.right g) in
+    read said.answer c.read_line.new.l c.read_line.new.r (said.left refl) (said.right refl) in
     let line = reply_line a.line call.result.number (result_in call.result.shape call.new.out) in
     let is : line ≡ held_answer a.line a.over a.bytes.now =
     (λ i. reply_line a.line (y.answer i).number (record { shape = (y.answer i).shape; buffer = y.buffer i }))
