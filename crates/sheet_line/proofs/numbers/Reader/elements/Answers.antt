@@ -1,9 +1,6 @@
 use Rattle.std.proofs.Common.{◌≤◌, length, arith, take_all, rules, w32, SFits, to_z-of_z}
-use Rattle.sheet_line.proofs.Readers.{so-far-none, so-far-stop, so_far_more, so-far-all}
+use Rattle.sheet_line.proofs.Readers.{so-far-stop, so_far_more, so-far-all}
 use Rattle.sheet_line.proofs.numbers.Reader.elements.Goals as goal
-
-pub loop-z-init : goal.loop-z-init
-loop-z-init c = so-far-none
 
 pub returns-in_err-z : goal.returns-in_err-z
 returns-in_err-z c = rw c.from_residual.ensures (so-far-stop c.loop-z.invariant c.loop-z-test.true c.in_err-z.ensures)
