@@ -42,14 +42,10 @@ fn shown(
     let answered = a.number;
     let shape = a.shape;
     let mut text = [0u8; 256];
-    let n = sheet_answer::print_reply(line, answered, shape, out, &mut text);
-    if n == 0 {
-        return count_of(rt, line, shape);
+    match sheet_answer::print_reply(line, answered, shape, out, &mut text) {
+        Some(n) => rt.write_all(&text[..n]),
+        None => count_of(rt, line, shape),
     }
-    if n <= 256 {
-        rt.write_all(&text[..n])?;
-    }
-    Ok(())
 }
 
 fn count_of(rt: &impl Print, line: u64, shape: Shape) -> io::Result<()> {
@@ -220,14 +216,12 @@ fn items(rt: &impl Print) -> io::Result<()> {
     let number = a.number;
     let shape = a.shape;
     let mut text = [0u8; 256];
-    let n = sheet_answer::print_reply(27, number, shape, part, &mut text);
-    if n <= 256 {
+    if let Some(n) = sheet_answer::print_reply(27, number, shape, part, &mut text) {
         rt.write_all(&text[..n])?;
     }
     let b = items::item_shape(1, 3, matrix(2, 3), &block);
     let refused = b.number;
-    let m = sheet_answer::print_reply(28, refused, Shape::scalar(), part, &mut text);
-    if m <= 256 {
+    if let Some(m) = sheet_answer::print_reply(28, refused, Shape::scalar(), part, &mut text) {
         rt.write_all(&text[..m])?;
     }
     Ok(())

@@ -79,14 +79,14 @@ fn answer_line(
     ensures text { text.new ≡ front (held_answer line over bytes.now) text.old }
 {
     if over {
-        return sheet_answer::print_bad(line, text);
+        return sheet_answer::print_bad(line, text).unwrap_or(0);
     }
     let Some(read) = sheet_line::read_line(bytes, l, r) else {
-        return sheet_answer::print_bad(line, text);
+        return sheet_answer::print_bad(line, text).unwrap_or(0);
     };
     let a = kernel::call(read.primitive, read.origin, read.k, read.left, l, read.right, r, out);
     let shape = a.shape;
-    sheet_answer::print_reply(line, a.number, shape, out, text)
+    sheet_answer::print_reply(line, a.number, shape, out, text).unwrap_or(0)
 }
 
 // Where the text ends after n bytes more.

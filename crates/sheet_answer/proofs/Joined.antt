@@ -26,10 +26,9 @@ use Rattle.sheet_line.specs.Call.{read_of, left_of, right_of, front, room}
 use Rattle.sheet_line.proofs.Calls.{too_long}
 use Rattle.sheet_line.proofs.Says.{many-length}
 use Rattle.sheet_line.proofs.Options.{none-some, some_inj, passed, if_some}
-use Rattle.sheet_answer.specs.Answer.{ok_line, bad_line, result_in, reply_line, fitted}
+use Rattle.sheet_answer.specs.Answer.{ok_line, bad_line, result_in, reply_line}
 use Rattle.sheet_answer.specs.Sheet.{operand_of, reply_to, answer_to, sheet_answer}
 use Rattle.sheet_answer.specs.Steps.{held_answer}
-use Rattle.sheet_answer.proofs.Answers.{Print}
 
 -- The operands of a good line are whole; their elements stand behind the test of their count.
 elements-whole : (p : Reader ℤ) (t : Bool) (ns : List ℕ) (ys : List ℤ) (a : Array) (rest : List ℤ)
@@ -192,14 +191,6 @@ module _ (line : ℕ) (bytes : List ℕ) (l r out : List ℤ) (hl : length l ≡
           → line_for line out a l' r' ≡ answer_to line o
       by-case none f s x y = absurd (let z : ◌≡◌ {A = ℕ} 0 1 = cc in omega arith)
       by-case (some c) f s x y = let same : a ≡ read_call c = cc in (λ i. line_for line out (same i) (x i) (y i)) ∙ call_line c f
-
--- A line that fits the text is printed whole.
-pub printed-whole : (bytes line before after : List ℕ) (n : ℕ) → bytes ≡ line → length bytes ≤ max_line → max_line ≤ length before
-    → Print bytes before after n → (n ≡ length line) × (after ≡ front line before)
-unfolding fitted
-printed-whole bytes line before after n e h k p =
-    let all : fitted bytes before ≡ bytes = rw (le-leb (length bytes) (length before) (omega arith)) in
-    rw (all, e) at p
 
 -- What is printed for a line that was too long to be held, and for one that is held.
 pub long-answer : (line : ℕ) (bytes : List ℕ) → max_line < length bytes → sheet_answer line bytes ≡ bad_line line

@@ -1,7 +1,7 @@
 -- A table of two digits for each number, by a test that is computed over the whole table.
 use Prim.Native.Nat.{ℕ, zero, suc, ◌+◌, ◌*◌, ◌/◌, ◌%◌, ◌<◌}
 use native.Mathlib.Omega.{arith}
-use mathlib.Core.Path.{◌≡◌}
+use mathlib.Core.Path.{◌≡◌, refl}
 use mathlib.Core.List.{List, [], ◌∷◌}
 use mathlib.Core.Bool.{Bool, true, ◌&&◌}
 use lib.Dec.{eqb}
@@ -9,6 +9,7 @@ use lib.ListN.{length, get_or}
 use borrow.Author.Tests.{eqb-true}
 use Rattle.shape.proofs.Bools.{both}
 use Rattle.sheet_line.specs.Text.{digit}
+use Rattle.sheet_answer.specs.declared.print.TheConstants.{DIGIT_PAIRS}
 use Rattle.sheet_answer.specs.Steps.{Pairs}
 
 -- The digits of i, of i + 1, and so on.
@@ -38,3 +39,7 @@ pairs xs t l = record {
   tens = λ k h. (pair-at xs 0 k k t (omega arith) (omega arith)).0;
   ones = λ k h. (pair-at xs 0 k k t (omega arith) (omega arith)).1;
 }
+
+-- The program's table.
+pub table : Pairs DIGIT_PAIRS
+table = pairs _ refl refl

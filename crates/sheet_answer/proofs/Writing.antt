@@ -11,7 +11,8 @@ use lib.ListN.{length, take, drop, set, length-set, length-append, take-append-d
 use lib.Seq.{set_split, take-append-le, take-take, drop_at, length-take-le, append_snoc}
 use borrow.Author.Tests.{le-leb, lt-leb}
 use Rattle.sheet_line.specs.Text.{digit, digits}
-use Rattle.sheet_answer.specs.Steps.{Written}
+use Rattle.sheet_answer.specs.declared.print.Writer.{Writer}
+use Rattle.sheet_answer.specs.Steps.{Written, Puts}
 use Rattle.sheet_line.proofs.Digits.{digits-one, digits_more}
 
 pub write-none : {t : List ℕ} {e : ℕ} → e ≤ length t → Written t t e e []
@@ -36,13 +37,13 @@ write-more {t₀} {t₁} {t₂} {j} {i} {e} {vs} {ws} p q =
     }
 
 -- The number of digits.
-width-more : (n : ℕ) → 10 ≤ n → length (digits n) ≡ length (digits (n / 10)) + 1
+pub width-more : (n : ℕ) → 10 ≤ n → length (digits n) ≡ length (digits (n / 10)) + 1
 width-more n h = rw (digits_more n h) (length-append (digits (n / 10)) (digit (n % 10) ∷ []))
 
 width_one : (n : ℕ) → n < 10 → length (digits n) ≡ 1
 width_one n h = rw (digits-one n h)
 
-digits-some : (n : ℕ) → 0 < length (digits n)
+pub digits-some : (n : ℕ) → 0 < length (digits n)
 digits-some n = elim (dec_lt n 10) [ yes h ↦ omega (arith, width_one n h) | no h ↦ omega (arith, width-more n (omega arith)) ]
 
 pub width-most : (k n : ℕ) → n < 10 ^ suc k → length (digits n) ≤ suc k
@@ -99,32 +100,36 @@ digits-two n h =
     ∙ rw (digits_more (n / 10) (omega arith), above, tens, ones)
     (append_snoc (digits (n / 100)) (digit (n / 10 % 10)) (digit (n % 10) ∷ []))
 
--- The digits of n, of which those of `rest` are still to be written.
-pub record Spelt (before text : List ℕ) (i end n rest : ℕ) : Type 0 where
+-- The same of a writer.
+pub put-none : (w : Writer) → Puts w w []
+put-none w = record { same = refl; written = write-none w.within }
+
+pub put-more : {before now after : Writer} {vs ws : List ℕ} → Puts before now ws → Puts now after vs → Puts before after (vs ++ ws)
+put-more p q = record { same = q.same ∙ p.same; written = write-more p.written q.written }
+
+-- A writer has put the end of a text, of which `rest` is still to be put.
+pub record Left (before now : Writer) (all rest : List ℕ) : Type 0 where
   pub tail : List ℕ
-  pub spelt : digits rest ++ tail ≡ digits n
-  pub written : Written before text i end tail
+  pub joined : rest ++ tail ≡ all
+  pub put : Puts before now tail
 
-pub spell-none : {t : List ℕ} {end : ℕ} (n : ℕ) → end ≤ length t → Spelt t t end end n n
-spell-none n h = record { tail = []; spelt = append-nil (digits n); written = write-none h }
+pub left-all : (w : Writer) (all : List ℕ) → Left w w all all
+left-all w all = record { tail = []; joined = append-nil all; put = put-none w }
 
-module _ {before text : List ℕ} {i end n rest : ℕ} (s : Spelt before text i end n rest) where
-  left : length (digits n) ≤ end → (length (digits rest) ≤ i) × (i ≤ length text)
-  left h = let w = s.written in omega (arith, ap length s.spelt, length-append (digits rest) s.tail)
+module _ {before now : Writer} {all rest : List ℕ} (l : Left before now all rest) where
+  pub left-room : length all ≤ before.at → length rest ≤ now.at
+  left-room h = omega (arith, ap length l.joined, length-append rest l.tail, l.put.written.place)
 
-  pub spell-room : length (digits n) ≤ end → (0 < i) × (i ≤ length text)
-  spell-room h = omega (arith, left h, digits-some rest)
+  pub left-empty : rest ≡ [] → Puts before now all
+  left-empty e = rw (← l.joined, e) l.put
 
-  pub spell-room-two : length (digits n) ≤ end → 10 ≤ rest → 1 < i
-  spell-room-two h k = omega (arith, left h, width-more rest k, digits-some (rest / 10))
-
-  module _ {after : List ℕ} {j : ℕ} {ds : List ℕ} (w : Written text after j i ds) where
-    pub spell-more : (next : ℕ) → digits rest ≡ digits next ++ ds → Spelt before after j end n next
-    spell-more next e = record {
-      tail = ds ++ s.tail;
-      spelt = sym (append_assoc (digits next) ds s.tail) ∙ rw (← e) s.spelt;
-      written = write-more s.written w;
+  module _ {after : Writer} {bytes : List ℕ} (p : Puts now after bytes) where
+    pub left-more : (next : List ℕ) → rest ≡ next ++ bytes → Left before after all next
+    left-more next e = record {
+      tail = bytes ++ l.tail;
+      joined = sym (append_assoc next bytes l.tail) ∙ rw (← e) l.joined;
+      put = put-more l.put p;
     }
 
-    pub spell_last : digits rest ≡ ds → Written before after j end (digits n)
-    spell_last e = rw (← s.spelt, e) (write-more s.written w)
+    pub left-none : rest ≡ bytes → Puts before after all
+    left-none e = rw (← l.joined, e) (put-more l.put p)

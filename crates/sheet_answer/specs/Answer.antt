@@ -1,5 +1,5 @@
 -- Paper 01, "The sheet program": the output for a line.
-use Rattle.std.specs.Prelude.{ℕ, zero, suc, List, [], ◌∷◌, ◌++◌, map, cond, leb, length, ℤ}
+use Rattle.std.specs.Prelude.{◌≡◌, ℕ, zero, suc, ◌≤◌, ◌<◌, List, [], ◌∷◌, ◌++◌, map, cond, leb, length, ℤ, Option, MatchOption}
 use Rattle.shape.specs.declared.Shape.{Shape}
 use Rattle.meaning.specs.Array.{Operand, Array, array_of, good_form}
 use Rattle.sheet_line.specs.Text.{newline, digits, decimal, spaced}
@@ -47,3 +47,7 @@ fitted bytes text = cond (leb (length bytes) (length text)) bytes []
 -- The text then; its other bytes stay.
 abbrev pub printed_to : List ℕ → List ℕ → List ℕ
 printed_to bytes text = front (fitted bytes text) text
+
+-- What printing returns: how many bytes it has written, or None where the line is longer than the text.
+abbrev pub CountIfFits : Option ℕ → List ℕ → List ℕ → Type 0
+CountIfFits result bytes text = MatchOption result (length text < length bytes) (λ n. (n ≡ length bytes) × (n ≤ length text))

@@ -4,6 +4,7 @@ use Rattle.sheet_line.specs.Text.{digit}
 use Rattle.sheet_line.specs.Call.{max_line, max_held}
 use Rattle.sheet_answer.specs.Answer.{bad_line}
 use Rattle.sheet_answer.specs.Sheet.{sheet_answer}
+use Rattle.sheet_answer.specs.declared.print.Writer.{Writer}
 
 -- Some bytes were written to a text, from `start` up to `end`.
 pub record Written (before after : List ℕ) (start end : ℕ) (bytes : List ℕ) : Type 0 where
@@ -11,6 +12,11 @@ pub record Written (before after : List ℕ) (start end : ℕ) (bytes : List ℕ
   pub inside : end ≤ length before
   pub kept : length after ≡ length before
   pub text : after ≡ take start before ++ (bytes ++ drop end before)
+
+-- Some bytes were put before those that a writer had written.
+pub record Puts (before after : Writer) (bytes : List ℕ) : Type 0 where
+  pub same : after.text.ghost_name ≡ before.text.ghost_name
+  pub written : Written before.text.now after.text.now after.at before.at bytes
 
 -- A table of the two digits of each number below 100.
 pub record Pairs (table : List ℕ) : Type 0 where

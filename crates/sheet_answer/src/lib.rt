@@ -6,26 +6,26 @@ mod reply;
 
 ghost use Rattle.std.specs.Prelude.{◌≡◌, ◌≤◌, length};
 ghost use Rattle.sheet_line.specs.Call.{max_line, max_held};
-ghost use Rattle.sheet_answer.specs.Answer.{bad_line, result_in, reply_line, fitted, printed_to};
+ghost use Rattle.sheet_answer.specs.Answer.{bad_line, result_in, reply_line, CountIfFits, printed_to};
 
-use print::{put_byte, put_head, width};
+use print::{Writer, width};
 use reply::{print_no, print_ok};
 use shape::Shape;
 
-// The answer to a bad line.
-pub fn print_bad(line_number: u64, text: &mut [u8]) -> usize
-    ensures count { result ≡ length (fitted (bad_line line_number) text.old) }
+// The answer to a bad line: how many bytes were written, or None where it does not fit the text.
+pub fn print_bad(line_number: u64, text: &mut [u8]) -> Option<usize>
+    ensures count { CountIfFits result (bad_line line_number) text.old }
     ensures text { text.new ≡ printed_to (bad_line line_number) text.old }
 {
     let line = line_number as usize;
     let need = width(line) + 5;
     if text.len() < need {
-        return 0;
+        return None;
     }
-    let end = put_byte(text, need, b'\n');
-    let head = put_byte(text, end, b'd');
-    put_head(text, head, line, b'b', b'a');
-    need
+    let mut answer = Writer::new(text, need);
+    answer.put_word(b" bad\n");
+    answer.put_digits(line);
+    Some(need)
 }
 
 // The answer to a call's reply. `number` is the reply's, not the line's: 0 for a success, of that shape and with its elements in `out`, else the refusal's.
@@ -36,8 +36,8 @@ pub fn print_reply(
     shape: Shape,
     out: &[i32],
     text: &mut [u8],
-) -> usize
-    ensures count { result ≡ length (fitted (reply_line line_number number (result_in shape out.now)) text.old) }
+) -> Option<usize>
+    ensures count { CountIfFits result (reply_line line_number number (result_in shape out.now)) text.old }
     ensures text { text.new ≡ printed_to (reply_line line_number number (result_in shape out.now)) text.old }
     ensures room { length out.now ≤ max_held → length (reply_line line_number number (result_in shape out.now)) ≤ max_line }
 {

@@ -1,17 +1,14 @@
-// Text written from its end to its start, so that a digit is written as soon as it is known. Each function gives the place where its bytes start.
-ghost use Rattle.std.specs.Prelude.{◌≡◌, suc, ◌+◌, ◌*◌, ◌/◌, ◌%◌, ◌^◌, ◌≤◌, ◌<◌, cond, [], ◌∷◌, ◌++◌, map, leb, length};
-ghost use Rattle.shape.specs.Shape.{max_rank, max_count};
+// Text written from its end to its start, so that a digit is written as soon as it is known.
+ghost use Rattle.std.specs.Prelude.{◌≡◌, suc, ◌+◌, ◌*◌, ◌/◌, ◌%◌, ◌^◌, ◌≤◌, ◌<◌, ℕ, List, cond, [], ◌∷◌, map, leb, length};
 ghost use Rattle.sheet_line.specs.Text.{blank, digit, digits, decimal, following};
-ghost use Rattle.sheet_answer.specs.Steps.{Written, Pairs};
 
-pub fn put_byte(text: &mut [u8], end: usize, b: u8) -> usize
-    requires { (0 < end) × (end ≤ length text.old) }
-    ensures { Written text.old text.new result end (b ∷ []) }
-{
-    let at = end - 1;
-    text[at] = b;
-    at
-}
+// The least number of eleven digits.
+const ELEVEN_DIGITS: usize = 10000000000;
+
+// The two digits of each number below 100.
+static DIGIT_PAIRS: [u8; 200] =
+    *b"0001020304050607080910111213141516171819202122232425262728293031323334353637383940414243444546474849\
+      5051525354555657585960616263646566676869707172737475767778798081828384858687888990919293949596979899";
 
 // 1 if n reaches p, else 0.
 fn reaches(n: usize, p: usize) -> usize
@@ -20,9 +17,6 @@ fn reaches(n: usize, p: usize) -> usize
 {
     if p <= n { 1 } else { 0 }
 }
-
-// The least number of eleven digits.
-const ELEVEN_DIGITS: usize = 10000000000;
 
 // How many digits a number of at most ten digits has, without a division and without a branch.
 fn short_width(n: usize) -> usize
@@ -52,156 +46,173 @@ pub fn width(n: usize) -> usize
     10 + short_width(n / ELEVEN_DIGITS)
 }
 
-pub fn put_digits(text: &mut [u8], end: usize, n: usize) -> usize
-    requires { (length (digits n) ≤ end) × (end ≤ length text.old) }
-    ensures { Written text.old text.new result end (digits n) }
-{
-    let mut i = end;
-    let mut rest = n;
-    while 10 <= rest {
-        let d = (rest % 10) as u8;
-        i = put_byte(text, i, b'0' + d);
-        rest /= 10;
+// Writes into a text, before `at`.
+#[derive(Drop)]
+pub struct Writer<'a> {
+    text: &'a mut [u8],
+    at: usize,
+    ghost within: { at ≤ length text.now },
+}
+
+impl<'a> Writer<'a> {
+    ghost use Rattle.sheet_answer.specs.Steps.{Puts};
+
+    pub fn new(text: &'a mut [u8], at: usize) -> Writer<'a>
+        requires { at ≤ length text.old }
+        ensures same { result.text.ghost_name ≡ text.entry.ghost_name }
+        ensures text { result.text.now ≡ text.old }
+        ensures at { result.at ≡ at }
+    {
+        Writer { text, at }
     }
-    let d = rest as u8;
-    put_byte(text, i, b'0' + d)
-}
 
-// The two digits of each number below 100.
-pub fn digit_pairs() -> [u8; 200]
-    ensures { Pairs result }
-{
-    *b"0001020304050607080910111213141516171819202122232425262728293031323334353637383940414243444546474849\
-      5051525354555657585960616263646566676869707172737475767778798081828384858687888990919293949596979899"
-}
-
-// Both digits of a number below 100.
-fn put_pair(text: &mut [u8], end: usize, n: usize, pairs: &[u8; 200]) -> usize
-    requires { (1 < end) × ((end ≤ length text.old) × ((n < 100) × Pairs pairs.now)) }
-    ensures { Written text.old text.new result end (digit (n / 10) ∷ digit (n % 10) ∷ []) }
-{
-    let k = n * 2;
-    let tens = pairs[k];
-    let ones = pairs[k + 1];
-    let second = put_byte(text, end, ones);
-    put_byte(text, second, tens)
-}
-
-// The digits of a number, two at a time: for the elements, which are many.
-fn put_pairs(text: &mut [u8], end: usize, n: usize, pairs: &[u8; 200]) -> usize
-    requires { (length (digits n) ≤ end) × ((end ≤ length text.old) × Pairs pairs.now) }
-    ensures { Written text.old text.new result end (digits n) }
-{
-    let mut i = end;
-    let mut rest = n;
-    while 100 <= rest {
-        i = put_pair(text, i, rest % 100, pairs);
-        rest /= 100;
+    pub fn put_byte(&mut self, b: u8)
+        requires { 0 < self.old.at }
+        ensures { Puts self.old self.new (b ∷ []) }
+    {
+        self.at -= 1;
+        self.text[self.at] = b;
     }
-    if 10 <= rest {
-        return put_pair(text, i, rest, pairs);
+
+    pub fn put_word(&mut self, word: &[u8])
+        requires { length word.now ≤ self.old.at }
+        ensures { Puts self.old self.new word.now }
+    {
+        let end = self.at;
+        self.at -= word.len();
+        self.text[self.at..end].copy_from_slice(word);
     }
-    let d = rest as u8;
-    put_byte(text, i, b'0' + d)
-}
 
-// A blank and a number from 0 up.
-pub fn put_part(text: &mut [u8], end: usize, n: usize) -> usize
-    requires { (suc (length (digits n)) ≤ end) × (end ≤ length text.old) }
-    ensures { Written text.old text.new result end (blank ∷ digits n) }
-{
-    let at = put_digits(text, end, n);
-    put_byte(text, at, b' ')
-}
-
-// The bytes of a blank and an element.
-fn element_width(z: i32) -> usize
-    ensures digits { result ≡ suc (length (decimal z)) }
-    ensures bound { result ≤ 12 }
-{
-    let magnitude = signed::magnitude(z);
-    let n = width(magnitude);
-    if signed::negative(z) { n + 2 } else { n + 1 }
-}
-
-fn put_element(text: &mut [u8], end: usize, z: i32, pairs: &[u8; 200]) -> usize
-    requires { (suc (length (decimal z)) ≤ end) × ((end ≤ length text.old) × Pairs pairs.now) }
-    ensures { Written text.old text.new result end (blank ∷ decimal z) }
-{
-    let magnitude = signed::magnitude(z);
-    let digits = put_pairs(text, end, magnitude, pairs);
-    if signed::negative(z) {
-        let sign = put_byte(text, digits, b'-');
-        return put_byte(text, sign, b' ');
+    pub fn put_digits(&mut self, n: usize)
+        requires { length (digits n) ≤ self.old.at }
+        ensures { Puts self.old self.new (digits n) }
+    {
+        let mut rest = n;
+        while 10 <= rest {
+            let d = (rest % 10) as u8;
+            self.put_byte(b'0' + d);
+            rest /= 10;
+        }
+        let d = rest as u8;
+        self.put_byte(b'0' + d);
     }
-    put_byte(text, digits, b' ')
+
+    // Both digits of a number below 100.
+    fn put_pair(&mut self, n: usize)
+        requires { (n < 100) × (1 < self.old.at) }
+        ensures { Puts self.old self.new (digit (n / 10) ∷ digit (n % 10) ∷ []) }
+    {
+        let k = n * 2;
+        self.put_byte(DIGIT_PAIRS[k + 1]);
+        self.put_byte(DIGIT_PAIRS[k]);
+    }
+
+    // The digits of a number, two at a time: for the elements, which are many.
+    fn put_pairs(&mut self, n: usize)
+        requires { length (digits n) ≤ self.old.at }
+        ensures { Puts self.old self.new (digits n) }
+    {
+        let mut rest = n;
+        while 100 <= rest {
+            self.put_pair(rest % 100);
+            rest /= 100;
+        }
+        if 10 <= rest {
+            return self.put_pair(rest);
+        }
+        let d = rest as u8;
+        self.put_byte(b'0' + d);
+    }
+
+    // A blank and a number from 0 up.
+    pub fn put_part(&mut self, n: usize)
+        requires { suc (length (digits n)) ≤ self.old.at }
+        ensures { Puts self.old self.new (blank ∷ digits n) }
+    {
+        self.put_digits(n);
+        self.put_byte(b' ');
+    }
+
+    // A blank and an element.
+    fn put_element(&mut self, z: i32)
+        requires { suc (length (decimal z)) ≤ self.old.at }
+        ensures { Puts self.old self.new (blank ∷ decimal z) }
+    {
+        self.put_pairs(signed::magnitude(z));
+        if signed::negative(z) {
+            self.put_byte(b'-');
+        }
+        self.put_byte(b' ');
+    }
+
+    // The parts of a list, each after a blank.
+    pub fn put_parts<T: Part>(&mut self, parts: &[T])
+        requires { length (following (map T.text parts.now)) ≤ self.old.at }
+        ensures { Puts self.old self.new (following (map T.text parts.now)) }
+    {
+        for part in parts.iter().rev() {
+            part.put(self);
+        }
+    }
 }
 
-pub fn lengths_width(lens: &[usize]) -> usize
-    requires { length lens.now ≤ max_rank }
-    ensures digits { result ≡ length (following (map digits lens.now)) }
-    ensures bound { result ≤ 22 * max_rank }
+// What a line lists: the lengths of a shape, and elements.
+pub trait Part: Copy {
+    ghost use Rattle.sheet_answer.specs.Steps.{Puts};
+
+    ghost text: { Self → List ℕ };
+
+    // A blank and a part take no more bytes.
+    ghost most: { ℕ };
+
+    // The bytes of a blank and the part.
+    fn width(self) -> usize
+        ensures digits { result ≡ suc (length (text self)) }
+        ensures bound { result ≤ most };
+
+    fn put(self, answer: &mut Writer)
+        requires { suc (length (text self)) ≤ answer.old.at }
+        ensures { Puts answer.old answer.new (blank ∷ text self) };
+}
+
+impl Part for usize {
+    ghost text = { digits };
+
+    ghost most = { 21 };
+
+    fn width(self) -> usize {
+        width(self) + 1
+    }
+
+    fn put(self, answer: &mut Writer) {
+        answer.put_part(self);
+    }
+}
+
+impl Part for i32 {
+    ghost text = { decimal };
+
+    ghost most = { 12 };
+
+    fn width(self) -> usize {
+        let n = width(signed::magnitude(self));
+        if signed::negative(self) { n + 2 } else { n + 1 }
+    }
+
+    fn put(self, answer: &mut Writer) {
+        answer.put_element(self);
+    }
+}
+
+// The bytes of a list's parts, each after a blank.
+pub fn parts_width<T: Part>(parts: &[T]) -> usize
+    requires { T.most * length parts.now < 2 ^ 64 }
+    ensures digits { result ≡ length (following (map T.text parts.now)) }
+    ensures bound { result ≤ T.most * length parts.now }
 {
     let mut sum = 0;
-    let mut i = lens.len();
-    while 0 < i {
-        i -= 1;
-        let n = lens[i];
-        sum += width(n) + 1;
+    for part in parts {
+        sum += part.width();
     }
     sum
-}
-
-pub fn elements_width(out: &[i32]) -> usize
-    requires { length out.now ≤ max_count }
-    ensures digits { result ≡ length (following (map decimal out.now)) }
-    ensures bound { result ≤ 12 * length out.now }
-{
-    let mut sum = 0;
-    let mut i = out.len();
-    while 0 < i {
-        i -= 1;
-        let z = out[i];
-        sum += element_width(z);
-    }
-    sum
-}
-
-pub fn put_lengths(text: &mut [u8], end: usize, lens: &[usize]) -> usize
-    requires { (length (following (map digits lens.now)) ≤ end) × (end ≤ length text.old) }
-    ensures { Written text.old text.new result end (following (map digits lens.now)) }
-{
-    let mut at = end;
-    let mut i = lens.len();
-    while 0 < i {
-        i -= 1;
-        let n = lens[i];
-        at = put_part(text, at, n);
-    }
-    at
-}
-
-pub fn put_elements(text: &mut [u8], end: usize, out: &[i32], pairs: &[u8; 200]) -> usize
-    requires { (length (following (map decimal out.now)) ≤ end) × ((end ≤ length text.old) × Pairs pairs.now) }
-    ensures { Written text.old text.new result end (following (map decimal out.now)) }
-{
-    let mut at = end;
-    let mut i = out.len();
-    while 0 < i {
-        i -= 1;
-        let z = out[i];
-        at = put_element(text, at, z, pairs);
-    }
-    at
-}
-
-// The line number, a blank and the bytes a and b.
-pub fn put_head(text: &mut [u8], end: usize, line: usize, a: u8, b: u8) -> usize
-    requires { (length (digits line) + 3 ≤ end) × (end ≤ length text.old) }
-    ensures { Written text.old text.new result end (digits line ++ blank ∷ a ∷ b ∷ []) }
-{
-    let second = put_byte(text, end, b);
-    let first = put_byte(text, second, a);
-    let start = put_byte(text, first, b' ');
-    put_digits(text, start, line)
 }

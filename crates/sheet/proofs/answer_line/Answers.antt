@@ -1,21 +1,22 @@
-use Rattle.std.proofs.Common.{ℕ, ◌≡◌, ◌<◌, ◌≤◌, ◌^◌, List, Bool, length, refl, sym, ◌∙◌, arith, rules}
+use Rattle.std.proofs.Common.{Option, ℕ, ◌≡◌, ◌<◌, ◌≤◌, ◌^◌, List, Bool, length, refl, sym, ◌∙◌, arith, rules}
+use Rattle.std.specs.Option.{unwrap_or}
 use mir.Syntax.{w32}
 use mir.Val.{SFits}
 use mir.Facts.{to_z-of_z}
 use Rattle.sheet_line.specs.Call.{max_line, max_held, front}
 use Rattle.sheet_answer.specs.Answer.{bad_line, reply_line, result_in}
 use Rattle.sheet_answer.specs.Steps.{held_answer}
-use Rattle.sheet_answer.proofs.Answers.{Print}
+use Rattle.sheet_answer.proofs.Answers.{Print, printed-whole}
 use Rattle.sheet_answer.proofs.Room.{bad-fits}
-use Rattle.sheet_answer.proofs.Joined.{bad-answer, good-answer, printed-whole, not-held, held_whole}
+use Rattle.sheet_answer.proofs.Joined.{bad-answer, good-answer, not-held, held_whole}
 use Rattle.sheet.proofs.answer_line.Goals as goal
 
 -- The answer is that to a bad line.
-bad_printed : (line : ℕ) (over : Bool) (bytes text after : List ℕ) (n : ℕ) → line < 2 ^ 64 → max_line ≤ length text
-    → held_answer line over bytes ≡ bad_line line → Print (bad_line line) text after n
-    → (n ≡ length (held_answer line over bytes)) × (after ≡ front (held_answer line over bytes) text)
-bad_printed line over bytes text after n h room e p =
-    printed-whole (bad_line line) (held_answer line over bytes) text after n (sym e) (bad-fits line h) room p
+bad_printed : (line : ℕ) (over : Bool) (bytes text after : List ℕ) (r : Option ℕ) → line < 2 ^ 64 → max_line ≤ length text
+    → held_answer line over bytes ≡ bad_line line → Print (bad_line line) text after r
+    → (unwrap_or r 0 ≡ length (held_answer line over bytes)) × (after ≡ front (held_answer line over bytes) text)
+bad_printed line over bytes text after r h room e p =
+    printed-whole (bad_line line) (held_answer line over bytes) text after r (sym e) (bad-fits line h) room p
 
 pub returns-then-over : goal.returns-then-over
 returns-then-over c =
@@ -24,7 +25,7 @@ returns-then-over c =
     let p =
     bad_printed a.line a.over a.bytes.now a.text.now told.new.text told.result (omega arith) c.requires.room
     (not-held a.line a.over a.bytes.now c.if-over.true) (told.ensures.count, told.ensures.text) in
-    record { count = p.0; text = p.1 }
+    record { count = c.unwrap_or.ensures ∙ p.0; text = p.1 }
 
 pub returns-in_default : goal.returns-in_default
 returns-in_default c =
@@ -36,7 +37,7 @@ returns-in_default c =
     let p =
     bad_printed a.line a.over a.bytes.now a.text.now told.new.text told.result (omega arith) c.requires.room
     (held_whole a.line a.over a.bytes.now c.if-over.false ∙ bad) (told.ensures.count, told.ensures.text) in
-    record { count = p.0; text = p.1 }
+    record { count = c.unwrap_or-then-not-good.ensures ∙ p.0; text = p.1 }
 
 pub returns : goal.returns
 returns c =
@@ -60,4 +61,4 @@ returns c =
     let p =
     printed-whole line (held_answer a.line a.over a.bytes.now) a.text.now told.new.text told.result is
     (told.ensures.room few) c.requires.room (told.ensures.count, told.ensures.text) in
-    record { count = p.0; text = p.1 }
+    record { count = c.unwrap_or-2.ensures ∙ p.0; text = p.1 }
