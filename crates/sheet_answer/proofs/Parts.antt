@@ -51,9 +51,12 @@ following-append [] ys = refl
 following-append (x ∷ xs) ys = ap (λ l. blank ∷ l) (rw (following-append xs ys) (sym (append_assoc x (following xs) (following ys))))
 
 module _ {A : Type 0} (f : A → List ℕ) where
-  pub following-push : (xs : List A) (x : A) → following (map f (xs ++ x ∷ [])) ≡ following (map f xs) ++ (blank ∷ f x)
+  pub following-last : {xs : List A} (ys : List A) (y : A) → xs ≡ ys ++ y ∷ [] → following (map f xs) ≡ following (map f ys) ++ (blank ∷ f y)
   unfolding following
-  following-push xs x = rw (map-append f xs (x ∷ []), following-append (map f xs) (f x ∷ [])) (rw (append-nil (f x)))
+  following-last ys y e = rw (e, map-append f ys (y ∷ []), following-append (map f ys) (f y ∷ []), append-nil (f y))
+
+  pub last-short : {xs : List A} (ys : List A) (y : A) → xs ≡ ys ++ y ∷ [] → suc (length (f y)) ≤ length (following (map f xs))
+  last-short ys y e = omega (arith, ap length (following-last ys y e), length-append (following (map f ys)) (blank ∷ f y))
 
 -- A loop that adds up the parts' widths, each at most `most`: those before i are in the sum.
 pub record Summed {A : Type 0} (f : A → List ℕ) (xs : List A) (most sum i : ℕ) : Type 0 where
@@ -61,9 +64,6 @@ pub record Summed {A : Type 0} (f : A → List ℕ) (xs : List A) (most sum i : 
   pub bound : sum ≤ most * i
 
 module _ {A : Type 0} {f : A → List ℕ} {xs : List A} {most : ℕ} where
-  pub sum-none : Summed f xs most 0 0
-  sum-none = record { width = omega arith; bound = omega arith }
-
   pub sum_more : {sum i n : ℕ} → Summed f xs most sum i → (d : A) → i < length xs → n ≡ suc (length (f (get_or xs i d))) → n ≤ most
       → Summed f xs most (sum + n) (i + 1)
   unfolding following

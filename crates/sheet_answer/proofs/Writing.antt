@@ -7,8 +7,8 @@ use mathlib.Core.Path.{◌≡◌, refl, sym, ap, ◌∙◌}
 use mathlib.Core.List.{List, [], ◌∷◌, ◌++◌, append_assoc, append-nil}
 use mathlib.Core.Bool.{cond}
 use lib.Dec.{leb}
-use lib.ListN.{length, take, drop, set, length-set, length-append, take-append-drop}
-use lib.Seq.{set_split, take-append-le, take-take, drop_at, length-take-le, append_snoc}
+use lib.ListN.{length, take, drop, length-append, take-append-drop}
+use lib.Seq.{take-append-le, take-take, drop_at, length-take-le, append_snoc}
 use borrow.Author.Tests.{le-leb, lt-leb}
 use Rattle.sheet_line.specs.Text.{digit, digits}
 use Rattle.sheet_answer.specs.declared.print.Writer.{Writer}
@@ -17,9 +17,6 @@ use Rattle.sheet_line.proofs.Digits.{digits-one, digits_more}
 
 pub write-none : {t : List ℕ} {e : ℕ} → e ≤ length t → Written t t e e []
 write-none {t} {e} h = record { place = omega arith; inside = h; kept = refl; text = sym (take-append-drop e t) }
-
-pub write_byte : (t : List ℕ) (j e b : ℕ) → e ≡ suc j → e ≤ length t → Written t (set t j b) j e (b ∷ [])
-write_byte t j e b h k = record { place = omega arith; inside = k; kept = length-set t j b; text = rw h (set_split t j b (omega arith)) }
 
 -- More bytes before those that were written.
 pub write-more : {t₀ t₁ t₂ : List ℕ} {j i e : ℕ} {vs ws : List ℕ} → Written t₀ t₁ i e ws → Written t₁ t₂ j i vs → Written t₀ t₂ j e (vs ++ ws)
@@ -37,7 +34,7 @@ write-more {t₀} {t₁} {t₂} {j} {i} {e} {vs} {ws} p q =
     }
 
 -- The number of digits.
-pub width-more : (n : ℕ) → 10 ≤ n → length (digits n) ≡ length (digits (n / 10)) + 1
+width-more : (n : ℕ) → 10 ≤ n → length (digits n) ≡ length (digits (n / 10)) + 1
 width-more n h = rw (digits_more n h) (length-append (digits (n / 10)) (digit (n % 10) ∷ []))
 
 width_one : (n : ℕ) → n < 10 → length (digits n) ≡ 1
@@ -45,6 +42,9 @@ width_one n h = rw (digits-one n h)
 
 pub digits-some : (n : ℕ) → 0 < length (digits n)
 digits-some n = elim (dec_lt n 10) [ yes h ↦ omega (arith, width_one n h) | no h ↦ omega (arith, width-more n (omega arith)) ]
+
+pub digits-ten : (n : ℕ) → 10 ≤ n → 1 < length (digits n)
+digits-ten n h = omega (arith, width-more n h, digits-some (n / 10))
 
 pub width-most : (k n : ℕ) → n < 10 ^ suc k → length (digits n) ≤ suc k
 width-most zero n h = omega (arith, width_one n h)
@@ -100,7 +100,7 @@ digits-two n h =
     ∙ rw (digits_more (n / 10) (omega arith), above, tens, ones)
     (append_snoc (digits (n / 100)) (digit (n / 10 % 10)) (digit (n % 10) ∷ []))
 
--- The same of a writer.
+-- A writer that has put nothing, and one that puts more before what it has put.
 pub put-none : (w : Writer) → Puts w w []
 put-none w = record { same = refl; written = write-none w.within }
 

@@ -16,7 +16,8 @@ returns-clause-count c = (omega (arith, bad-length c.args.line_number), omega ar
 pub returns-clause-text : goal.returns-clause-text
 returns-clause-text c =
     let line = bad_line c.args.line_number in
+    let new = c.new-answer.ensures in
     let all = put-more c.put_word.ensures c.put_digits.ensures in
     let p : c.put_digits.new.self.text.now ≡ printed_to line c.args.text.now =
-    all-printed (bad-text c.args.line_number) (omega (arith, c.new-answer.ensures.at, bad-length c.args.line_number)) c.new-answer.ensures.text all in
+    all-printed (bad-text c.args.line_number) (omega (arith, new.at, bad-length c.args.line_number)) new.text all in
     rw (← p) (search rules)

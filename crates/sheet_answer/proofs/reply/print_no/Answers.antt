@@ -16,6 +16,7 @@ returns-clause-count c = (omega (arith, no_length c.args.line c.args.refusal), o
 pub returns-clause-text : goal.returns-clause-text
 returns-clause-text c =
     let all = put-more (put-more (put-more c.put_byte.ensures c.put_part.ensures) c.put_word.ensures) c.put_digits.ensures in
+    let new = c.new-answer.ensures in
     let p : c.put_digits.new.self.text.now ≡ printed_to (no_line c.args.line c.args.refusal) c.args.text.now =
-    all-printed (no_text c.args.line c.args.refusal) (omega (arith, c.new-answer.ensures.at, no_length c.args.line c.args.refusal)) c.new-answer.ensures.text all in
+    all-printed (no_text c.args.line c.args.refusal) (omega (arith, new.at, no_length c.args.line c.args.refusal)) new.text all in
     rw (← p) (search rules)

@@ -34,10 +34,14 @@ slice_bounds-print_array-end c =
     sym (length-take-le c.args.shape.rank c.args.shape.lens (omega (arith, ranked c.args.shape c.count-count.ensures (omega arith))))
 
 pub returns-clause-count : goal.returns-clause-count
-returns-clause-count c = rw (good-reply c.args.line c.args.shape c.args.out.now c.count-count.ensures (omega arith) (omega arith)) c.print_array.ensures.count
+returns-clause-count c =
+    rw (good-reply c.args.line c.args.shape c.args.out.now c.count-count.ensures (omega arith) (omega arith)) c.print_array.ensures.count
 
 pub returns-clause-text : goal.returns-clause-text
-returns-clause-text c = rw (good-reply c.args.line c.args.shape c.args.out.now c.count-count.ensures (omega arith) (omega arith)) c.print_array.ensures.text
+returns-clause-text c =
+    rw (good-reply c.args.line c.args.shape c.args.out.now c.count-count.ensures (omega arith) (omega arith)) c.print_array.ensures.text
 
 pub returns-clause-room : goal.returns-clause-room
-returns-clause-room c few = rw (good-reply c.args.line c.args.shape c.args.out.now c.count-count.ensures (omega arith) (omega arith)) (c.print_array.ensures.room (omega (arith, length-take c.count-count.result c.args.out.now)))
+returns-clause-room c few =
+    rw (good-reply c.args.line c.args.shape c.args.out.now c.count-count.ensures (omega arith) (omega arith))
+    (c.print_array.ensures.room (omega (arith, length-take c.count-count.result c.args.out.now)))

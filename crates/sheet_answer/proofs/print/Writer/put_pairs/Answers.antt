@@ -1,25 +1,20 @@
-use Rattle.std.proofs.Common.{◌/◌, arith}
+use Rattle.std.proofs.Common.{arith}
 use Rattle.sheet_line.proofs.Digits.{digits-one}
-use Rattle.sheet_answer.proofs.Writing.{digits-some, digits-pair, digits-two, width-more, left-all, left-room, left-more, left-none}
+use Rattle.sheet_answer.proofs.Writing.{digits-some, digits-ten, digits-pair, digits-two, left-all, left-room, left-more, left-none}
 use Rattle.sheet_answer.proofs.print.Writer.put_pairs.Goals as goal
 
 pub loop-rest-init : goal.loop-rest-init
 loop-rest-init c = left-all _ _
 
 pub put_pair-requires : goal.put_pair-requires
-put_pair-requires c =
-    let room = left-room c.loop-rest.invariant c.requires in
-    let r = c.loop-rest.rest in
-    (omega arith, omega (arith, room, width-more r (omega arith), digits-some (r / 10)))
+put_pair-requires c = (omega arith, omega (arith, left-room c.loop-rest.invariant c.requires, digits-ten c.loop-rest.rest (omega arith)))
 
 pub loop-rest-preserved : goal.loop-rest-preserved
 loop-rest-preserved c = left-more c.loop-rest.invariant c.put_pair.ensures _ (digits-two _ c.loop-rest-test.true)
 
 pub put_pair-requires-then-rest-ge10 : goal.put_pair-requires-then-rest-ge10
 put_pair-requires-then-rest-ge10 c =
-    let room = left-room c.loop-rest.invariant c.requires in
-    let r = c.loop-rest.rest in
-    (omega arith, omega (arith, room, width-more r (omega arith), digits-some (r / 10)))
+    (omega arith, omega (arith, left-room c.loop-rest.invariant c.requires, digits-ten c.loop-rest.rest (omega arith)))
 
 pub returns-then-rest-ge10 : goal.returns-then-rest-ge10
 returns-then-rest-ge10 c = left-none c.loop-rest.invariant c.put_pair-then-rest-ge10.ensures (digits-pair _ c.if-rest-ge10.true c.loop-rest-test.false)

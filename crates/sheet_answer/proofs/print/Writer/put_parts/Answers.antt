@@ -1,21 +1,15 @@
-use Rattle.std.proofs.Common.{◌∷◌, ap, ◌∙◌, map, length, arith, length-append}
+use Rattle.std.proofs.Common.{ap, map, le_trans}
 use Rattle.std.proofs.lemmas.List.{nil_from_length}
-use Rattle.sheet_line.specs.Text.{blank, following}
+use Rattle.sheet_line.specs.Text.{following}
 use Rattle.sheet_answer.proofs.Writing.{left-room, left-more, left-empty}
-use Rattle.sheet_answer.proofs.Parts.{following-push}
+use Rattle.sheet_answer.proofs.Parts.{following-last, last-short}
 use Rattle.sheet_answer.proofs.print.Writer.put_parts.Goals as goal
 
 pub put-requires : goal.put-requires
-put-requires g c =
-    let f = g.T.Part.text in
-    let one = ap (λ l. following (map f l)) c.in-Some.ensures.steps ∙ following-push f c.next.new.self.iter.rest.now c.in-Some.part.now in
-    omega (arith, left-room c.loop-part.invariant c.requires, ap length one, length-append (following (map f c.next.new.self.iter.rest.now)) (blank ∷ f c.in-Some.part.now))
+put-requires g c = le_trans (last-short g.T.Part.text _ _ c.in-Some.ensures.steps) (left-room c.loop-part.invariant c.requires)
 
 pub loop-part-preserved : goal.loop-part-preserved
-loop-part-preserved g c =
-    let f = g.T.Part.text in
-    let one = ap (λ l. following (map f l)) c.in-Some.ensures.steps ∙ following-push f c.next.new.self.iter.rest.now c.in-Some.part.now in
-    left-more c.loop-part.invariant c.put.ensures _ one
+loop-part-preserved g c = left-more c.loop-part.invariant c.put.ensures _ (following-last g.T.Part.text _ _ c.in-Some.ensures.steps)
 
 pub returns : goal.returns
 unfolding following
