@@ -17,7 +17,7 @@ pub fn print_bad(line_number: u64, text: &mut [u8]) -> Option<usize>
     ensures count { CountIfFits result (bad_line line_number) text.old }
     ensures text { text.new ≡ printed_to (bad_line line_number) text.old }
 {
-    let line = line_number as usize;
+    let line = line_number as usize; // usize has no From<u64>.
     let need = width(line) + 5;
     if text.len() < need {
         return None;
@@ -41,7 +41,7 @@ pub fn print_reply(
     ensures text { text.new ≡ printed_to (reply_line line_number number (result_in shape out.now)) text.old }
     ensures room { length out.now ≤ max_held → length (reply_line line_number number (result_in shape out.now)) ≤ max_line }
 {
-    let line = line_number as usize;
+    let line = line_number as usize; // usize has no From<u64>.
     if number == 0 {
         return print_ok(line, shape, out, text);
     }

@@ -86,6 +86,7 @@ impl<'a> Writer<'a> {
         self.text[self.at..end].copy_from_slice(word);
     }
 
+    // The digits of a number.
     #[inline(always)]
     pub fn put_digits(&mut self, n: usize)
         requires { length (digits n) ≤ self.old.at }
@@ -112,7 +113,7 @@ impl<'a> Writer<'a> {
         self.put_byte(DIGIT_PAIRS[k]);
     }
 
-    // The digits of a number, two at a time: for the elements, which are many.
+    // As put_digits, two at a time, with half the divisions: for the elements, which are many. A line's other numbers are few and short.
     #[inline(always)]
     fn put_pairs(&mut self, n: usize)
         requires { length (digits n) ≤ self.old.at }
