@@ -13,6 +13,7 @@ ghost use Rattle.sheet.specs.Steps.{newlines, SameLine, Answered};
 ghost use Rattle.sheet.specs.Sent.{Sent, Short};
 ghost use Rattle.sheet.specs.Run.{ShortIn, Ends};
 
+use answer::{Answer, Operand};
 use sheet_line::{MAX_HELD, MAX_LINE};
 use std::io::{ErrorKind, Read, Write};
 use std::process::ExitCode;
@@ -84,7 +85,16 @@ fn answer_line(
     let Some(read) = sheet_line::read_line(bytes, l, r) else {
         return sheet_answer::print_bad(line, text).unwrap_or(0);
     };
-    let a = kernel::call(read.primitive, read.origin, read.k, read.left, l, read.right, r, out);
+    let left = Operand {
+        shape: read.left,
+        elements: l,
+    };
+    let right = Operand {
+        shape: read.right,
+        elements: r,
+    };
+    let reply = kernel::call(read.primitive, read.origin, read.k, &left, &right, out);
+    let a = Answer::from(reply);
     let shape = a.shape;
     sheet_answer::print_reply(line, a.number, shape, out, text).unwrap_or(0)
 }
