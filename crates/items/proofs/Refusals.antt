@@ -4,19 +4,21 @@ use mathlib.Core.List.{List, [], ◌∷◌}
 use mathlib.Core.Bool.{Bool, true, false, not, cond}
 use Prim.Native.Nat.{ℕ, zero, suc, ◌*◌}
 use native.Mathlib.Omega.{arith}
-use lib.ListN.{take, drop}
+use borrow.Author.Tests.{ne_eqb}
+use lib.ListN.{get_or, take, drop}
 use lib.IntN.{ℤ, ◌-ℤ◌}
+use Rattle.shape.specs.declared.Shape.{Shape}
 use Rattle.shape.specs.Shape.{count, shape_of, scalar}
 use Rattle.meaning.specs.Array.{Operand, array_of, good_form}
 use Rattle.meaning.specs.Refusal.{Rule, ◌when◌, ◌unless◌, number, precedence}
 use Rattle.meaning.specs.Refusal.Refusal.{FORM, ORIGIN, RANK, INDEX}
-use Rattle.meaning.specs.Terms.{axis, is_scalar, within, from_zero}
+use Rattle.meaning.specs.Terms.{rank, axis, is_scalar, within, from_zero}
 use Rattle.meaning.specs.Reply.{is_origin}
 use Rattle.meaning.specs.Item.{item_refusal, item_lengths, settle_item, leading_item}
 use Rattle.meaning.proofs.Winner.{first_met, winner-first, or_else, else-first, first-append}
-use Rattle.answer.specs.Answer.{early}
+use Rattle.answer.specs.Answer.{lent, early}
 use Rattle.answer.proofs.Order.{early-first}
-use Rattle.answer.proofs.Lent.{Fine, early-fine}
+use Rattle.answer.proofs.Lent.{Lent, Fine, early-fine, axis-is}
 
 -- No refusal was met.
 pub record Accepted (R : Operand) (G i : ℤ) : Type 0 where
@@ -72,3 +74,9 @@ module _ (R : Operand) (G i : ℤ) where
       ≡ record { number = 0; shape = shape_of (item_lengths R); part = take (count (item_lengths R)) (drop (from_zero G i * count (item_lengths R)) R.buffer) }
   unfolding leading_item settle_item
   item-given z = ap (λ n. settle_item n (item_lengths R) (from_zero G i) R.buffer) z
+
+-- What is left of an operand of good form that has an axis.
+pub item-rest : (G i : ℤ) {s : Shape} {b : List ℤ} → Lent s b → early (good_form (lent s b)) G ≡ 0 → (s.rank ≡ 0 → ⊥)
+    → item_refusal (lent s b) G i ≡ cond (not (within (i -ℤ G) (get_or s.lens 0 0))) (number INDEX) 0
+item-rest G i {s} {b} g f n =
+    item-own (lent s b) G i f ∙ rw (ne_eqb (rank (array_of (lent s b))) 0 (λ z. n (sym g.rank_is ∙ z)), axis-is s b 0 (omega arith)) refl
