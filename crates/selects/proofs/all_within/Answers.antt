@@ -1,7 +1,6 @@
-use Rattle.std.proofs.Common.{rules, ◌≡◌, ◌∙◌, sym, ◌-ℤ◌, true}
-use mathlib.Core.Path.{refl, ap}
+use Rattle.std.proofs.Common.{rules, ◌≡◌, ◌-ℤ◌, true}
 use Rattle.std.specs.Prelude.{◌↔◌, IsTrue, All}
-use Rattle.meaning.specs.Terms.{every, within}
+use Rattle.meaning.specs.Terms.{within}
 use Rattle.selects.proofs.Tested.{tested}
 use Rattle.selects.proofs.all_within.Goals as goal
 

@@ -5,7 +5,7 @@ use lib.IntN.{◌-ℤ◌}
 use borrow.Author.Tests.{eq-eqb}
 use Rattle.meaning.specs.Array.{array_of}
 use Rattle.meaning.specs.Primitives.{select}
-use Rattle.meaning.specs.Terms.{rank, within, every, is_list}
+use Rattle.meaning.specs.Terms.{rank, within, is_list}
 use Rattle.signed.proofs.Reading.{read32}
 use Rattle.answer.specs.Answer.{lent, own}
 use Rattle.answer.specs.Refused.{asked}

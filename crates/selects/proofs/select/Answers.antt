@@ -1,6 +1,6 @@
 use Rattle.std.proofs.Common.{arith, ◌≡◌, ◌∙◌, sym, length, ◌++◌, drop, set}
 use mathlib.Core.Path.{refl, ap}
-use Rattle.shape.specs.Shape.{counted, count, shape_of}
+use Rattle.shape.specs.Shape.{counted, shape_of}
 use Rattle.shape.proofs.Made.{stands-count}
 use Rattle.meaning.specs.Array.{array_of, build}
 use Rattle.meaning.specs.Terms.{rank, along}
