@@ -1,12 +1,13 @@
 -- 11, 12, 13 and 21: what they ask, and what they give.
 use mathlib.Core.Path.{◌≡◌, refl, sym, ap, ◌∙◌}
 use mathlib.Core.List.{List, [], ◌∷◌, ◌++◌, map}
-use mathlib.Core.Bool.{true, not, cond}
+use mathlib.Core.Bool.{Bool, true, not, cond, ◌&&◌}
 use Prim.Native.Nat.{ℕ, ◌+◌, ◌≤◌}
 use native.Mathlib.Omega.{arith}
 use lib.Dec.{eqb}
 use lib.ListN.{length, drop, get_or}
 use lib.IntN.{ℤ, pos, nat_abs, ◌+ℤ◌}
+use Rattle.std.specs.List.{list_all}
 use Rattle.shape.specs.declared.Shape.{Shape}
 use Rattle.shape.specs.Shape.{counted, count, count_of, good_shape, shape_of}
 use Rattle.shape.proofs.Counts.{good-rank, count-of, count-good}
@@ -50,6 +51,12 @@ module _ (G K : ℤ) (L R : Operand) where
 -- The number whose interval 13 gives.
 abbrev pub ends : Array → ℤ
 ends a = get_or a.elements 0 (pos 0)
+
+-- A test of each element, as an iterator asks it.
+pub every_all : {A : Type 0} (test : A → Bool) (l : List A) → every test l ≡ list_all test l
+unfolding every
+every_all test [] = refl
+every_all test (x ∷ l) = ap (λ t. test x && t) (every_all test l)
 
 -- What they ask, in turn.
 pub shape-own : (a : Array) → own 11 (lengths_of a).refusals ≡ 0

@@ -2,9 +2,10 @@
 #![tactic(auto)]
 
 ghost use Rattle.std.specs.Prelude.{◌≡◌, true, not, map, ◌+◌, ◌≤◌, ◌<◌, length, get_or, ℤ, pos, nat_abs, IfOk};
+ghost use Rattle.std.specs.List.{list_all};
 ghost use Rattle.shape.specs.Shape.{max_count, good_shape};
 ghost use Rattle.meaning.specs.Array.{Operand, Array, array_of};
-ghost use Rattle.meaning.specs.Terms.{negative, every};
+ghost use Rattle.meaning.specs.Terms.{negative};
 ghost use Rattle.meaning.specs.Primitives.{interval, reshape};
 ghost use Rattle.meaning.specs.Reply.{reply};
 ghost use Rattle.copying.specs.Steps.{filled};
@@ -31,11 +32,8 @@ fn put_lengths(s: Shape, out: &mut [i32])
     requires { (good_shape s ≡ true) × (s.rank ≤ length out.old) }
     ensures { out.new ≡ filled (λ i. pos (get_or s.lens i 0)) s.rank out.old }
 {
-    let rank = s.rank;
-    let mut i = 0;
-    while i < rank {
+    for i in 0..s.rank {
         out[i] = signed::element(s.lens[i]);
-        i += 1;
     }
 }
 
@@ -90,11 +88,9 @@ fn count_up(first: usize, n: usize, out: &mut [i32])
 {
     // The number is counted up beside the place: computed from it, each would be narrowed by itself.
     let mut x = first as i32;
-    let mut i = 0;
-    while i < n {
+    for i in 0..n {
         out[i] = x;
         x += 1;
-        i += 1;
     }
 }
 
@@ -133,17 +129,9 @@ fn reshaped(l: &Formed<'_>) -> Result<Shape, Refusal>
 }
 
 fn none_negative(l: &[i32]) -> bool
-    ensures { result ≡ every (λ z. not (negative z)) l.now }
+    ensures { result ≡ list_all (λ z. not (negative z)) l.now }
 {
-    let n = l.len();
-    let mut i = 0;
-    while i < n {
-        if signed::negative(l[i]) {
-            return false;
-        }
-        i += 1;
-    }
-    true
+    l.iter().all(|z| !signed::negative(*z))
 }
 
 // The shape whose lengths are the elements. Of more than a shape has it keeps the first: their number alone makes it a bad shape.
@@ -151,12 +139,10 @@ fn shape_from(l: &[i32]) -> Shape
     ensures { Made result (map nat_abs l.now) }
 {
     let rank = l.len();
-    let kept = copying::min(rank, Shape::MAX_RANK);
+    let kept = rank.min(Shape::MAX_RANK);
     let mut lens = [0; Shape::MAX_RANK];
-    let mut i = 0;
-    while i < kept {
+    for i in 0..kept {
         lens[i] = signed::magnitude(l[i]);
-        i += 1;
     }
     Shape { rank, lens }
 }

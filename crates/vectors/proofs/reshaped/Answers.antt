@@ -4,11 +4,11 @@ use mathlib.Core.Bool.{cond}
 use Rattle.meaning.specs.Array.{Array, array_of}
 use Rattle.meaning.specs.Refusal.{number}
 use Rattle.meaning.specs.Refusal.Refusal.{DOMAIN}
-use Rattle.meaning.specs.Terms.{is_list}
+use Rattle.meaning.specs.Terms.{negative, is_list}
 use Rattle.meaning.specs.Primitives.{reshape}
 use Rattle.answer.specs.Answer.{own}
 use Rattle.answer.specs.Refused.{asked}
-use Rattle.vectors.proofs.Calls.{reshape-own}
+use Rattle.vectors.proofs.Calls.{every_all, reshape-own}
 use Rattle.vectors.proofs.reshaped.Goals as goal
 use Rattle.vectors.proofs.reshaped.Goals.{After-none_negative}
 
@@ -20,7 +20,7 @@ returns-then-not-is_list-clause-number c R = sym (reshape-own (array_of c.args.l
 rest : (c : After-none_negative) (R : Array) → own 21 (reshape (array_of c.args.l.now) R).refusals ≡ cond (not c.none_negative.result) (number DOMAIN) 0
 rest c R =
     let l : is_list (array_of c.args.l.now) ≡ true = sym c.if-not-is_list.ensures in
-    reshape-own (array_of c.args.l.now) R ∙ rw (l, c.none_negative.ensures, c.elements-lengths.ensures) refl
+    reshape-own (array_of c.args.l.now) R ∙ rw (l, every_all (λ z. not (negative z)) (array_of c.args.l.now).elements, c.none_negative.ensures, c.elements-lengths.ensures) refl
 
 pub returns-then-not-none_negative-clause-number : goal.returns-then-not-none_negative-clause-number
 unfolding asked
