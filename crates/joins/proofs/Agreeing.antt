@@ -1,15 +1,16 @@
 -- Lengths that agree but for an axis, compared part by part.
 use mathlib.Core.Path.{◌≡◌, refl, sym, ap, ap₂, ◌∙◌}
 use mathlib.Core.List.{List, [], ◌∷◌, ◌++◌}
-use mathlib.Core.Bool.{Bool, true, false, ◌&&◌, and_assoc}
+use mathlib.Core.Bool.{Bool, true, ◌&&◌, and_assoc}
 use Prim.Native.Nat.{ℕ, suc, ◌+◌, ◌-◌, ◌≤◌, ◌<◌}
-use native.Mathlib.Nat.{zero-add}
 use native.Mathlib.Numerals.{add-one}
 use native.Mathlib.Omega.{arith}
-use borrow.Author.Tests.{eq-eqb, ne_eqb}
-use lib.ListN.{length, get_or, take, drop, take-append-drop}
+use lib.ListN.{length, take, drop, take-append-drop}
+use lib.Pointwise.{pointwise}
 use lib.IntN.{ℤ}
-use lib.Seq.{slice, slice_empty, slice-cons, length-slice, take-take, length-take-le}
+use lib.Seq.{take-take, length-take-le}
+use Rattle.std.specs.Prelude.{nat_eq}
+use Rattle.std.proofs.lemmas.List.{drop-take}
 use lib.Dec.{eqb}
 use Rattle.shape.specs.declared.Shape.{Shape}
 use Rattle.shape.specs.Shape.{max_rank, counted, without}
@@ -23,29 +24,13 @@ use Rattle.meaning.proofs.Sides.{same-lengths, side-scalar, side-lower, side-who
 use Rattle.answer.specs.Answer.{lent}
 use Rattle.joins.specs.Steps.{Compared, agree}
 
--- Two parts of n lengths, from the front.
-pub record Spans (a b : List ℕ) (i j n : ℕ) : Type 0 where
-  pub left : i + n ≤ length a
-  pub right : j + n ≤ length b
-
-module _ {a b : List ℕ} {i j n : ℕ} (s : Spans a b i j n) (t : ℕ) where
-  pub same_next : t < n → get_or a (i + t) 0 ≡ get_or b (j + t) 0
-      → same_lengths (slice (i + t) (i + n) a) (slice (j + t) (j + n) b) ≡ same_lengths (slice (i + (t + 1)) (i + n) a) (slice (j + (t + 1)) (j + n) b)
-  unfolding same_lengths
-  same_next h e =
-      let p : suc (i + t) ≡ i + (t + 1) = omega arith in
-      let q : suc (j + t) ≡ j + (t + 1) = omega arith in
-      rw (slice-cons (i + t) (i + n) a 0 (omega arith) s.left, slice-cons (j + t) (j + n) b 0 (omega arith) s.right, eq-eqb _ _ e)
-      (ap₂ (λ x y. same_lengths (slice x (i + n) a) (slice y (j + n) b)) p q)
-
-  pub same_stop : t < n → (get_or a (i + t) 0 ≡ get_or b (j + t) 0 → ⊥) → same_lengths (slice (i + t) (i + n) a) (slice (j + t) (j + n) b) ≡ false
-  unfolding same_lengths
-  same_stop h e =
-      rw (slice-cons (i + t) (i + n) a 0 (omega arith) s.left, slice-cons (j + t) (j + n) b 0 (omega arith) s.right, ne_eqb _ _ e)
-
-  pub same_end : t ≡ n → same_lengths (slice (i + t) (i + n) a) (slice (j + t) (j + n) b) ≡ true
-  unfolding same_lengths
-  same_end e = rw (e, slice_empty (i + n) a, slice_empty (j + n) b)
+-- Slices of lengths, as `==` compares them.
+pub same_pointwise : (a b : List ℕ) → same_lengths a b ≡ pointwise nat_eq a b
+unfolding same_lengths
+same_pointwise [] [] = refl
+same_pointwise [] (y ∷ b) = refl
+same_pointwise (x ∷ a) [] = refl
+same_pointwise (x ∷ a) (y ∷ b) = ap (λ t. eqb x y && t) (same_pointwise a b)
 
 same-both : (ws bs cs ds : List ℕ) → length ws ≡ length cs → same_lengths (ws ++ bs) (cs ++ ds) ≡ (same_lengths ws cs && same_lengths bs ds)
 unfolding same_lengths
@@ -61,33 +46,31 @@ module _ (s hs : Shape) (k : ℕ) (c : Compared s hs k) (sl : length s.lens ≡ 
   abbrev from : ℕ
   from = k + 1 + s.rank - hs.rank
 
-  abbrev after : ℕ
-  after = hs.rank - 1 - k
-
   abbrev pub parts : Bool
   parts =
-      same_lengths (slice 0 (0 + k) s.lens) (slice 0 (0 + k) hs.lens)
-      && same_lengths (slice from (from + after) s.lens) (slice (k + 1) (k + 1 + after) hs.lens)
+      same_lengths (take k s.lens) (take k hs.lens)
+      && same_lengths (take (s.rank - from) (drop from s.lens)) (take (hs.rank - (k + 1)) (drop (k + 1) hs.lens))
 
-  front : (t : Shape) → k ≤ t.rank → take k (counted t) ≡ slice 0 (0 + k) t.lens
-  front t h = take-take k t.rank t.lens h ∙ ap (λ n. take n t.lens) (sym (zero-add k))
+  front : (t : Shape) → k ≤ t.rank → take k (counted t) ≡ take k t.lens
+  front t h = take-take k t.rank t.lens h
 
-  higher-parts : without k (counted hs) ≡ slice 0 (0 + k) hs.lens ++ slice (k + 1) (k + 1 + after) hs.lens
+  back : (t : Shape) (n : ℕ) → n ≤ t.rank → drop n (counted t) ≡ take (t.rank - n) (drop n t.lens)
+  back t n h = let q : t.rank ≡ n + (t.rank - n) = omega arith in ap (λ m. drop n (take m t.lens)) q ∙ drop-take n (t.rank - n) t.lens
+
+  higher-parts : without k (counted hs) ≡ take k hs.lens ++ take (hs.rank - (k + 1)) (drop (k + 1) hs.lens)
   higher-parts =
       let h = c.has in
-      let q : hs.rank ≡ k + 1 + after = omega arith in
       without-parts (counted hs) k
-      ∙ ap₂ (λ x y. x ++ y) (front hs (omega arith)) (ap₂ (λ x y. drop x (take y hs.lens)) (sym (add-one k)) q)
+      ∙ ap₂ (λ x y. x ++ y) (front hs (omega arith)) (ap (λ n. drop n (counted hs)) (sym (add-one k)) ∙ back hs (k + 1) (omega arith))
 
-  parted : (xs : List ℕ) → k ≤ s.rank → s.rank ≡ from + after → xs ≡ take k (counted s) ++ drop from (counted s)
+  parted : (xs : List ℕ) → k ≤ s.rank → from ≤ s.rank → xs ≡ take k (counted s) ++ drop from (counted s)
       → same_lengths xs (without k (counted hs)) ≡ parts
   parted xs h q e =
       let l = c.low in
       let m = c.high in
       let n = c.has in
-      ap₂ same_lengths (e ∙ ap₂ (λ x y. x ++ drop from (take y s.lens)) (front s h) q) higher-parts
-      ∙ same-both (slice 0 (0 + k) s.lens) _ (slice 0 (0 + k) hs.lens) _
-      (length-slice 0 (0 + k) s.lens (omega arith) ∙ sym (length-slice 0 (0 + k) hs.lens (omega arith)))
+      ap₂ same_lengths (e ∙ ap₂ (λ x y. x ++ y) (front s h) (back s from q)) higher-parts
+      ∙ same-both (take k s.lens) _ (take k hs.lens) _ (length-take-le k s.lens (omega arith) ∙ sym (length-take-le k hs.lens (omega arith)))
 
   -- So the test of the operand's other lengths, whatever its elements.
   module _ (x : List ℤ) where

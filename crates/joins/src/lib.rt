@@ -2,10 +2,9 @@
 #![tactic(auto)]
 
 ghost use Rattle.std.specs.Prelude.{◌≡◌, List, true, ◌+◌, ◌*◌, ◌≤◌, ◌<◌, length, ℤ, pos, IfOk};
-ghost use Rattle.std.proofs.Math.Seq.{slice};
 ghost use Rattle.shape.specs.Shape.{max_rank, counted, good_shape};
 ghost use Rattle.meaning.specs.Array.{array_of};
-ghost use Rattle.meaning.specs.Terms.{same_lengths, from_zero};
+ghost use Rattle.meaning.specs.Terms.{from_zero};
 ghost use Rattle.meaning.specs.Primitives.{catenate};
 ghost use Rattle.meaning.specs.Reply.{reply};
 ghost use Rattle.meaning.specs.Steps.{fit, side_at};
@@ -124,35 +123,7 @@ fn agrees(s: Shape, hs: Shape, axis: usize) -> bool
         return true;
     }
     let from = axis + 1 + rank - hs.rank;
-    let after = hs.rank - 1 - axis;
-    let a = s.lens;
-    let b = hs.lens;
-    if same_part(a, 0, b, 0, axis) {
-        same_part(a, from, b, axis + 1, after)
-    } else {
-        false
-    }
-}
-
-// Whether n lengths of one array, from i on, are those of another from j on.
-fn same_part(
-    a: [usize; Shape::MAX_RANK],
-    i: usize,
-    b: [usize; Shape::MAX_RANK],
-    j: usize,
-    n: usize,
-) -> bool
-    requires { (i + n ≤ max_rank) × (j + n ≤ max_rank) }
-    ensures { result ≡ same_lengths (slice i (i + n) a) (slice j (j + n) b) }
-{
-    let mut t = 0;
-    while t < n {
-        if a[i + t] != b[j + t] {
-            return false;
-        }
-        t += 1;
-    }
-    true
+    s.lens[..axis] == hs.lens[..axis] && s.lens[from..rank] == hs.lens[axis + 1..hs.rank]
 }
 
 // The result's elements, `total` in number, by what the operands give along an axis of the higher shape.
@@ -192,14 +163,10 @@ fn put_runs(run: Run, src: &[i32], first: usize, size: usize, outer: usize, out:
     requires { RunsFit run first size outer (length src.now) (length out.old) }
     ensures { out.new ≡ filled (runs_at run src.now first size out.old) (outer * size) out.old }
 {
-    let width = run.width;
-    let mut at = first;
-    let mut o = 0;
-    while o < outer {
-        let end = at + width;
+    for o in 0..outer {
+        let at = o * size + first;
+        let end = at + run.width;
         put_run(run, src, o, &mut out[at..end]);
-        at += size;
-        o += 1;
     }
 }
 

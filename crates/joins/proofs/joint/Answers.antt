@@ -32,7 +32,8 @@ unfolding asked
 returns-then-not-ranks_fit-clause-number c x y =
     let l : length c.args.ls.lens ≡ max_rank = search rules in
     let r : length c.args.rs.lens ≡ max_rank = search rules in
-    let h : High c.args.ls c.args.rs _ = record { left = record { good = c.requires.0; long = l }; right = record { good = c.requires.1; long = r }; is = refl } in
+    let h : High c.args.ls c.args.rs _ =
+    record { left = record { good = c.requires.0; long = l }; right = record { good = c.requires.1; long = r }; is = refl } in
     sym (catenate-own h c.args.g c.args.k x y ∙ rw (sym c.if-not-ranks_fit.ensures))
 
 pub returns-in_err-axis-clause-number : goal.returns-in_err-axis-clause-number
