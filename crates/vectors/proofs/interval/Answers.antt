@@ -43,8 +43,8 @@ pub returns-in_err-late : goal.returns-in_err-late
 returns-in_err-late c K L =
     let v = c.before.before.before.before.before in
     let n = v.before.before.before in
-    late-replied (interval-ready c.args.r.now (length-is v) c.args.g (fine n) (sym (asks n) ∙ asked_ok c.in_ok-interval_length.was) c.vector-shape.ensures K L) _
-    c.late.ensures c.count-n.ensures
+    let ready = interval-ready c.args.r.now (length-is v) c.args.g (fine n) (sym (asks n) ∙ asked_ok c.in_ok-interval_length.was) c.vector-shape.ensures K L in
+    late-replied ready _ c.late.ensures c.count-n.ensures
     (exit c.in_err-late.was c.from_residual-in_err-late.result c.from_residual-in_err-late.ensures.1)
 
 -- G as a number from 0 up.

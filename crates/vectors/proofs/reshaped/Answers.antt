@@ -20,7 +20,8 @@ returns-then-not-is_list-clause-number c R = sym (reshape-own (array_of c.args.l
 rest : (c : After-none_negative) (R : Array) → own 21 (reshape (array_of c.args.l.now) R).refusals ≡ cond (not c.none_negative.result) (number DOMAIN) 0
 rest c R =
     let l : is_list (array_of c.args.l.now) ≡ true = sym c.if-not-is_list.ensures in
-    reshape-own (array_of c.args.l.now) R ∙ rw (l, every_all (λ z. not (negative z)) (array_of c.args.l.now).elements, c.none_negative.ensures, c.elements-lengths.ensures) refl
+    let all = every_all (λ z. not (negative z)) (array_of c.args.l.now).elements in
+    reshape-own (array_of c.args.l.now) R ∙ rw (l, all, c.none_negative.ensures, c.elements-lengths.ensures) refl
 
 pub returns-then-not-none_negative-clause-number : goal.returns-then-not-none_negative-clause-number
 unfolding asked
