@@ -1,6 +1,6 @@
 -- A result's elements by the windows up to the last axis that is not taken whole.
 use Prim.Native.Nat.{ℕ, suc, ◌+◌, ◌*◌, ◌-◌, ◌≤◌, ◌<◌}
-use native.Mathlib.Nat.{sub-zero, zero-add}
+use native.Mathlib.Nat.{zero-add}
 use native.Mathlib.Omega.{arith}
 use mathlib.Core.Path.{◌≡◌, refl, sym, ap, ap₂, ◌∙◌}
 use mathlib.Core.List.{List, []}
@@ -70,10 +70,10 @@ module _ {kind : CutKind} {rank : ℕ} {lens result : List ℕ} {l r out : List 
       (λ i k. cut-whole kind zs ns r 0 i same all (omega (arith, even, p.source)) ∙ ap₂ (λ x y. get_or x y (pos 0)) (sym run) (zero-add i))
 
   module _ (table : List ℕ) (t : take (rank * 5) table ≡ table_of kind zs ns) where
-    front : take (u * 5 - 0) table ≡ take (u * 5) (table_of kind zs ns)
-    front = ap (λ k. take k table) (sub-zero (u * 5)) ∙ sym (take-take (u * 5) (rank * 5) table (omega (arith, f.below))) ∙ ap (take (u * 5)) t
+    front : take (u * 5) table ≡ take (u * 5) (table_of kind zs ns)
+    front = sym (take-take (u * 5) (rank * 5) table (omega (arith, f.below))) ∙ ap (take (u * 5)) t
 
-    pub fill-fits : 0 < u → Fitting (take (u * 5 - 0) table) 0 (length r) (length out)
+    pub fill-fits : 0 < u → Fitting (take (u * 5) table) 0 (length r) (length out)
     fill-fits b =
         let e : suc (u - 1) ≡ u = omega arith in
         let w : u ≤ length ns = omega (arith, f.below, length-take-le rank lens (omega (arith, p.high, f.long))) in
@@ -81,7 +81,7 @@ module _ {kind : CutKind} {rank : ℕ} {lens result : List ℕ} {l r out : List 
         let n = front-some in
         rw (front, p.result) (rw e at (table_fits kind (u - 1) zs ns 0 same (omega arith) n.result n.some room (rw e tail-is)))
 
-    pub fill-cut : {last : List ℤ} → last ≡ tab (length out) (cut_at (take (u * 5 - 0) table) r 0) → last ≡ tab (length out) (cut_at (table_of kind zs ns) r 0)
+    pub fill-cut : {last : List ℤ} → last ≡ tab (length out) (cut_at (take (u * 5) table) r 0) → last ≡ tab (length out) (cut_at (table_of kind zs ns) r 0)
     fill-cut q =
         q
         ∙ tab-ext (length out) _ _

@@ -93,12 +93,10 @@ fn cut_shape(kind: CutKind, rank: usize, lens: [usize; Shape::MAX_RANK], l: &[i3
     requires { rank ≤ length l.now }
     ensures { CutShape kind rank lens l.now result }
 {
-    let axes = copying::min(rank, Shape::MAX_RANK);
+    let axes = rank.min(Shape::MAX_RANK);
     let mut result = [0; Shape::MAX_RANK];
-    let mut axis = 0;
-    while axis < axes {
+    for axis in 0..axes {
         result[axis] = cut_length(kind, l[axis], lens[axis]);
-        axis += 1;
     }
     Shape { rank, lens: result }
 }
@@ -110,15 +108,8 @@ fn cut_length(kind: CutKind, z: i32, n: usize) -> usize
     let magnitude = signed::magnitude(z);
     match kind {
         CutKind::Take => magnitude,
-        CutKind::Drop => saturating_sub(n, magnitude),
+        CutKind::Drop => n.saturating_sub(magnitude),
     }
-}
-
-// a less b, and 0 where b is larger.
-fn saturating_sub(a: usize, b: usize) -> usize
-    ensures { result ≡ a - b }
-{
-    if b < a { a - b } else { 0 }
 }
 
 // The elements of a result: `r` and `out` are R and the result, whole.
@@ -134,10 +125,10 @@ fn fill(
     requires { Parts kind rank lens res l.now (length r.now) (length out.old) }
     ensures { out.new ≡ tab (length out.old) (cut_at (table_of kind (take rank l.now) (take rank lens)) r.now 0) }
 {
-    if out.len() == 0 {
+    if out.is_empty() {
         return;
     }
-    if r.len() == 0 {
+    if r.is_empty() {
         copying::fill_run(0, out);
         return;
     }
@@ -147,8 +138,7 @@ fn fill(
         return;
     }
     let table = table_of(kind, rank, lens, l);
-    let end = used * WIDTH;
-    cut(&table[0..end], 0, r, out);
+    cut(&table[..used * WIDTH], 0, r, out);
 }
 
 // How many axes there are up to the last that is not taken whole.
@@ -156,15 +146,12 @@ fn cut_axes(rank: usize, lens: [usize; Shape::MAX_RANK], res: [usize; Shape::MAX
     requires { rank ≤ max_rank }
     ensures { (result ≤ rank) × (drop result (take rank lens) ≡ drop result (take rank res)) }
 {
-    let mut axes = rank;
-    while 0 < axes {
-        let axis = axes - 1;
+    for axis in (0..rank).rev() {
         if lens[axis] != res[axis] {
-            return axes;
+            return axis + 1;
         }
-        axes = axis;
     }
-    axes
+    0
 }
 
 // How many numbers a table has for each axis.
@@ -183,9 +170,7 @@ fn table_of(
     let mut table = [0; WIDTH * Shape::MAX_RANK];
     let mut step = 1;
     let mut block = 1;
-    let mut axis = rank;
-    while 0 < axis {
-        axis -= 1;
+    for axis in (0..rank).rev() {
         let n = lens[axis];
         let w = window_on(kind, l[axis], n);
         let first = axis * WIDTH;
@@ -213,7 +198,7 @@ fn window_on(kind: CutKind, z: i32, n: usize) -> Window
     ensures { result ≡ window_of kind z n }
 {
     let size = cut_length(kind, z, n);
-    let lead = saturating_sub(size, n);
+    let lead = size.saturating_sub(n);
     let len = size - lead;
     if keeps_end(kind, z) {
         Window {
