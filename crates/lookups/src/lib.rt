@@ -14,6 +14,8 @@ use shape::Shape;
 
 mod table;
 
+use table::Chains;
+
 // 29, whatever K is: it is not looked at.
 pub fn index_of(g: i32, l: &Operand<'_>, r: &Operand<'_>, out: &mut [i32]) -> Result<Shape, Refusal>
     ensures { (K : ℤ) → Replied (answered result) out.new (reply (pos 29) g K l.now r.now out.old) }
@@ -88,25 +90,26 @@ fn put_hashed<const BITS: bool>(first: usize, l: &[i32], r: &[i32], out: &mut [i
     requires { Looks first l.now r.now (length out.old) }
     ensures { AllEntered BITS first l.now r.now out.old out.new }
 {
-    let mut heads = [table::NONE; table::BUCKETS];
-    let mut links = [table::NONE; Shape::MAX_COUNT];
-    table::link(l, &mut heads, &mut links);
-    put_looked_up::<BITS>(first, l, &heads, &links, r, out);
+    let mut chains = Chains {
+        heads: [table::NONE; table::BUCKETS],
+        links: [table::NONE; Shape::MAX_COUNT],
+    };
+    chains.link(l);
+    put_looked_up::<BITS>(first, l, &chains, r, out);
 }
 
 fn put_looked_up<const BITS: bool>(
     first: usize,
     l: &[i32],
-    heads: &[u16; table::BUCKETS],
-    links: &[u16; Shape::MAX_COUNT],
+    chains: &Chains,
     r: &[i32],
     out: &mut [i32],
 )
-    requires { Looks first l.now r.now (length out.old) × Table l.now heads.now links.now }
+    requires { Looks first l.now r.now (length out.old) × Table l.now chains.now.heads chains.now.links }
     ensures { AllEntered BITS first l.now r.now out.old out.new }
 {
     for (j, x) in r.iter().enumerate() {
-        let at = table::look(l, heads, links, *x);
+        let at = chains.look(l, *x);
         out[j] = entry::<BITS>(first, l.len(), at);
     }
 }

@@ -25,66 +25,67 @@ fn hash(x: i32) -> usize
     key * FACTOR / 65536 % BUCKETS
 }
 
-// Every position of l is put in front of its chain, the last position first.
-pub fn link(l: &[i32], heads: &mut [u16; BUCKETS], links: &mut [u16; Shape::MAX_COUNT])
-    requires { Empty l.now heads.old links.old }
-    ensures { Table l.now heads.new links.new }
-{
-    let mut i = l.len();
-    while 0 < i {
-        i -= 1;
-        let h = hash(l[i]);
-        links[i] = heads[h];
-        heads[h] = i as u16;
-    }
+// Each bucket's first position, and after each position the next of its chain.
+#[derive(Drop)]
+pub struct Chains {
+    pub heads: [u16; BUCKETS],
+    pub links: [u16; Shape::MAX_COUNT],
 }
 
-fn wide(p: u16) -> usize
-    ensures { (result ≡ p) × (result < 65536) }
-{
-    p as usize
-}
-
-// The first position that holds x, the length where none does. The one branch is for a chain with a second position whose first does not hold x:
-// a branch for an empty chain, or for what its first position holds, is guessed wrong for many random values.
-pub fn look(l: &[i32], heads: &[u16; BUCKETS], links: &[u16; Shape::MAX_COUNT], x: i32) -> usize
-    requires { Table l.now heads.now links.now }
-    ensures { result ≡ first_at x l.now }
-{
-    let n = l.len();
-    if n == 0 {
-        return 0;
-    }
-    let h = hash(x);
-    let p = wide(heads[h]);
-    let q = copying::min(p, n - 1);
-    let next = wide(links[q]);
-    let found = signed::same(x, l[q]);
-    let skip = if found { n } else { 0 };
-    let at = if found { q } else { n };
-    if next + skip < n {
-        return follow(l, links, x, p);
-    }
-    at
-}
-
-// The same, from the first position of x's chain on. Where the chain is long the list is searched instead.
-fn follow(l: &[i32], links: &[u16; Shape::MAX_COUNT], x: i32, first: usize) -> usize
-    requires { Chained l.now links.now x first }
-    ensures { result ≡ first_at x l.now }
-{
-    let n = l.len();
-    let mut p = first;
-    let mut left = n / ELEMENTS_TO_A_STEP;
-    while p < n {
-        if signed::same(x, l[p]) {
-            return p;
+impl Chains {
+    // Every position of l is put in front of its chain, the last position first.
+    pub fn link(&mut self, l: &[i32])
+        requires { Empty l.now self.old.heads self.old.links }
+        ensures { Table l.now self.new.heads self.new.links }
+    {
+        for i in (0..l.len()).rev() {
+            let h = hash(l[i]);
+            self.links[i] = self.heads[h];
+            self.heads[h] = i as u16;
         }
-        if left == 0 {
-            return crate::position_from(l, 0, x);
-        }
-        left -= 1;
-        p = wide(links[p]);
     }
-    n
+
+    // The first position that holds x, the length where none does. The one branch is for a chain with a second position whose first does not hold x:
+    // a branch for an empty chain, or for what its first position holds, is guessed wrong for many random values.
+    pub fn look(&self, l: &[i32], x: i32) -> usize
+        requires { Table l.now self.now.heads self.now.links }
+        ensures { result ≡ first_at x l.now }
+    {
+        let n = l.len();
+        if n == 0 {
+            return 0;
+        }
+        let p = usize::from(self.heads[hash(x)]);
+        let q = p.min(n - 1);
+        let next = usize::from(self.links[q]);
+        let found = x == l[q];
+        let skip = if found { n } else { 0 };
+        let at = if found { q } else { n };
+        if next + skip < n {
+            return self.follow(l, x, p);
+        }
+        at
+    }
+
+    // The same, from the first position of x's chain on. Where the chain is long the list is searched instead.
+    fn follow(&self, l: &[i32], x: i32, first: usize) -> usize
+        requires { Chained l.now self.now.links x first }
+        ensures { result ≡ first_at x l.now }
+    {
+        let n = l.len();
+        let mut p = first;
+        let mut left = n / ELEMENTS_TO_A_STEP;
+        // A while: the next position is the chain's, and no index is counted.
+        while p < n {
+            if x == l[p] {
+                return p;
+            }
+            if left == 0 {
+                return crate::position_from(l, 0, x);
+            }
+            left -= 1;
+            p = usize::from(self.links[p]);
+        }
+        n
+    }
 }
