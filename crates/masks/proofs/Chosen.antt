@@ -1,5 +1,5 @@
 -- The loops that write rows of r one after another: row i is row φ i of r.
-use mathlib.Core.Path.{◌≡◌, refl, sym, ap, ◌∙◌}
+use mathlib.Core.Path.{◌≡◌, refl, sym, ap, ◌∙◌, subst}
 use mathlib.Core.List.{List}
 use mathlib.Core.Bool.{true}
 use Prim.Native.Nat.{ℕ, ◌+◌, ◌*◌, ◌%◌, ◌-◌, ◌≤◌, ◌<◌}
@@ -25,6 +25,15 @@ pub record Chosen (φ : ℕ → ℕ) (r : List ℤ) (m c : ℕ) (out₀ out : Li
 
 pub chosen_none : (φ : ℕ → ℕ) (r : List ℤ) (m c : ℕ) (out₀ : List ℤ) → Chosen φ r m c out₀ out₀ 0 0
 chosen_none φ r m c out₀ = record { within = omega arith; written = written_none (chosen φ c r) c out₀ }
+
+-- Where the next row begins, as a loop counts it.
+pub chosen_none_at : (φ : ℕ → ℕ) (r : List ℤ) (m c : ℕ) (out₀ : List ℤ) → Chosen φ r m c out₀ out₀ (0 * c) 0
+chosen_none_at φ r m c out₀ = subst (λ x. Chosen φ r m c out₀ out₀ x 0) (sym (zero-mul c)) (chosen_none φ r m c out₀)
+
+pub chosen-next : {φ : ℕ → ℕ} {r : List ℤ} {m c : ℕ} {out₀ next : List ℤ} (i : ℕ) → Chosen φ r m c out₀ next (i * c + c) (i + 1)
+    → Chosen φ r m c out₀ next ((i + 1) * c) (i + 1)
+chosen-next {φ} {r} {m} {c} {out₀} {next} i k =
+    subst (λ x. Chosen φ r m c out₀ next x (i + 1)) (let e : i * c + c ≡ (i + 1) * c = omega arith in e) k
 
 module _ {φ : ℕ → ℕ} {r : List ℤ} {m c : ℕ} {out₀ out : List ℤ} {to i : ℕ} (k : Chosen φ r m c out₀ out to i) (room : length out₀ ≡ m * c) where
   pub chosen-all : m ≤ i → out ≡ tab (m * c) (chosen φ c r)

@@ -26,13 +26,11 @@ fn note(l: &[i32], at: &mut [u16; FEW])
     ensures { Noted l.now at.new }
 {
     let mut q = 0;
-    let mut i = 0;
-    while i < l.len() {
+    for (i, z) in l.iter().enumerate() {
         at[q] = i as u16;
-        if l[i] == 1 {
+        if *z == 1 {
             q += 1;
         }
-        i += 1;
     }
 }
 
@@ -41,11 +39,9 @@ fn kept_line(at: &[u16], r: &[i32], out: &mut [i32])
     requires { Keeps at.now (length out.old) 1 (length r.now) (length out.old) }
     ensures { out.new ≡ tab (length out.old * 1) (kept_rows at.now 1 r.now) }
 {
-    let mut q = 0;
-    while q < out.len() {
+    for q in 0..out.len() {
         let x = at[q] as usize;
         out[q] = r[x];
-        q += 1;
     }
 }
 
@@ -58,16 +54,13 @@ pub fn kept_rows(at: &[u16], r: &[i32], m: usize, inner: usize, out: &mut [i32])
         kept_line(at, r, out);
         return;
     }
-    let mut to = 0;
-    let mut q = 0;
-    while q < m {
+    for q in 0..m {
         let x = at[q] as usize;
         let from = x * inner;
         let stop = from + inner;
+        let to = q * inner;
         let end = to + inner;
         copying::copy_run(&r[from..stop], &mut out[to..end]);
-        to = end;
-        q += 1;
     }
 }
 
@@ -76,11 +69,9 @@ fn opened_line(l: &[i32], at: &[u16], r: &[i32], out: &mut [i32])
     requires { Opens l.now at.now 1 (length r.now) out.old }
     ensures { out.new ≡ tab (length l.now * 1) (opened_rows l.now 1 r.now) }
 {
-    let mut q = 0;
-    while q < r.len() {
+    for (q, v) in r.iter().enumerate() {
         let x = at[q] as usize;
-        out[x] = r[q];
-        q += 1;
+        out[x] = *v;
     }
 }
 
@@ -128,14 +119,12 @@ fn past(one: bool, l: &[i32], i: usize) -> usize
     requires { i ≤ length l.now }
     ensures { Stretch one l.now i result }
 {
-    let mut e = i;
-    while e < l.len() {
+    for e in i..l.len() {
         if signed::is_one(l[e]) != one {
             return e;
         }
-        e += 1;
     }
-    e
+    l.len()
 }
 
 // The rows at ones: those at neighbours are one run.
@@ -165,13 +154,10 @@ pub fn repeat_row(r: &[i32], m: usize, inner: usize, out: &mut [i32])
         copying::fill_run(r[0], out);
         return;
     }
-    let mut to = 0;
-    let mut i = 0;
-    while i < m {
+    for i in 0..m {
+        let to = i * inner;
         let end = to + inner;
         copying::copy_run(r, &mut out[to..end]);
-        to = end;
-        i += 1;
     }
 }
 
@@ -181,15 +167,13 @@ pub fn expand_line(l: &[i32], r: &[i32], out: &mut [i32])
     ensures { out.new ≡ tab (length l.now * 1) (opened_rows l.now 1 r.now) }
 {
     let mut from = 0;
-    let mut i = 0;
-    while i < l.len() {
-        if l[i] == 1 {
+    for (i, z) in l.iter().enumerate() {
+        if *z == 1 {
             out[i] = r[from];
             from += 1;
         } else {
             out[i] = 0;
         }
-        i += 1;
     }
 }
 
@@ -219,13 +203,11 @@ pub fn spread(x: i32, l: &[i32], out: &mut [i32])
     requires { length l.now ≤ length out.old }
     ensures { out.new ≡ filled (λ i. cond (one_at l.now i) x (pos 0)) (length l.now) out.old }
 {
-    let mut i = 0;
-    while i < l.len() {
-        if l[i] == 1 {
+    for (i, z) in l.iter().enumerate() {
+        if *z == 1 {
             out[i] = x;
         } else {
             out[i] = 0;
         }
-        i += 1;
     }
 }

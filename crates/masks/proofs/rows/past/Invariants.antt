@@ -1,0 +1,6 @@
+use Rattle.std.proofs.Common.{◌≡◌, ℕ, ◌≤◌, ◌<◌}
+use Rattle.masks.specs.Steps.Actions.{one_at}
+use Rattle.masks.proofs.rows.past.Given as goal
+
+abbrev pub invariant-loop-e : goal.invariant-loop-e
+invariant-loop-e l = (j : ℕ) → l.i ≤ j → j < l.e → one_at l.l j ≡ l.one
