@@ -177,12 +177,9 @@ fn spread(stride: usize, r: &[i32], at: usize, out: &mut [i32])
     requires { LineIn (length out.old) stride at (length r.now) }
     ensures { out.new ≡ strided (length out.old) stride r.now at }
 {
-    let n = out.len();
-    let mut i = 0;
-    while i < n {
+    for i in 0..out.len() {
         let from = at + i * stride;
         out[i] = r[from];
-        i += 1;
     }
 }
 
@@ -226,15 +223,10 @@ fn put_line(axis: Axis, r: &[i32], at: usize, to: usize, out: &mut [i32])
     requires { Reach (axis ∷ []) at (length r.now) to (length out.old) }
     ensures { Placed (axis ∷ []) r.now at to out.old out.new }
 {
-    let n = axis.length;
-    let stride = axis.stride;
-    let step = axis.step;
-    let mut i = 0;
-    while i < n {
-        let from = at + i * stride;
-        let place = to + i * step;
+    for i in 0..axis.length {
+        let from = at + i * axis.stride;
+        let place = to + i * axis.step;
         out[place] = r[from];
-        i += 1;
     }
 }
 
@@ -243,15 +235,10 @@ fn put_plane(axis: Axis, line: Axis, r: &[i32], at: usize, to: usize, out: &mut 
     requires { Reach (axis ∷ (line ∷ [])) at (length r.now) to (length out.old) }
     ensures { Placed (axis ∷ (line ∷ [])) r.now at to out.old out.new }
 {
-    let n = axis.length;
-    let stride = axis.stride;
-    let step = axis.step;
-    let mut i = 0;
-    while i < n {
-        let from = at + i * stride;
-        let place = to + i * step;
+    for i in 0..axis.length {
+        let from = at + i * axis.stride;
+        let place = to + i * axis.step;
         put_line(line, r, from, place, out);
-        i += 1;
     }
 }
 
