@@ -106,31 +106,19 @@ module _ {to : List ℕ} {rs : Shape} (p : AxesPassed to rs) {lens : List ℕ} {
       by true ns = refl
       by false ns = refl
 
-  next : (more : List ℕ) → length more ≡ max_rank
-      → ((k : ℕ) (c : Bool) → eqb t k ≡ c → get_or more k 0 ≡ cond c (min n (get_or lens k 0)) (get_or lens k 0))
-      → Shortest (take rs.rank to) (counted rs) more (i - 1)
-  next more e g = record {
+  pub shorter : (v : ℕ) → v ≡ min (get_or lens t 0) n → Shortest (take rs.rank to) (counted rs) (set lens t v) (i - 1)
+  shorter v m = record {
     few = omega (arith, f.few);
-    long = e;
-    found = λ k h. g k (eqb t k) refl ∙ ap (λ x. cond (eqb t k) (min n x) x) (f.found k h) ∙ sym (least_more k);
+    long = length-set lens t v ∙ f.long;
+    found = λ k h. by k (eqb t k) refl ∙ ap (λ x. cond (eqb t k) (min n x) x) (f.found k h) ∙ sym (least_more k);
   }
-
-  pub shorter : n < get_or lens t 0 → Shortest (take rs.rank to) (counted rs) (set lens t n) (i - 1)
-  shorter m = next (set lens t n) (length-set lens t n ∙ f.long) by
     where
-      by : (k : ℕ) (c : Bool) → eqb t k ≡ c → get_or (set lens t n) k 0 ≡ cond c (min n (get_or lens k 0)) (get_or lens k 0)
+      by : (k : ℕ) (c : Bool) → eqb t k ≡ c → get_or (set lens t v) k 0 ≡ cond c (min n (get_or lens k 0)) (get_or lens k 0)
       by k true e =
           let q : t ≡ k = eqb-true t k e in
-          ap (λ x. get_or (set lens t n) x 0) (sym q)
-          ∙ get_or-set_same lens t n 0 (omega (arith, f.long, axis-lt p i some f.few)) ∙ omega (arith, ap (λ x. get_or lens x 0) q)
-      by k false e = get_or-set_other lens t k n 0 (λ q. eqb-false t k e (sym q))
-
-  pub not-shorter : get_or lens t 0 ≤ n → Shortest (take rs.rank to) (counted rs) lens (i - 1)
-  not-shorter m = next lens f.long by
-    where
-      by : (k : ℕ) (c : Bool) → eqb t k ≡ c → get_or lens k 0 ≡ cond c (min n (get_or lens k 0)) (get_or lens k 0)
-      by k true e = omega (arith, ap (λ x. get_or lens x 0) (eqb-true t k e))
-      by k false e = refl
+          ap (λ x. get_or (set lens t v) x 0) (sym q)
+          ∙ get_or-set_same lens t v 0 (omega (arith, f.long, axis-lt p i some f.few)) ∙ omega (arith, m, ap (λ x. get_or lens x 0) q)
+      by k false e = get_or-set_other lens t k v 0 (λ q. eqb-false t k e (sym q))
 
 -- All of them: where one axis at least is sent to each, the lengths of the result.
 module _ (ts ns : List ℕ) (e : length ts ≡ length ns) (s : small ns ≡ true) (o : Occur ts) where

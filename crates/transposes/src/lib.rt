@@ -128,14 +128,9 @@ fn sent_shape(sent: Sent, rs: Shape) -> Shape
 {
     let to = sent.to;
     let mut lens = [Shape::MAX_COUNT; Shape::MAX_RANK];
-    let mut i = rs.rank;
-    while 0 < i {
-        i -= 1;
+    for i in (0..rs.rank).rev() {
         let t = to[i];
-        let n = rs.lens[i];
-        if n < lens[t] {
-            lens[t] = n;
-        }
+        lens[t] = lens[t].min(rs.lens[i]);
     }
     Shape::of_lengths(sent.axes, lens)
 }
@@ -159,15 +154,11 @@ fn strides(sent: Sent, rs: Shape) -> [usize; Shape::MAX_RANK]
     requires { Transposes sent rs × (0 < count (counted rs)) }
     ensures { result ≡ sent_strides max_rank (sent_axes sent rs) (strides (counted rs)) }
 {
-    let to = sent.to;
     let mut sums = [0; Shape::MAX_RANK];
     let mut step = 1;
-    let mut i = rs.rank;
-    while 0 < i {
-        i -= 1;
-        let t = to[i];
-        sums[t] = sums[t] + step;
-        step = step * rs.lens[i];
+    for i in (0..rs.rank).rev() {
+        sums[sent.to[i]] += step;
+        step *= rs.lens[i];
     }
     sums
 }
@@ -247,23 +238,18 @@ fn put_strips(last: Axis, near: Axis, r: &[i32], at: usize, to: usize, out: &mut
     requires { (TILE ≤ last.length) × Reach (last ∷ (near ∷ [])) at (length r.now) to (length out.old) }
     ensures { Placed (last ∷ (near ∷ [])) r.now at to out.old out.new }
 {
-    let stride = last.stride;
-    let step = last.step;
     let strip = Axis {
         length: TILE,
-        stride,
-        step,
+        ..last
     };
     let end = last.length - TILE;
-    let mut i = 0;
-    while i < end {
-        let from = at + i * stride;
-        let place = to + i * step;
+    for i in (0..end).step_by(TILE) {
+        let from = at + i * last.stride;
+        let place = to + i * last.step;
         put_plane(near, strip, r, from, place, out);
-        i += TILE;
     }
-    let from = at + end * stride;
-    let place = to + end * step;
+    let from = at + end * last.stride;
+    let place = to + end * last.step;
     put_plane(near, strip, r, from, place, out);
 }
 
@@ -328,14 +314,7 @@ fn put_blocks(
 fn blocks_pay(lens: &[usize], strides: &[usize]) -> bool
     requires { (0 < length lens.now) × (length strides.now ≡ length lens.now) }
 {
-    let last = lens.len() - 1;
-    if strides[last] < 2 {
-        return false;
-    }
-    if lens[0] < 2 {
-        return false;
-    }
-    strides[0] == 1
+    1 < strides[lens.len() - 1] && 1 < lens[0] && strides[0] == 1
 }
 
 // What `walk` gives of two axes or more, by blocks along the first and the last.
