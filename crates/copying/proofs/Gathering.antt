@@ -1,7 +1,7 @@
 -- Rows that are gathered: one row more, one block more.
 use mathlib.Core.Path.{◌≡◌, refl, sym, ap, ap₂, ◌∙◌}
 use mathlib.Core.List.{List}
-use mathlib.Core.Bool.{Bool, true, false, cond, ◌&&◌, and-true, and-false}
+use mathlib.Core.Bool.{Bool, true, false, cond, ◌&&◌, and-false}
 use Prim.Native.Nat.{ℕ, ◌+◌, ◌-◌, ◌*◌, ◌/◌, ◌%◌, ◌≤◌, ◌<◌}
 use native.Mathlib.Nat.{mul-one, div-one, mod-one, add-zero, mul-le-mul, mul-le-mul_right, mod-lt, div-add-mod', le-div_iff_mul-le}
 use native.Mathlib.Omega.{arith}
@@ -86,15 +86,6 @@ module _ {b : AxisBlocks} where
           fits = leb-true _ _ fit.0;
           inside = λ q h. ltb-true _ _ (every-at (λ x. ltb x b.taken) at 0 fit.1 q h);
         }
-
-pub small-first : (at : List ℕ) (first : ℕ) (b : AxisBlocks) (n m : ℕ) → small_blocks b ≡ false → gathers at first b n m ≡ false
-unfolding gathers
-small-first at first b n m e = rw e
-
--- Where the others are not, a row's elements are left to be asked.
-pub small_by : (b : AxisBlocks) → b.outer ≤ max_count → b.taken ≤ max_count → b.made ≤ max_count → small_blocks b ≡ leb b.inner max_count
-unfolding small_blocks every
-small_by b o t m = rw (le-leb b.outer max_count o, le-leb b.taken max_count t, le-leb b.made max_count m, and-true (leb b.inner max_count))
 
 -- Where the blocks lie in their buffers and the rows in their blocks, the positions are left to be asked.
 pub gathers-by : (at : List ℕ) (first : ℕ) (b : AxisBlocks) (n m : ℕ) → small_blocks b ≡ true → b.outer * (b.taken * b.inner) ≤ n

@@ -25,21 +25,6 @@ copied-fits src out h =
 pub copied-whole : (src out : List ℤ) → length src ≡ length out → copied src out ≡ src
 copied-whole src out h = copied-fits src out (omega arith) ∙ rw (drop_of_length-le out {i = length src} (omega arith)) (append-nil src)
 
--- The elements that fit are copied alike by themselves.
-pub copied-front : (src out : List ℤ) (n : ℕ) → n ≡ common src out → copied (take (n - 0) (drop 0 src)) out ≡ copied src out
-unfolding copied
-copied-front src out n e =
-    let z : n - 0 ≡ n = omega arith in
-    let long : length (take (n - 0) (drop 0 src)) ≡ n = mid_len 0 n src (omega arith) ∙ z in
-    copied-fits (take (n - 0) (drop 0 src)) out (omega arith) ∙ rw (long, z, e)
-
--- A run that is copied by way of a buffer which has room for it.
-pub copied-through : (src held out : List ℤ) → length src ≤ length held
-    → copied (take (length src - 0) (drop 0 (copied src held))) out ≡ copied src out
-copied-through src held out h =
-    let z : length src - 0 ≡ length src = omega arith in
-    rw (copied-fits src held h, z, take_at src (drop (length src) held) (length src) refl)
-
 pub reversed-fits : (src out : List ℤ) → length src ≤ length out → reversed src out ≡ reverse src ++ drop (length src) out
 unfolding reversed
 reversed-fits src out h =

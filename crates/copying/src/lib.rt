@@ -16,66 +16,46 @@ use shape::Shape;
 pub fn min(a: usize, b: usize) -> usize
     ensures { result ≡ min a b }
 {
-    if a < b { a } else { b }
+    a.min(b)
 }
 
-// Runs from this length on are copied by way of a buffer.
+// Runs from this length on are one move of the C library.
 const LONG: usize = 32;
 
-// As many elements as both have; the rest of `out` stays.
+// As many elements as both have; the rest of `out` stays. Not by the library's move alone: for rows of 2 to 16 its call took up to half as long again.
+#[tactic(auto, unfolding(crate::specs::Runs::copied))]
 pub fn copy_run(src: &[i32], out: &mut [i32])
     ensures { out.new ≡ copied src.now out.old }
 {
-    let n = min(src.len(), out.len());
-    if LONG <= n {
-        if n <= Shape::MAX_COUNT {
-            copy_long(&src[0..n], out);
-            return;
-        }
+    let n = src.len().min(out.len());
+    if n < LONG {
+        copy_each(src, out);
+    } else {
+        out[..n].copy_from_slice(&src[..n]);
     }
-    copy_each(src, out);
 }
 
-// The compiler knows that nothing else overlaps this buffer. So it makes one move of both copies, the C library's, and no buffer is left.
-fn copy_long(src: &[i32], out: &mut [i32])
-    requires { length src.now ≤ max_count }
+// One after another: by two iterators side by side short runs took up to 1.4 times as long.
+fn copy_each<T: Copy>(src: &[T], out: &mut [T])
     ensures { out.new ≡ copied src.now out.old }
 {
-    let n = src.len();
-    let mut held = [0; Shape::MAX_COUNT];
-    copy_each(src, &mut held);
-    copy_each(&held[0..n], out);
-}
-
-// One after another.
-fn copy_each(src: &[i32], out: &mut [i32])
-    ensures { out.new ≡ copied src.now out.old }
-{
-    let n = min(src.len(), out.len());
-    let mut i = 0;
-    while i < n {
+    let n = src.len().min(out.len());
+    for i in 0..n {
         out[i] = src[i];
-        i += 1;
     }
 }
 
 // Four elements, all read before any is written, so that they are moved as one.
-fn move_4(src: &[i32], out: &mut [i32], i: usize)
+fn move_4<T: Copy>(src: &[T], out: &mut [T], i: usize)
     requires { (i + 4 ≤ length src.now) × (i + 4 ≤ length out.old) }
     ensures { out.new ≡ take i out.old ++ take 4 (drop i src.now) ++ drop (i + 4) out.old }
 {
-    let a0 = src[i];
-    let a1 = src[i + 1];
-    let a2 = src[i + 2];
-    let a3 = src[i + 3];
-    out[i] = a0;
-    out[i + 1] = a1;
-    out[i + 2] = a2;
-    out[i + 3] = a3;
+    let four = [src[i], src[i + 1], src[i + 2], src[i + 3]];
+    out[i..i + 4].copy_from_slice(&four);
 }
 
-// Eight at a time, while that many of the first n are left: how many are copied.
-fn copy_eights(src: &[i32], out: &mut [i32], n: usize) -> usize
+// Eight at a time, while that many of the first n are left: how many are copied. By a `for` over the eights select took up to twice as long.
+fn copy_eights<T: Copy>(src: &[T], out: &mut [T], n: usize) -> usize
     requires { (n ≤ length src.now) × (n ≤ length out.old) }
     ensures { (result ≤ n) × (out.new ≡ take result src.now ++ drop result out.old) }
 {
@@ -89,37 +69,31 @@ fn copy_eights(src: &[i32], out: &mut [i32], n: usize) -> usize
 }
 
 // As copy_run, for runs that are short: the compiler need not test whether the buffers overlap.
-pub fn copy_row(src: &[i32], out: &mut [i32])
+pub fn copy_row<T: Copy>(src: &[T], out: &mut [T])
     ensures { out.new ≡ copied src.now out.old }
 {
-    let n = min(src.len(), out.len());
-    let mut at = copy_eights(src, out, n);
-    while at < n {
-        out[at] = src[at];
-        at += 1;
+    let n = src.len().min(out.len());
+    let done = copy_eights(src, out, n);
+    for i in done..n {
+        out[i] = src[i];
     }
 }
 
-pub fn fill_run(x: i32, out: &mut [i32])
+pub fn fill_run<T: Copy>(x: T, out: &mut [T])
     ensures { out.new ≡ replicate (length out.old) x }
 {
-    let n = out.len();
-    let mut k = 0;
-    while k < n {
-        out[k] = x;
-        k += 1;
+    for o in out.iter_mut() {
+        *o = x;
     }
 }
 
 // As many elements as both have, the last of them first; the rest of `out` stays.
-pub fn reverse_run(src: &[i32], out: &mut [i32])
+pub fn reverse_run<T: Copy>(src: &[T], out: &mut [T])
     ensures { out.new ≡ reversed src.now out.old }
 {
-    let n = min(src.len(), out.len());
-    let mut j = 0;
-    while j < n {
+    let n = src.len().min(out.len());
+    for j in 0..n {
         out[j] = src[n - 1 - j];
-        j += 1;
     }
 }
 
@@ -136,6 +110,7 @@ pub struct AxisBlocks {
 }
 
 // In each block the rows at the positions `at`, to the rows from `first` on; the block's other rows stay, and all of `out` where they cannot go.
+#[tactic(auto, unfolding(crate::specs::Gather::gathered))]
 pub fn gather(at: &[u16], first: usize, b: AxisBlocks, r: &[i32], out: &mut [i32])
     ensures { out.new ≡ gathered at.now first b r.now out.old }
 {
@@ -148,38 +123,23 @@ pub fn gather(at: &[u16], first: usize, b: AxisBlocks, r: &[i32], out: &mut [i32
 fn gathers(at: &[u16], first: usize, b: AxisBlocks, n: usize, m: usize) -> bool
     ensures { result ≡ gathers at.now first b n m }
 {
-    if !small(b) {
-        return false;
-    }
-    if n < b.outer * (b.taken * b.inner) {
-        return false;
-    }
-    if m < b.outer * (b.made * b.inner) {
-        return false;
-    }
-    if b.made < first {
-        return false;
-    }
-    if b.made - first < at.len() {
-        return false;
-    }
-    all_below(at, b.taken)
+    small(b)
+        && b.outer * (b.taken * b.inner) <= n
+        && b.outer * (b.made * b.inner) <= m
+        && first <= b.made
+        && at.len() <= b.made - first
+        && all_below(at, b.taken)
 }
 
 // Whether no count is above the limit, so that their products are held.
+#[tactic(auto, unfolding(crate::specs::Gather::small_blocks, meaning::specs::Terms::every))]
 fn small(b: AxisBlocks) -> bool
     ensures { result ≡ small_blocks b }
 {
-    if Shape::MAX_COUNT < b.outer {
-        return false;
-    }
-    if Shape::MAX_COUNT < b.taken {
-        return false;
-    }
-    if Shape::MAX_COUNT < b.made {
-        return false;
-    }
-    b.inner <= Shape::MAX_COUNT
+    b.outer <= Shape::MAX_COUNT
+        && b.taken <= Shape::MAX_COUNT
+        && b.made <= Shape::MAX_COUNT
+        && b.inner <= Shape::MAX_COUNT
 }
 
 // No position ends the loop, so that it is compiled to tests of many positions.
@@ -189,12 +149,10 @@ fn all_below(at: &[u16], n: usize) -> bool
 {
     let end = n as u16;
     let mut all = true;
-    let mut i = 0;
-    while i < at.len() {
-        if end <= at[i] {
+    for x in at {
+        if end <= *x {
             all = false;
         }
-        i += 1;
     }
     all
 }
@@ -207,16 +165,11 @@ fn gather_blocks(at: &[u16], first: usize, b: AxisBlocks, r: &[i32], out: &mut [
     let size = b.taken * b.inner;
     let part = b.made * b.inner;
     let some = at.len() * b.inner;
-    let mut from = 0;
-    let mut to = first * b.inner;
-    let mut o = 0;
-    while o < b.outer {
-        let stop = from + size;
-        let end = to + some;
-        gather_block(at, b.inner, &r[from..stop], &mut out[to..end]);
-        from = stop;
-        to += part;
-        o += 1;
+    let start = first * b.inner;
+    for o in 0..b.outer {
+        let from = o * size;
+        let to = o * part + start;
+        gather_block(at, b.inner, &r[from..from + size], &mut out[to..to + some]);
     }
 }
 
@@ -236,11 +189,8 @@ fn gather_line(at: &[u16], r: &[i32], out: &mut [i32])
     requires { RowsBy at.now 1 (length r.now) (length out.old) }
     ensures { out.new ≡ tab (length at.now * 1) (rows_by at.now 1 r.now) }
 {
-    let mut q = 0;
-    while q < at.len() {
-        let x = at[q] as usize;
-        out[q] = r[x];
-        q += 1;
+    for (q, x) in at.iter().enumerate() {
+        out[q] = r[*x as usize];
     }
 }
 
@@ -250,14 +200,10 @@ fn gather_rows(at: &[u16], inner: usize, r: &[i32], out: &mut [i32])
     ensures { out.new ≡ tab (length at.now * inner) (rows_by at.now inner r.now) }
 {
     let mut to = 0;
-    let mut q = 0;
-    while q < at.len() {
-        let x = at[q] as usize;
-        let from = x * inner;
-        let stop = from + inner;
+    for x in at {
+        let from = *x as usize * inner;
         let end = to + inner;
-        copy_run(&r[from..stop], &mut out[to..end]);
+        copy_run(&r[from..from + inner], &mut out[to..end]);
         to = end;
-        q += 1;
     }
 }
