@@ -8,7 +8,7 @@ use mathlib.Core.Path.{◌≡◌, refl, sym, ap, ap₂, ◌∙◌}
 use mathlib.Core.List.{List, [], ◌∷◌, ◌++◌, append_assoc, append-nil, reverse}
 use lib.IntN.{ℤ}
 use lib.ListN.{length, get_or, take, drop, set, replicate, length-append, length-drop, length-replicate, get_or-replicate, drop_of_length-le}
-use lib.Seq.{take_at, drop_at, drop-drop, drop-cons, set_at, append_snoc, take_all}
+use lib.Seq.{length-take-le, take_at, drop_at, drop-drop, drop-cons, set_at, append_snoc, take_all}
 use borrow.Rule.Slice.PartMut.{put_mid, mid_len}
 use Rattle.meaning.specs.Array.{tab_from, tab}
 use Rattle.copying.specs.Runs.{common, copied, reversed}
@@ -24,6 +24,15 @@ copied-fits src out h =
 
 pub copied-whole : (src out : List ℤ) → length src ≡ length out → copied src out ≡ src
 copied-whole src out h = copied-fits src out (omega arith) ∙ rw (drop_of_length-le out {i = length src} (omega arith)) (append-nil src)
+
+-- The elements that fit are copied alike by themselves.
+pub copied_front : (src out : List ℤ) (n : ℕ) → n ≡ common src out → copied (take n src) out ≡ copied src out
+unfolding copied
+copied_front src out n e = copied-fits (take n src) out (omega (arith, length-take-le n src (omega arith))) ∙ rw (length-take-le n src (omega arith), e)
+
+-- A run that is copied by way of a buffer which has room for it.
+pub copied_through : (src held out : List ℤ) → length src ≤ length held → copied (take (length src) (copied src held)) out ≡ copied src out
+copied_through src held out h = rw (copied-fits src held h, take_at src (drop (length src) held) (length src) refl)
 
 pub reversed-fits : (src out : List ℤ) → length src ≤ length out → reversed src out ≡ reverse src ++ drop (length src) out
 unfolding reversed
