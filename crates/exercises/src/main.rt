@@ -1,63 +1,55 @@
 // Paper 01's exercises through the numbered entry point, and the leading item, its sister and the successor, printed.
 #![tactic(auto)]
 
+use answer::{Answer, Operand, Refusal};
 use shape::{Place, Shape};
 use std::io;
 
-// An operand: its shape and its elements.
-#[derive(Clone, Copy)]
-struct Operand<'a> {
-    shape: Shape,
-    elements: &'a [i32],
+fn scalar<'a>(elements: &'a [i32]) -> Operand<'a> {
+    Operand {
+        shape: Shape::scalar(),
+        elements,
+    }
 }
 
-impl<'a> Operand<'a> {
-    fn scalar(elements: &'a [i32]) -> Operand<'a> {
-        Operand {
-            shape: Shape::scalar(),
-            elements,
-        }
+fn vector<'a>(elements: &'a [i32]) -> Operand<'a> {
+    Operand {
+        shape: Shape::vector(elements.len()),
+        elements,
     }
+}
 
-    fn vector(elements: &'a [i32]) -> Operand<'a> {
-        Operand {
-            shape: Shape::vector(elements.len()),
-            elements,
-        }
+fn matrix<'a>(rows: usize, columns: usize, elements: &'a [i32]) -> Operand<'a> {
+    let mut lens = [0; Shape::MAX_RANK];
+    lens[0] = rows;
+    lens[1] = columns;
+    Operand {
+        shape: Shape { rank: 2, lens },
+        elements,
     }
+}
 
-    fn matrix(rows: usize, columns: usize, elements: &'a [i32]) -> Operand<'a> {
-        let mut lens = [0; Shape::MAX_RANK];
-        lens[0] = rows;
-        lens[1] = columns;
-        Operand {
-            shape: Shape { rank: 2, lens },
-            elements,
-        }
+// A vector of no elements, and what stands in its buffer.
+fn empty<'a>(buffer: &'a [i32]) -> Operand<'a> {
+    Operand {
+        shape: Shape::vector(0),
+        elements: buffer,
     }
+}
 
-    // A vector of no elements, and what stands in its buffer.
-    fn empty(buffer: &'a [i32]) -> Operand<'a> {
-        Operand {
-            shape: Shape::vector(0),
-            elements: buffer,
-        }
-    }
-
-    // One element, under so many lengths of 1.
-    fn of_rank(rank: usize, elements: &'a [i32]) -> Operand<'a> {
-        Operand {
-            shape: Shape {
-                rank,
-                lens: [1; Shape::MAX_RANK],
-            },
-            elements,
-        }
+// One element, under so many lengths of 1.
+fn of_rank<'a>(rank: usize, elements: &'a [i32]) -> Operand<'a> {
+    Operand {
+        shape: Shape {
+            rank,
+            lens: [1; Shape::MAX_RANK],
+        },
+        elements,
     }
 }
 
 // A call of a primitive.
-#[derive(Clone, Copy)]
+#[derive(Drop)]
 struct Call<'a> {
     primitive: i32,
     g: i32,
@@ -73,7 +65,7 @@ impl<'a> Call<'a> {
             primitive,
             g: 1,
             k,
-            left: Operand::vector(&[]),
+            left: vector(&[]),
             right,
         }
     }
@@ -84,14 +76,14 @@ impl<'a> Call<'a> {
             primitive,
             g: 1,
             k: 1,
-            left: Operand::vector(l),
+            left: vector(l),
             right,
         }
     }
 
     // Of two vectors.
     fn vectors(primitive: i32, l: &'a [i32], r: &'a [i32]) -> Call<'a> {
-        Call::two(primitive, l, Operand::vector(r))
+        Call::two(primitive, l, vector(r))
     }
 
     // With G 0.
@@ -105,73 +97,64 @@ impl<'a> Call<'a> {
         let Some(out) = held.get_mut(..room) else {
             return Ok(());
         };
-        let (left, right) = (self.left, self.right);
-        let a = kernel::call(
-            self.primitive,
-            self.g,
-            self.k,
-            left.shape,
-            left.elements,
-            right.shape,
-            right.elements,
-            out,
-        );
-        print(rt, line, a.number, a.shape, out)
+        let reply = kernel::call(self.primitive, self.g, self.k, &self.left, &self.right, out);
+        print(rt, line, reply, out)
     }
 }
 
 // Prints a reply; of a result too long to print only the count.
-fn print(rt: &impl Print, line: u64, number: usize, shape: Shape, out: &[i32]) -> io::Result<()> {
+fn print(rt: &impl Print, line: u64, reply: Result<Shape, Refusal>, out: &[i32]) -> io::Result<()> {
+    let answer = Answer::from(reply);
     let mut text = [0u8; 256];
-    match sheet_answer::print_reply(line, number, shape, out, &mut text) {
+    match sheet_answer::print_reply(line, answer.number, answer.shape, out, &mut text) {
         Some(n) => rt.write_all(&text[..n]),
         None => {
-            let count = shape.count();
+            let count = answer.shape.count();
             println!(rt; "{line} accepted, elements {count}")
         }
     }
 }
 
 fn turned_and_cut(rt: &impl Print) -> io::Result<()> {
-    let four = Operand::vector(&[1, 2, 3, 4]);
+    let four = || vector(&[1, 2, 3, 4]);
     Call::vectors(25, &[-1], &[1, 2, 3, 4]).show(rt, 1, 4)?;
     Call::vectors(25, &[-2147483648], &[1, 2, 3]).show(rt, 2, 3)?;
-    Call::one(14, 1, four).show(rt, 3, 4)?;
+    Call::one(14, 1, four()).show(rt, 3, 4)?;
     Call::vectors(23, &[-3], &[5, 6]).show(rt, 4, 3)?;
     Call::vectors(24, &[-1], &[5, 6, 7]).show(rt, 5, 3)?;
     Call::vectors(24, &[9], &[5, 6, 7]).show(rt, 6, 3)
 }
 
 fn transposed(rt: &impl Print) -> io::Result<()> {
-    let block = Operand::matrix(2, 3, &[1, 2, 3, 4, 5, 6]);
-    Call::one(15, 1, block).show(rt, 7, 6)?;
-    Call::two(26, &[0, 0], block).from_zero().show(rt, 8, 6)?;
-    Call::two(26, &[1, 1], block).from_zero().show(rt, 9, 6)
+    let block = || matrix(2, 3, &[1, 2, 3, 4, 5, 6]);
+    Call::one(15, 1, block()).show(rt, 7, 6)?;
+    Call::two(26, &[0, 0], block()).from_zero().show(rt, 8, 6)?;
+    Call::two(26, &[1, 1], block()).from_zero().show(rt, 9, 6)
 }
 
 fn masked_and_found(rt: &impl Print) -> io::Result<()> {
-    let five = Operand::scalar(&[5]);
-    Call::two(27, &[1, 1, 0, 1, 0], five).show(rt, 10, 5)?;
-    Call::two(28, &[1, 0, 1], five).show(rt, 11, 3)?;
+    let five = || scalar(&[5]);
+    Call::two(27, &[1, 1, 0, 1, 0], five()).show(rt, 10, 5)?;
+    Call::two(28, &[1, 0, 1], five()).show(rt, 11, 3)?;
     Call::vectors(28, &[1, 0, 1], &[5]).show(rt, 12, 3)?;
-    Call::two(21, &[2, 2], Operand::empty(&[9])).show(rt, 13, 4)?;
+    Call::two(21, &[2, 2], empty(&[9])).show(rt, 13, 4)?;
     Call::vectors(29, &[7, 8, 7], &[7, 9]).show(rt, 14, 2)
 }
 
 fn at_the_limits(rt: &impl Print) -> io::Result<()> {
-    let four = Operand::vector(&[1, 2, 3, 4]);
-    Call::one(13, 1, Operand::scalar(&[16384])).show(rt, 15, Shape::MAX_COUNT)?;
-    Call::one(13, 1, Operand::scalar(&[16385])).show(rt, 16, Shape::MAX_COUNT)?;
-    Call::one(14, -2147483648, Operand::vector(&[1, 2])).show(rt, 17, 2)?;
-    Call::one(12, 1, four).show(rt, 18, 3)?;
-    Call::one(12, 1, four).show(rt, 19, 4)?;
-    Call::one(12, 1, Operand::of_rank(Shape::MAX_RANK, &[7])).show(rt, 20, 1)?;
-    Call::one(12, 1, Operand::of_rank(Shape::MAX_RANK + 1, &[7])).show(rt, 21, 1)
+    let four = || vector(&[1, 2, 3, 4]);
+    Call::one(13, 1, scalar(&[16384])).show(rt, 15, Shape::MAX_COUNT)?;
+    Call::one(13, 1, scalar(&[16385])).show(rt, 16, Shape::MAX_COUNT)?;
+    Call::one(14, -2147483648, vector(&[1, 2])).show(rt, 17, 2)?;
+    Call::one(12, 1, four()).show(rt, 18, 3)?;
+    Call::one(12, 1, four()).show(rt, 19, 4)?;
+    Call::one(12, 1, of_rank(Shape::MAX_RANK, &[7])).show(rt, 20, 1)?;
+    Call::one(12, 1, of_rank(Shape::MAX_RANK + 1, &[7])).show(rt, 21, 1)
 }
 
 // The primitives that no exercise of the paper names.
 fn the_others(rt: &impl Print) -> io::Result<()> {
-    let block = Operand::matrix(2, 3, &[1, 2, 3, 4, 5, 6]);
+    let block = matrix(2, 3, &[1, 2, 3, 4, 5, 6]);
     Call::one(11, 1, block).show(rt, 22, 2)?;
     Call::vectors(22, &[1, 2], &[3]).show(rt, 23, 3)?;
     Call::vectors(30, &[7, 9], &[7, 8, 7]).show(rt, 24, 2)?;
@@ -180,17 +163,15 @@ fn the_others(rt: &impl Print) -> io::Result<()> {
 }
 
 fn items(rt: &impl Print) -> io::Result<()> {
-    let block = Operand::matrix(2, 3, &[1, 2, 3, 4, 5, 6]);
-    let part = items::leading_item(1, 2, block.shape, block.elements);
-    let a = items::item_shape(1, 2, block.shape, block.elements);
-    print(rt, 27, a.number, a.shape, part)?;
-    let b = items::item_shape(1, 3, block.shape, block.elements);
-    print(rt, 28, b.number, Shape::scalar(), part)
+    let block = matrix(2, 3, &[1, 2, 3, 4, 5, 6]);
+    let part = items::leading_item(1, 2, &block);
+    print(rt, 27, items::item_shape(1, 2, &block), part)?;
+    print(rt, 28, items::item_shape(1, 3, &block), part)
 }
 
 // The places of lengths 2 3 from the first on, each by its two positions.
 fn places(rt: &impl Print) -> io::Result<()> {
-    let shape = Operand::matrix(2, 3, &[]).shape;
+    let shape = matrix(2, 3, &[]).shape;
     let mut place = Place {
         positions: [0; Shape::MAX_RANK],
         end: false,

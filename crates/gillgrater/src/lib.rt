@@ -28,15 +28,7 @@ pub extern "C" fn gillgrater_call(
 ) -> Answer
     ensures { Replied result out.new (reply primitive g k (lent ls l.now) (lent rs r.now) out.old) }
 {
-    let left = Operand {
-        shape: ls,
-        elements: l,
-    };
-    let right = Operand {
-        shape: rs,
-        elements: r,
-    };
-    Answer::from(kernel::call(primitive, g, k, &left, &right, out))
+    Answer::from(kernel::call(primitive, g, k, &lent(ls, l), &lent(rs, r), out))
 }
 
 // The leading item as a part of R's buffer, 0 and 0 for a refusal. A slice cannot be returned to C.
@@ -45,7 +37,7 @@ pub extern "C" fn gillgrater_item(g: i32, i: i32, rs: Shape, r: &[i32]) -> Part
     ensures value { result ≡ item_part (lent rs r.now) g i }
     ensures elements { part_in result r.now ≡ (leading_item (lent rs r.now) g i).part }
 {
-    items::leading_part(g, i, rs, r)
+    items::leading_part(g, i, &lent(rs, r))
 }
 
 // The sister call: the number, and the item's shape.
@@ -53,7 +45,14 @@ pub extern "C" fn gillgrater_item(g: i32, i: i32, rs: Shape, r: &[i32]) -> Part
 pub extern "C" fn gillgrater_item_shape(g: i32, i: i32, rs: Shape, r: &[i32]) -> Answer
     ensures { result ≡ item_answer (leading_item (lent rs r.now) g i) }
 {
-    items::item_shape(g, i, rs, r)
+    Answer::from(items::item_shape(g, i, &lent(rs, r)))
+}
+
+// An operand as C hands it over, in two parameters.
+fn lent<'a>(shape: Shape, elements: &'a [i32]) -> Operand<'a>
+    ensures { result ≡ lent shape elements.now }
+{
+    Operand { shape, elements }
 }
 
 // The next place row by row, or the end.
