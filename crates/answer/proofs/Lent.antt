@@ -2,21 +2,19 @@
 use mathlib.Core.Path.{◌≡◌, refl, sym, ap, ◌∙◌}
 use mathlib.Core.List.{List}
 use mathlib.Core.Bool.{Bool, true, false, ◌&&◌}
-use Prim.Native.Nat.{ℕ, ◌-◌, ◌≤◌, ◌<◌}
-use native.Mathlib.Nat.{sub-zero}
+use Prim.Native.Nat.{ℕ, ◌≤◌, ◌<◌}
 use native.Mathlib.Omega.{arith}
-use lib.ListN.{length, get_or, take}
+use lib.ListN.{length, get_or}
 use lib.Seq.{length-take-le, get_or-take}
-use borrow.Author.Tests.{le-leb, lt-leb, eq-eqb, ne_eqb}
-use lib.Dec.{leb, eqb}
-use lib.IntN.{ℤ, pos}
+use lib.Dec.{leb}
+use lib.IntN.{ℤ}
 use Rattle.shape.specs.declared.Shape.{Shape}
 use Rattle.shape.specs.Shape.{max_rank, max_count, counted, count, good_shape, count_of, shape_rule}
 use Rattle.shape.proofs.Bools.{both}
 use Rattle.shape.proofs.Counts.{good-rank, count-good, count-of, good-count, bad-count}
 use Rattle.shape.proofs.Made.{Stands}
 use Rattle.meaning.specs.Array.{array_of, good_form}
-use Rattle.meaning.specs.Terms.{rank, axis, is_list}
+use Rattle.meaning.specs.Terms.{rank, axis}
 use Rattle.meaning.specs.Refusal.{number}
 use Rattle.meaning.specs.Refusal.Refusal.{FORM, ORIGIN}
 use Rattle.meaning.specs.Reply.{is_origin}
@@ -79,29 +77,7 @@ formed {s} {b} w = lent-good s b w.long w.form
 pub axis-is : (s : Shape) (b : List ℤ) (k : ℕ) → k < s.rank → axis (array_of (lent s b)) k ≡ get_or s.lens k 0
 axis-is s b k h = get_or-take s.rank s.lens k 0 h
 
--- The part `&b[0..n]`, n the count, is the array's elements.
-pub lent-part : (s : Shape) (b : List ℤ) → Lent s b → (n : ℕ) → n ≡ count_of s → take (n - 0) b ≡ (array_of (lent s b)).elements
-lent-part s b g n e = ap (λ k. take k b) (sub-zero n ∙ e ∙ g.count-is)
-
--- L, or R of 13, as the program tests it: a list, of one element.
 module _ {s : Shape} {b : List ℤ} (g : Lent s b) where
-  pub list-yes : s.rank ≤ 1 → is_list (array_of (lent s b)) ≡ true
-  list-yes h = le-leb (rank (array_of (lent s b))) 1 (omega (arith, g.rank_is))
-
-  pub list-no : 1 < s.rank → is_list (array_of (lent s b)) ≡ false
-  list-no h = lt-leb (rank (array_of (lent s b))) 1 (omega (arith, g.rank_is))
-
-  -- So many elements, by the count.
-  pub counts-yes : (n : ℕ) → count_of s ≡ n → eqb (length (array_of (lent s b)).elements) n ≡ true
-  counts-yes n h = eq-eqb (length (array_of (lent s b)).elements) n (g.whole ∙ sym g.count-is ∙ h)
-
-  pub counts-no : (n : ℕ) → (count_of s ≡ n → ⊥) → eqb (length (array_of (lent s b)).elements) n ≡ false
-  counts-no n h = ne_eqb (length (array_of (lent s b)).elements) n (λ e. h (g.count-is ∙ sym g.whole ∙ e))
-
-  -- An element of the array is one of the buffer.
-  pub element-at : (i : ℕ) → i < count_of s → get_or b i (pos 0) ≡ get_or (array_of (lent s b)).elements i (pos 0)
-  element-at i h = sym (get_or-take (count (counted s)) b i (pos 0) (omega (arith, g.count-is)))
-
   -- A shape that is the operand's stands for its lengths.
   pub lent-stands : Stands s (array_of (lent s b)).lengths
   lent-stands = record { rank = sym g.rank_is; lengths = λ h. refl }
