@@ -61,7 +61,7 @@ fn rotation(g: i32, k: i32, l: &Formed<'_>, r: &Formed<'_>) -> Result<(usize, i3
     Ok((axis, elements[0]))
 }
 
-// How the positions of an axis move: backwards, or by an amount.
+// How the positions of an axis move: backwards, or by an amount. An enum, not a closure: the contracts speak of it, and which loops run is asked once.
 #[derive(Clone, Copy)]
 enum Turn {
     Back,
@@ -106,12 +106,10 @@ fn reverse_blocks(r: &[i32], outer: usize, n: usize, inner: usize, out: &mut [i3
 {
     let size = n * inner;
     let mut at = 0;
-    let mut o = 0;
-    while o < outer {
+    for _ in 0..outer {
         let end = at + size;
         reverse_block(&r[at..end], n, inner, &mut out[at..end]);
         at = end;
-        o += 1;
     }
 }
 
@@ -122,11 +120,7 @@ const GROUP: usize = 1024;
 fn blocks_in_group(size: usize) -> usize
     ensures { 0 < result }
 {
-    if size == 0 {
-        return 1;
-    }
-    let n = GROUP / size;
-    if n == 0 { 1 } else { n }
+    (GROUP / size.max(1)).max(1)
 }
 
 // By groups of blocks, the last of which may be smaller.
@@ -137,8 +131,9 @@ fn rotate_groups(r: &[i32], outer: usize, size: usize, cut: usize, out: &mut [i3
     let group = blocks_in_group(size);
     let mut at = 0;
     let mut o = 0;
+    // A while: its step is a number that is found, and the last step is smaller; a for over the groups' numbers would compute both again.
     while o < outer {
-        let some = copying::min(group, outer - o);
+        let some = group.min(outer - o);
         let end = at + some * size;
         rotate_group(&r[at..end], some, size, cut, &mut out[at..end]);
         at = end;
@@ -161,6 +156,7 @@ fn rotate_group(r: &[i32], outer: usize, size: usize, cut: usize, out: &mut [i32
 
 // All goes down by `from` or up by `to`, of which one is 0. Then the part of each block that the run has not brought, from `before` on to `after`:
 // what stands before the cut goes to the block's end, or what stands from the cut on to its front.
+// Four numbers, not an enum or two functions: an enum would be taken apart into these four, and of two functions the loops would be twins.
 fn shift(
     r: &[i32],
     outer: usize,
@@ -180,15 +176,13 @@ fn shift(
     let end = to + run;
     copying::copy_run(&r[from..stop], &mut out[to..end]);
     let mut at = 0;
-    let mut o = 0;
-    while o < outer {
+    for _ in 0..outer {
         let source = at + before;
         let target = at + after;
         let source_end = source + part;
         let target_end = target + part;
         copying::copy_run(&r[source..source_end], &mut out[target..target_end]);
         at += size;
-        o += 1;
     }
 }
 
@@ -209,11 +203,9 @@ fn reverse_rows(r: &[i32], n: usize, inner: usize, out: &mut [i32])
     ensures { out.new ≡ tab (n * inner) (back_at r.now n inner) }
 {
     let mut to = 0;
-    let mut i = n;
-    while 0 < i {
-        i -= 1;
+    for i in (0..n).rev() {
         // No end is past r's. Without this test the compiler sees rows go backwards, and moves one element at a time.
-        let from = copying::min(i * inner, r.len());
+        let from = (i * inner).min(r.len());
         let stop = from + inner;
         let end = to + inner;
         copying::copy_row(&r[from..stop], &mut out[to..end]);

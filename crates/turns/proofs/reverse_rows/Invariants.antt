@@ -1,0 +1,8 @@
+use Rattle.std.proofs.Common.{◌≡◌, ◌+◌, ◌*◌}
+use Rattle.copying.specs.Steps.{filled}
+use Rattle.turns.specs.Steps.{back_at}
+use Rattle.turns.proofs.reverse_rows.Given as goal
+
+-- The rows from i on are written, up to `to`.
+abbrev pub invariant-loop-i : goal.invariant-loop-i
+invariant-loop-i l = (l.to + l.i * l.inner ≡ l.n * l.inner) × (l.out ≡ filled (back_at l.r l.n l.inner) l.to l.initial.out)
