@@ -113,14 +113,12 @@ fn select_blocks(
     let taken = n * inner;
     let made = l.len() * inner;
     let mut at = 0;
-    let mut o = 0;
-    while o < outer {
+    for o in 0..outer {
         let from = o * taken;
         let to = from + taken;
         let end = at + made;
         select_block(g, l, n, inner, &r[from..to], &mut out[at..end]);
         at = end;
-        o += 1;
     }
 }
 
@@ -141,11 +139,8 @@ fn select_line(g: i32, l: &[i32], n: usize, r: &[i32], out: &mut [i32])
     requires { RowsFit g l.now n 1 (length r.now) (length out.old) }
     ensures { out.new ≡ filled (rows_at g l.now 1 r.now) (length l.now) out.old }
 {
-    let mut i = 0;
-    while i < l.len() {
-        let x = known_position(l[i], g);
-        out[i] = r[x];
-        i += 1;
+    for (i, &z) in l.iter().enumerate() {
+        out[i] = r[known_position(z, g)];
     }
 }
 
@@ -163,14 +158,12 @@ fn select_rows(g: i32, l: &[i32], n: usize, inner: usize, r: &[i32], out: &mut [
     requires { RowsFit g l.now n inner (length r.now) (length out.old) }
     ensures { out.new ≡ filled (rows_at g l.now inner r.now) (length l.now * inner) out.old }
 {
-    let mut q = 0;
-    while q < l.len() {
-        let x = known_position(l[q], g);
+    for (q, &z) in l.iter().enumerate() {
+        let x = known_position(z, g);
         let from = x * inner;
         let to = from + inner;
         let at = q * inner;
         let end = at + inner;
         copying::copy_row(&r[from..to], &mut out[at..end]);
-        q += 1;
     }
 }

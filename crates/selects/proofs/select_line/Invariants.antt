@@ -1,0 +1,7 @@
+use Rattle.std.proofs.Common.{◌≡◌}
+use Rattle.copying.specs.Steps.{filled}
+use Rattle.selects.specs.Steps.{rows_at}
+use Rattle.selects.proofs.select_line.Given as goal
+
+abbrev pub invariant-loop-i : goal.invariant-loop-i
+invariant-loop-i l = l.out ≡ filled (rows_at l.g l.l 1 l.r) l.i l.initial.out
