@@ -13,7 +13,7 @@ ghost use Rattle.answer.specs.Refused.{asked, answered};
 ghost use Rattle.turns.specs.Steps.{turn_position, Turns, Lie, turned_at, back_at, cut_blocks, Shifts};
 
 use answer::{Formed, Operand, Refusal};
-use shape::Shape;
+use shape::{Around, Shape};
 
 // 14, whatever L is: it is not looked at.
 pub fn reverse(g: i32, k: i32, r: &Operand<'_>, out: &mut [i32]) -> Result<Shape, Refusal>
@@ -83,19 +83,19 @@ fn turn_into(turn: Turn, s: Shape, axis: usize, total: usize, r: &[i32], out: &m
         return;
     }
     let w = s.around(axis);
-    turn_blocks(turn, r, w.outer, w.length, w.inner, out);
+    turn_blocks(turn, r, w, out);
 }
 
-// Turns the n rows of each block, `inner` elements a row.
-fn turn_blocks(turn: Turn, r: &[i32], outer: usize, n: usize, inner: usize, out: &mut [i32])
-    requires { (0 < n) × Lie outer (n * inner) (length r.now) (length out.old) }
-    ensures { out.new ≡ filled (turned_at turn r.now n inner) (outer * n * inner) out.old }
+// Turns the rows of each block.
+fn turn_blocks(turn: Turn, r: &[i32], w: Around, out: &mut [i32])
+    requires { (0 < w.length) × Lie w.outer (w.length * w.inner) (length r.now) (length out.old) }
+    ensures { out.new ≡ filled (turned_at turn r.now w.length w.inner) (w.outer * w.length * w.inner) out.old }
 {
     match turn {
-        Turn::Back => reverse_blocks(r, outer, n, inner, out),
+        Turn::Back => reverse_blocks(r, w.outer, w.length, w.inner, out),
         Turn::By(z) => {
-            let rows = signed::modulo(z, n);
-            rotate_groups(r, outer, n * inner, rows * inner, out);
+            let rows = signed::modulo(z, w.length);
+            rotate_groups(r, w.outer, w.length * w.inner, rows * w.inner, out);
         }
     }
 }
