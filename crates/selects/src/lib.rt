@@ -60,6 +60,7 @@ fn all_within(g: i32, l: &[i32], n: usize) -> bool
     l.iter().all(|&z| names_one(z, g, n))
 }
 
+// Whether one is.
 fn names_one(z: i32, g: i32, n: usize) -> bool
     ensures { result ≡ within (z -ℤ g) n }
 {
@@ -98,6 +99,7 @@ fn select_into(g: i32, l: &[i32], axis: usize, total: usize, rs: Shape, r: &[i32
 }
 
 // Every block of R gives its chosen rows. A block has n rows of `inner` elements.
+// What fits stands in the contracts and in no type: it is of both buffers, and of the output another part is lent at each step.
 fn select_blocks(
     g: i32,
     l: &[i32],
@@ -144,7 +146,7 @@ fn select_line(g: i32, l: &[i32], n: usize, r: &[i32], out: &mut [i32])
     }
 }
 
-// z less g where that is known to be a position, so that nothing is tested for each element.
+// z less g where that is known to be a position, so that nothing is tested for each element; `signed::from_zero` also takes the difference's size.
 fn known_position(z: i32, g: i32) -> usize
     requires { negative (z -ℤ g) ≡ false }
     ensures { result ≡ from_zero g z }

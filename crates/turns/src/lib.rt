@@ -87,6 +87,7 @@ fn turn_into(turn: Turn, s: Shape, axis: usize, total: usize, r: &[i32], out: &m
 }
 
 // Turns the rows of each block.
+// `Lie` stands in the contracts and in no type from here on: it is of both buffers, and of the output another part is lent at each step.
 fn turn_blocks(turn: Turn, r: &[i32], w: Around, out: &mut [i32])
     requires { (0 < w.length) × Lie w.outer (w.length * w.inner) (length r.now) (length out.old) }
     ensures { out.new ≡ filled (turned_at turn r.now w.length w.inner) (w.outer * w.length * w.inner) out.old }
