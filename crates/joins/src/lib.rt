@@ -2,7 +2,7 @@
 #![tactic(auto)]
 
 ghost use Rattle.std.specs.Prelude.{◌≡◌, List, true, ◌+◌, ◌*◌, ◌≤◌, ◌<◌, length, ℤ, pos, IfOk};
-ghost use Rattle.shape.specs.Shape.{max_rank, counted, good_shape};
+ghost use Rattle.shape.specs.Shape.{max_rank, max_count, counted, good_shape};
 ghost use Rattle.meaning.specs.Array.{array_of};
 ghost use Rattle.meaning.specs.Terms.{from_zero};
 ghost use Rattle.meaning.specs.Primitives.{catenate};
@@ -11,7 +11,7 @@ ghost use Rattle.meaning.specs.Steps.{fit, side_at};
 ghost use Rattle.copying.specs.Steps.{filled};
 ghost use Rattle.answer.specs.Answer.{lent, own, Replied};
 ghost use Rattle.answer.specs.Refused.{asked, answered};
-ghost use Rattle.joins.specs.Steps.{higher_shape, extent_of, run_of, Compared, agree, RunFits, RunsFit, runs_at, joined_along, Joinable};
+ghost use Rattle.joins.specs.Steps.{higher_shape, extent_of, run_of, widened, Compared, agree, RunFits, RunsFit, runs_at, joined_along, Joinable};
 
 use answer::{Operand, Refusal};
 use shape::Shape;
@@ -28,8 +28,8 @@ pub fn catenate(
 {
     let (l, r) = answer::early_two(g, l, r)?;
     let (hs, axis) = joint(g, k, l.shape, r.shape)?;
-    let left = run_of(l.shape, hs.rank, axis);
-    let right = run_of(r.shape, hs.rank, axis);
+    let left = Run::of(l.shape, hs.rank, axis);
+    let right = Run::of(r.shape, hs.rank, axis);
     let shape = hs.with_length(axis, left.width + right.width);
     let count = shape.count();
     answer::late(count, out.len())?;
@@ -59,19 +59,7 @@ fn ranks_fit(a: usize, b: usize) -> bool
     requires { (a ≤ max_rank) × (b ≤ max_rank) }
     ensures { result ≡ fit a b }
 {
-    if a == 0 {
-        return true;
-    }
-    if b == 0 {
-        return true;
-    }
-    if a == b {
-        return true;
-    }
-    if a + 1 == b {
-        return true;
-    }
-    b + 1 == a
+    a == 0 || b == 0 || a == b || a + 1 == b || b + 1 == a
 }
 
 // The shape against which K is read.
@@ -79,12 +67,12 @@ fn higher(ls: Shape, rs: Shape) -> Shape
     ensures { result ≡ higher_shape ls rs }
 {
     if ls.rank < rs.rank {
-        return rs;
+        rs
+    } else if ls.rank == 0 {
+        Shape::vector(1)
+    } else {
+        ls
     }
-    if ls.rank == 0 {
-        return Shape::vector(1);
-    }
-    ls
 }
 
 // What an operand gives, along the axis or to each block: so many positions or elements, or a scalar's one so often.
@@ -94,14 +82,28 @@ struct Run {
     width: usize,
 }
 
-fn run_of(s: Shape, rank: usize, axis: usize) -> Run
-    requires { axis < max_rank }
-    ensures { result ≡ run_of s rank axis }
-{
-    let width = extent(s, rank, axis);
-    Run {
-        scalar: s.rank == 0,
-        width,
+impl Run {
+    // Along an axis.
+    fn of(s: Shape, rank: usize, axis: usize) -> Run
+        requires { axis < max_rank }
+        ensures { result ≡ run_of s rank axis }
+    {
+        let width = extent(s, rank, axis);
+        Run {
+            scalar: s.rank == 0,
+            width,
+        }
+    }
+
+    // To each block, where so many elements stand after a position.
+    fn widened(self, inner: usize) -> Run
+        requires { self.width * inner ≤ max_count }
+        ensures { result ≡ widened inner self }
+    {
+        Run {
+            width: self.width * inner,
+            ..self
+        }
     }
 }
 
@@ -144,14 +146,8 @@ fn join_into(
         return;
     }
     let w = hs.around(axis);
-    let x = Run {
-        scalar: left.scalar,
-        width: left.width * w.inner,
-    };
-    let y = Run {
-        scalar: right.scalar,
-        width: right.width * w.inner,
-    };
+    let x = left.widened(w.inner);
+    let y = right.widened(w.inner);
     let first = x.width;
     let size = first + y.width;
     put_runs(x, l, 0, size, w.outer, out);
@@ -163,10 +159,12 @@ fn put_runs(run: Run, src: &[i32], first: usize, size: usize, outer: usize, out:
     requires { RunsFit run first size outer (length src.now) (length out.old) }
     ensures { out.new ≡ filled (runs_at run src.now first size out.old) (outer * size) out.old }
 {
+    // The place is counted up beside o: computed from it, runs of two elements take a sixth longer.
+    let mut at = first;
     for o in 0..outer {
-        let at = o * size + first;
         let end = at + run.width;
         put_run(run, src, o, &mut out[at..end]);
+        at += size;
     }
 }
 

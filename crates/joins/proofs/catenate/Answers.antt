@@ -28,16 +28,16 @@ returns-in_err-hs c =
     (own-replied (catenate-names _ _ _ _) _ f.none (exit c.in_err-hs.was c.from_residual-in_err-hs.result c.from_residual-in_err-hs.ensures.1)
     (joint-asked c.ranges.g c.ranges.k f c.joint.result c.joint.ensures.number))
 
-pub run_of-left-requires : goal.run_of-left-requires
-run_of-left-requires c =
+pub of-left-requires : goal.of-left-requires
+of-left-requires c =
     let l = sym (c.l.view_is ∙ c.in_ok-l.ensures.operands.0) in
     let r = sym (c.r.view_is ∙ c.in_ok-l.ensures.operands.1) in
     let f = two-fine c.ranges.g c.early_two.result c.early_two.ensures.number c.in_ok-l.was l c.l.invariant r c.r.invariant in
     let k = joint-found c.ranges.g c.ranges.k f c.joint.result c.joint.ensures.number c.in_ok-hs.was c.in_ok-hs.ensures.found in
     omega (arith, k.left.has, k.higher.high)
 
-pub run_of-right-requires : goal.run_of-right-requires
-run_of-right-requires c =
+pub of-right-requires : goal.of-right-requires
+of-right-requires c =
     let l = sym (c.l.view_is ∙ c.in_ok-l.ensures.operands.0) in
     let r = sym (c.r.view_is ∙ c.in_ok-l.ensures.operands.1) in
     let f = two-fine c.ranges.g c.early_two.result c.early_two.ensures.number c.in_ok-l.was l c.l.invariant r c.r.invariant in
@@ -50,8 +50,8 @@ overflow_add-left c =
     let r = sym (c.r.view_is ∙ c.in_ok-l.ensures.operands.1) in
     let f = two-fine c.ranges.g c.early_two.result c.early_two.ensures.number c.in_ok-l.was l c.l.invariant r c.r.invariant in
     let k = joint-found c.ranges.g c.ranges.k f c.joint.result c.joint.ensures.number c.in_ok-hs.was c.in_ok-hs.ensures.found in
-    let x = ap (λ (a : Run). a.width) c.run_of-left.ensures in
-    let y = ap (λ (a : Run). a.width) c.run_of-right.ensures in
+    let x = ap (λ (a : Run). a.width) c.of-left.ensures in
+    let y = ap (λ (a : Run). a.width) c.of-right.ensures in
     omega (arith, x, y, extent-small k.left, extent-small k.right)
 
 pub returns-in_err-late : goal.returns-in_err-late
@@ -61,7 +61,7 @@ returns-in_err-late c =
     let f = two-fine c.ranges.g c.early_two.result c.early_two.ensures.number c.in_ok-l.was l c.l.invariant r c.r.invariant in
     let k = joint-found c.ranges.g c.ranges.k f c.joint.result c.joint.ensures.number c.in_ok-hs.was c.in_ok-hs.ensures.found in
     rw (l, r)
-    (late-replied (catenate-ready k c.run_of-left.ensures c.run_of-right.ensures c.with_length-shape.ensures) _ c.late.ensures c.count-count.ensures
+    (late-replied (catenate-ready k c.of-left.ensures c.of-right.ensures c.with_length-shape.ensures) _ c.late.ensures c.count-count.ensures
     (exit c.in_err-late.was c.from_residual-in_err-late.result c.from_residual-in_err-late.ensures.1))
 
 pub join_into-requires : goal.join_into-requires
@@ -72,8 +72,8 @@ join_into-requires c =
     let k = joint-found c.ranges.g c.ranges.k f c.joint.result c.joint.ensures.number c.in_ok-hs.was c.in_ok-hs.ensures.found in
     let roomy : Roomy c.with_length-shape.result _ = late-fine _ (sym (asked_ok c.in_ok-late.was) ∙ c.late.ensures) c.count-count.ensures refl in
     let total =
-    catenate-total k c.run_of-left.ensures c.run_of-right.ensures c.with_length-shape.ensures roomy.good c.count-count.ensures in
-    joinable k c.run_of-left.ensures c.run_of-right.ensures total (omega (arith, roomy.small, c.count-count.ensures))
+    catenate-total k c.of-left.ensures c.of-right.ensures c.with_length-shape.ensures roomy.good c.count-count.ensures in
+    joinable k c.of-left.ensures c.of-right.ensures total (omega (arith, roomy.small, c.count-count.ensures))
     (omega (arith, roomy.space, c.count-count.ensures))
 
 pub returns : goal.returns
@@ -85,8 +85,8 @@ returns c =
     let late = sym (asked_ok c.in_ok-late.was) ∙ c.late.ensures in
     let roomy : Roomy c.with_length-shape.result _ = late-fine _ late c.count-count.ensures refl in
     let total =
-    catenate-total k c.run_of-left.ensures c.run_of-right.ensures c.with_length-shape.ensures roomy.good c.count-count.ensures in
+    catenate-total k c.of-left.ensures c.of-right.ensures c.with_length-shape.ensures roomy.good c.count-count.ensures in
     rw (l, r)
-    (given-replied (catenate-ready k c.run_of-left.ensures c.run_of-right.ensures c.with_length-shape.ensures) _ late c.count-count.ensures refl
-    (shape-made k c.run_of-left.ensures c.run_of-right.ensures c.with_length-shape.ensures)
-    (c.join_into.ensures ∙ catenate-out k c.run_of-left.ensures c.run_of-right.ensures total _))
+    (given-replied (catenate-ready k c.of-left.ensures c.of-right.ensures c.with_length-shape.ensures) _ late c.count-count.ensures refl
+    (shape-made k c.of-left.ensures c.of-right.ensures c.with_length-shape.ensures)
+    (c.join_into.ensures ∙ catenate-out k c.of-left.ensures c.of-right.ensures total _))
