@@ -147,7 +147,7 @@ fn shape_from(l: &[i32]) -> Shape
     Shape { rank, lens }
 }
 
-// Whole runs of `src`, and its front for what is left.
+// Whole runs of `src`, and its front for what is left. A while: chunks would hand the last whole run to `copy_row`, which is for short ones.
 fn cycle_run(src: &[i32], n: usize, out: &mut [i32])
     requires { (0 < length src.now) × (n ≤ length out.old) }
     ensures { out.new ≡ filled (cycled src.now) n out.old }
