@@ -3,7 +3,7 @@ use mathlib.Core.Path.{◌≡◌, refl, sym, ap, ap₂, ◌∙◌}
 use mathlib.Core.List.{List, ◌++◌}
 use mathlib.Core.Bool.{Bool, true, false, and-false, ◌&&◌}
 use Prim.Native.Nat.{ℕ, zero, suc, ◌+◌, ◌-◌, ◌*◌, ◌%◌, ◌≤◌, ◌<◌}
-use native.Mathlib.Nat.{add_assoc, mod-lt, mul-le-mul_left}
+use native.Mathlib.Nat.{add_assoc, mod-lt}
 use native.Mathlib.Omega.{arith}
 use borrow.Author.Tests.{le-leb, lt-leb, lt-ltb, le-ltb, ltb-true, ltb-false}
 use borrow.Rule.Slice.PartMut.{put_mid, same_len_mid}
@@ -12,7 +12,6 @@ use lib.Dec.{leb, ltb}
 use lib.ListN.{length, get_or, take, drop, replicate, get_or-append}
 use lib.Seq.{drop_at}
 use lib.IntN.{ℤ, pos}
-use Rattle.shape.proofs.Places.{row_fits}
 use Rattle.meaning.specs.Array.{tab}
 use Rattle.meaning.specs.Steps.{side_at}
 use Rattle.meaning.proofs.Tab.{length-tab, get_or-tab, tab-ext, tab-part, tab-same}
@@ -22,7 +21,7 @@ use Rattle.copying.proofs.Runs.{filled-whole, copied-whole}
 use Rattle.copying.proofs.Parts.{part_filled, part-long, filled_on}
 use Rattle.copying.proofs.Blockwise.{Blockwise, blockwise-room}
 use Rattle.joins.specs.declared.Run.{Run}
-use Rattle.joins.specs.Steps.{joined, sized, RunFits, RunsFit, runs_at}
+use Rattle.joins.specs.Steps.{joined, RunsFit, runs_at}
 
 -- Element x of block o: before the run, in it, and after it.
 module _ (a : Run) (src : List ℤ) (first size : ℕ) (out : List ℤ) (fits : first + a.width ≤ size) (o : ℕ) where
@@ -127,20 +126,6 @@ module _ (a b : Run) (l r out : List ℤ) (outer : ℕ) where
   both_runs =
       ap₂ (λ x y. x ++ y) (tab-ext (outer * size) _ _ joined_at)
       (drop_at (tab (outer * size) (runs_at a l 0 size out)) (drop (outer * size) out) (outer * size) (length-tab (outer * size) (runs_at a l 0 size out)))
-
--- The run of one of the blocks, where those of all lie in an operand.
-pub run_fits : {a : Run} {first size outer m room : ℕ} (o : ℕ) → RunsFit a first size outer m room → o < outer → RunFits a o m
-run_fits {a} {first} {size} {outer} o f l =
-    let h = row_fits o outer a.width l in
-    let fits : a.width ≤ size = omega (arith, f.within) in
-    record {
-      small = omega (arith, mul-le-mul_left outer fits, f.small);
-      has = omega (arith, f.has, grows a.scalar (o * a.width + a.width) (outer * a.width) h);
-    }
-  where
-    grows : (b : Bool) (m n : ℕ) → m ≤ n → sized b m ≤ sized b n
-    grows true m n h = omega arith
-    grows false m n h = h
 
 -- A run by one element, and by a run of the operand.
 module _ (a : Run) (src part last : List ℤ) (o : ℕ) (long : length part ≡ a.width) where
