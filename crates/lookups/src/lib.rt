@@ -98,6 +98,8 @@ fn put_hashed<const BITS: bool>(first: usize, l: &[i32], r: &[i32], out: &mut [i
     put_looked_up::<BITS>(first, l, &chains, r, out);
 }
 
+// A function of its own: as a part of its caller, with fewer registers, it takes 1.07 of the time.
+#[inline(never)]
 fn put_looked_up<const BITS: bool>(
     first: usize,
     l: &[i32],

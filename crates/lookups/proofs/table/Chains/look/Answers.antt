@@ -47,14 +47,14 @@ returns c =
     let f : SFits w32 (get_or c.args.l.now c.min-q.result (pos 0)) = search rules in
     let same = sym (int_same-bits c.args.x _ c.ranges.x f) in
     elim c.if-found-2.branch [
-      then-found-2 w ↦ w.at-is ∙ here on _ c.min-q.ensures (omega arith) (same ∙ eq-eqb _ _ w.if-found-2.true)
-    | else-found-2 w ↦
-      let past : length c.args.l.now ≤ c.from-next.result =
-      elim c.if-found.branch [
-        then-found u ↦ absurd (w.if-found-2.false u.if-found.true)
-      | else-found u ↦ omega (arith, u.skip-is)
-      ] in
-      w.at-is
-      ∙ nowhere on _ c.min-q.ensures (omega arith) c.args.self.now.links c.requires.linked.link (same ∙ ne_eqb _ _ w.if-found-2.false)
-      (omega (arith, past, c.from-next.ensures))
+      | then-found-2 w ↦ w.at-is ∙ here on _ c.min-q.ensures (omega arith) (same ∙ eq-eqb _ _ w.if-found-2.true)
+      | else-found-2 w ↦
+          let past : length c.args.l.now ≤ c.from-next.result =
+          elim c.if-found.branch [
+            | then-found u ↦ absurd (w.if-found-2.false u.if-found.true)
+            | else-found u ↦ omega (arith, u.skip-is)
+          ] in
+          w.at-is
+          ∙ nowhere on _ c.min-q.ensures (omega arith) c.args.self.now.links c.requires.linked.link (same ∙ ne_eqb _ _ w.if-found-2.false)
+          (omega (arith, past, c.from-next.ensures))
     ]
