@@ -293,14 +293,10 @@ fn cut_rows(table: &[usize], at: usize, r: &[i32], out: &mut [i32])
     clear_rows(width == block, start, stop, out);
     let front = start + table[5] * small;
     let first = at + table[1] * step + table[6] * small;
-    let mut i = 0;
-    while i < len {
+    for i in 0..len {
         let a = first + i * step;
-        let b = a + width;
         let c = front + i * block;
-        let d = c + width;
-        copying::copy_run(&r[a..b], &mut out[c..d]);
-        i += 1;
+        copying::copy_run(&r[a..a + width], &mut out[c..c + width]);
     }
 }
 
