@@ -157,7 +157,8 @@ fn strides(sent: Sent, rs: Shape) -> [usize; Shape::MAX_RANK]
     let mut sums = [0; Shape::MAX_RANK];
     let mut step = 1;
     for i in (0..rs.rank).rev() {
-        sums[sent.to[i]] += step;
+        let t = sent.to[i];
+        sums[t] += step;
         step *= rs.lens[i];
     }
     sums
@@ -196,17 +197,6 @@ struct Axis {
     length: usize,
     stride: usize,
     step: usize,
-}
-
-// The last axis of the result: its neighbours are neighbours there.
-fn last_axis(length: usize, stride: usize) -> Axis
-    ensures { result ≡ record { length = length; stride = stride; step = 1 } }
-{
-    Axis {
-        length,
-        stride,
-        step: 1,
-    }
 }
 
 // The elements of r along an axis, from the one at `at` on, each to its place from `to` on.
@@ -287,13 +277,16 @@ fn put_blocks(
     let n = lens[0];
     let apart = strides[0];
     if rank == 1 {
-        let last = last_axis(n, apart);
+        let last = Axis {
+            length: n,
+            stride: apart,
+            step: 1,
+        };
         put_block(near, last, r, at, to, out);
         return;
     }
     let step = size / n;
-    let mut i = 0;
-    while i < n {
+    for i in 0..n {
         let from = at + i * apart;
         let place = to + i * step;
         put_blocks(
@@ -306,7 +299,6 @@ fn put_blocks(
             place,
             out,
         );
-        i += 1;
     }
 }
 
@@ -355,8 +347,7 @@ fn walk(lens: &[usize], strides: &[usize], r: &[i32], at: usize, out: &mut [i32]
         return;
     }
     let size = out.len() / n;
-    let mut i = 0;
-    while i < n {
+    for i in 0..n {
         let from = at + i * stride;
         let start = i * size;
         let end = start + size;
@@ -367,6 +358,5 @@ fn walk(lens: &[usize], strides: &[usize], r: &[i32], at: usize, out: &mut [i32]
             from,
             &mut out[start..end],
         );
-        i += 1;
     }
 }

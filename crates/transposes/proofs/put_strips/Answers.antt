@@ -1,5 +1,5 @@
-use Rattle.std.proofs.Common.{arith, ◌-◌, ◌+◌, ◌≡◌, ◌∙◌, refl}
-use Rattle.transposes.proofs.Placing.{reach-from, reach-strip, reach-swap, placed-none, placed-strip, placed-swap}
+use Rattle.std.proofs.Common.{arith, ◌-◌, ◌+◌, ◌∙◌, refl}
+use Rattle.transposes.proofs.Placing.{reach-from, reach-strip, reach-swap, placed-strip, placed-swap}
 use Rattle.transposes.proofs.put_strips.Goals as goal
 use Rattle.transposes.proofs.put_strips.Goals.{else-loop-i-test, then-loop-i-test+else-end-i-gt8}
 

@@ -6,11 +6,11 @@ pub loop-i-init : goal.loop-i-init
 loop-i-init c = summed-none (passed (search rules) (search rules) c.requires.0)
 
 -- The axis to which the stride goes.
-pub offset_bounds-sums-sent : goal.offset_bounds-sums-sent
-offset_bounds-sums-sent c = omega (arith, axis-lt (passed (search rules) (search rules) c.requires.0) c.loop-i.i (omega arith) c.loop-i.invariant.few)
+pub offset_bounds-sums-t : goal.offset_bounds-sums-t
+offset_bounds-sums-t c = omega (arith, axis-lt (passed (search rules) (search rules) c.requires.0) c.loop-i.i (omega arith) c.loop-i.invariant.few)
 
-pub bounds-sums-sent : goal.bounds-sums-sent
-bounds-sums-sent c = axis-lt (passed (search rules) (search rules) c.requires.0) c.loop-i.i (omega arith) c.loop-i.invariant.few
+pub bounds-sums-t : goal.bounds-sums-t
+bounds-sums-t c = axis-lt (passed (search rules) (search rules) c.requires.0) c.loop-i.i (omega arith) c.loop-i.invariant.few
 
 -- No number is large.
 pub overflow_add-sums : goal.overflow_add-sums
@@ -20,8 +20,8 @@ overflow_add-sums c =
     let g = c.requires.0.good in
     omega (arith, step_small p i (omega arith) g c.requires.1, sums-small p i (omega arith) g c.requires.1 (get_or c.args.sent.to (c.loop-i.i - 1) 0))
 
-pub bounds-sums-sent-in-loop-i : goal.bounds-sums-sent-in-loop-i
-bounds-sums-sent-in-loop-i c = axis-lt (passed (search rules) (search rules) c.requires.0) c.loop-i.i (omega arith) c.loop-i.invariant.few
+pub bounds-sums-t-in-loop-i : goal.bounds-sums-t-in-loop-i
+bounds-sums-t-in-loop-i c = axis-lt (passed (search rules) (search rules) c.requires.0) c.loop-i.i (omega arith) c.loop-i.invariant.few
 
 pub overflow_mul-step : goal.overflow_mul-step
 overflow_mul-step c =

@@ -1,0 +1,11 @@
+use Rattle.std.proofs.Common.{◌∷◌, ◌*◌, length}
+use Rattle.copying.proofs.Blockwise.{Blockwise}
+use Rattle.transposes.proofs.Walking.{others, reached}
+use Rattle.transposes.proofs.+walk.Given as goal
+
+abbrev pub decreases-walk : goal.decreases-walk
+decreases-walk l = length l.lens.now
+
+abbrev pub invariant-loop-i : goal.invariant-loop-i
+invariant-loop-i l =
+    Blockwise l.n l.size (reached (l.n ∷ others (length l.lens) l.lens) (l.stride ∷ others (length l.lens) l.strides) l.r l.at) l.initial.out l.out (l.i * l.size) l.i
