@@ -11,15 +11,17 @@ use lib.ListN.{length, get_or, set, take, drop, replicate, length-map, length-se
 use lib.Seq.{take_all, take-suc, take-suc-set, get_or-set_same, get_or-set_other}
 use lib.IntN.{ℤ, pos, ◌-ℤ◌}
 use Rattle.shape.specs.Shape.{max_rank}
-use Rattle.meaning.specs.Array.{tab}
+use Rattle.std.specs.List.{list_all}
+use native.Mathlib.Nat.{zero-add}
+use Rattle.meaning.specs.Array.{tab, tab_from}
 use Rattle.meaning.specs.Primitives.{sent_to, axes_to, backwards, occurs_in, all_occur}
 use Rattle.meaning.specs.Terms.{within, from_zero, every}
 use Rattle.meaning.proofs.Every.{every-next, every-stop, every-end}
 use Rattle.meaning.proofs.Sent.{length-backwards, get_or-backwards, axes-lt, axes-le, sent-has, Occur}
-use Rattle.meaning.proofs.Tab.{length-tab, get_or-tab}
+use Rattle.meaning.proofs.Tab.{tab-ext, tab-part}
 use Rattle.signed.proofs.Finding.{IsAt}
 use Rattle.transposes.specs.declared.Sent.{Sent}
-use Rattle.transposes.specs.Steps.Sent.{SentBy, in_domain, all_used}
+use Rattle.transposes.specs.Steps.Sent.{SentBy, in_domain}
 
 -- The first i axes are sent to those of ts.
 pub record SentSoFar (ts to : List ℕ) (i : ℕ) : Type 0 where
@@ -43,22 +45,17 @@ module _ {ts to : List ℕ} {i : ℕ} (f : SentSoFar ts to i) where
       let n : length ts ≡ i = omega (arith, f.few) in
       record { axes = a; to = ap₂ take n e ∙ f.same ∙ take_all i ts h }
 
--- Each of some axes is used, from i on.
-abbrev pub used_from : List Bool → ℕ → ℕ → Bool
-used_from used axes i = every (λ j. get_or used j false) (drop i (tab axes (λ j. j)))
+-- Each of the first n axes is used, by their numbers and by the list.
+used-from : (used : List Bool) (i n : ℕ) → every (λ j. get_or used j false) (tab_from i n (λ j. j)) ≡ list_all (λ u. u) (tab_from i n (λ j. get_or used j false))
+unfolding every tab_from
+used-from used i zero = refl
+used-from used i (suc n) = ap (λ b. get_or used i false && b) (used-from used (suc i) n)
 
-module _ (used : List Bool) (axes i : ℕ) where
-  used-at : i < axes → get_or used (get_or (tab axes (λ j. j)) i 0) false ≡ get_or used i false
-  used-at h = ap (λ j. get_or used j false) (get_or-tab axes (λ j. j) i 0 h)
-
-  pub used-next : i < axes → get_or used i false ≡ true → used_from used axes i ≡ used_from used axes (i + 1)
-  used-next h e = every-next (λ j. get_or used j false) (tab axes (λ j. j)) i 0 (rw length-tab h) (used-at h ∙ e)
-
-  pub used-stop : i < axes → get_or used i false ≡ false → used_from used axes i ≡ false
-  used-stop h e = every-stop (λ j. get_or used j false) (tab axes (λ j. j)) i 0 (rw length-tab h) (used-at h ∙ e)
-
-  pub used-end : axes ≤ i → used_from used axes i ≡ true
-  used-end h = every-end (λ j. get_or used j false) (tab axes (λ j. j)) i (rw length-tab h)
+used-list : (used : List Bool) (n : ℕ) → n ≤ length used → every (λ j. get_or used j false) (tab n (λ j. j)) ≡ list_all (λ u. u) (take n used)
+unfolding tab
+used-list used n h =
+    used-from used 0 n
+    ∙ ap (list_all (λ u. u)) (tab-ext n _ _ (λ j l. ap (λ k. get_or used k false) (sym (zero-add j))) ∙ sym (tab-part used 0 n false (omega arith)))
 
 -- Backwards: one axis goes to each.
 pub backwards-few : (r : ℕ) → axes_to (backwards r) ≤ r
@@ -172,12 +169,13 @@ module _ {G : ℤ} {l : List ℤ} {used : List Bool} {to : List ℕ} {axes i : �
     whole : take i (named-axes G l) ≡ named-axes G l
     whole = take_all i (named-axes G l) (rw length-map end)
 
-    pub domain-is : in_domain G (length l) l ≡ all_used used axes
+    pub domain-is : length l ≤ max_rank → in_domain G (length l) l ≡ list_all (λ u. u) (take axes used)
     unfolding all_occur
-    domain-is =
+    domain-is high =
         ap (λ b. b && all_occur (named-axes G l)) (f.inside ∙ every-end (λ z. within (z -ℤ G) (length l)) l i end)
         ∙ ap (λ k. every (occurs_in (named-axes G l)) (tab k (λ j. j))) (sym (f.axes-is ∙ ap axes_to whole))
         ∙ every-same (occurs_in (named-axes G l)) (λ j. get_or used j false) (tab axes (λ j. j)) (λ j. sym (f.used-is j ∙ ap (λ ts. occurs_in ts j) whole))
+        ∙ used-list used axes (omega (arith, f.low, f.wide))
 
     pub choosing-sent : (s : Sent) → s.axes ≡ axes → s.to ≡ to → SentBy s (named-axes G l)
     choosing-sent s a t = so-far-all f.sent s (rw length-map end) (a ∙ f.axes-is ∙ ap axes_to whole) t

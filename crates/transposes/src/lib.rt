@@ -1,7 +1,8 @@
 // Transpositions: 15 and 26. R's axis i goes to result axis t, and axes sent together give the diagonal.
 #![tactic(auto)]
 
-ghost use Rattle.std.specs.Prelude.{◌≡◌, [], ◌∷◌, ◌++◌, map, true, not, cond, ◌≤◌, ◌<◌, length, drop, ℤ, pos};
+ghost use Rattle.std.specs.Prelude.{◌≡◌, [], ◌∷◌, ◌++◌, map, true, not, cond, ◌≤◌, ◌<◌, length, take, drop, ℤ, pos};
+ghost use Rattle.std.specs.List.{list_all};
 ghost use Rattle.shape.specs.Shape.{max_rank, counted, count, shape_of};
 ghost use Rattle.meaning.specs.Array.{Operand, array_of, good_form};
 ghost use Rattle.meaning.specs.Refusal.{number};
@@ -13,7 +14,7 @@ ghost use Rattle.answer.specs.Answer.{lent, own, Replied};
 ghost use Rattle.answer.specs.Refused.{answered};
 ghost use Rattle.transposes.specs.Steps.Strides.{strides, sent_strides, LineIn, strided, walked, Walk};
 ghost use Rattle.transposes.specs.Steps.Placed.{Reach, Placed, row_axes, Blocked};
-ghost use Rattle.transposes.specs.Steps.Sent.{Sending, SentBy, in_domain, all_used, sent_axes, sent_elements, Transposes, Moves, Moved};
+ghost use Rattle.transposes.specs.Steps.Sent.{Sending, SentBy, in_domain, sent_axes, sent_elements, Transposes, Moves, Moved};
 
 use answer::{Formed, Operand, Refusal};
 use shape::Shape;
@@ -111,14 +112,9 @@ fn chosen(g: i32, l: &[i32]) -> Result<Sent, Refusal>
 // Whether each of so many axes is used.
 fn all_used(used: [bool; Shape::MAX_RANK], axes: usize) -> bool
     requires { axes ≤ max_rank }
-    ensures { result ≡ all_used used axes }
+    ensures { result ≡ list_all (λ used. used) (take axes used) }
 {
-    for j in 0..axes {
-        if !used[j] {
-            return false;
-        }
-    }
-    true
+    used[..axes].iter().all(|used| *used)
 }
 
 // The result's shape: of the lengths sent to each axis the smallest. None is above the limit.

@@ -49,7 +49,7 @@ unfolding asked
 returns-then-all_used c =
     let domain : in_domain c.args.g (length c.args.l.now) c.args.l.now ≡ true =
     ap (λ G. in_domain G (length c.args.l.now) c.args.l.now) (sym (read32 c.args.g c.ranges.g))
-    ∙ domain-is c.loop-i.invariant (omega arith) ∙ sym c.if-all_used.ensures in
+    ∙ domain-is c.loop-i.invariant (omega arith) c.requires ∙ sym c.if-all_used.ensures in
     record {
       own_is = rw domain refl;
       sent = subst (λ (G : ℤ). SentBy (record { axes = c.loop-i.axes; to = c.loop-i.to }) (map (from_zero G) c.args.l.now)) (read32 c.args.g c.ranges.g)
@@ -61,5 +61,5 @@ unfolding asked
 returns-else-all_used c =
     let domain : in_domain c.args.g (length c.args.l.now) c.args.l.now ≡ false =
     ap (λ G. in_domain G (length c.args.l.now) c.args.l.now) (sym (read32 c.args.g c.ranges.g))
-    ∙ domain-is c.loop-i.invariant (omega arith) ∙ sym c.if-all_used.ensures in
+    ∙ domain-is c.loop-i.invariant (omega arith) c.requires ∙ sym c.if-all_used.ensures in
     record { own_is = rw domain refl; sent = tt }

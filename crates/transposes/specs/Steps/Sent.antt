@@ -1,9 +1,9 @@
 -- Where a transposition sends R's axes, as its code holds it.
-use Rattle.std.specs.Prelude.{Result, ◌++◌, drop, ℕ, ◌≤◌, ◌≡◌, List, map, Bool, true, false, ◌&&◌, length, get_or, take, ℤ, ◌-ℤ◌}
+use Rattle.std.specs.Prelude.{Result, ◌++◌, drop, ℕ, ◌≤◌, ◌≡◌, List, map, Bool, true, ◌&&◌, length, take, ℤ, ◌-ℤ◌}
 use Rattle.std.specs.Result.{IfOk, OnOk, OnErr}
 use Rattle.shape.specs.declared.Shape.{Shape}
 use Rattle.shape.specs.Shape.{counted, count, count_of, good_shape, shape_of}
-use Rattle.meaning.specs.Array.{Operand, Array, array_of, at, tab, build, good_form}
+use Rattle.meaning.specs.Array.{Operand, Array, array_of, at, build, good_form}
 use Rattle.meaning.specs.Terms.{within, from_zero, every}
 use Rattle.meaning.specs.Primitives.{axes_to, sent_lengths, brought_back, all_occur}
 use Rattle.answer.specs.Answer.{lent, late}
@@ -24,10 +24,6 @@ pub record Sending (r : Result Sent Refusal) (own : ℕ) (ts : List ℕ) : Type 
 -- DOMAIN of 26: each element names one of n axes, and all of 0 to the largest occur.
 abbrev pub in_domain : ℤ → ℕ → List ℤ → Bool
 in_domain G n xs = every (λ z. within (z -ℤ G) n) xs && all_occur (map (from_zero G) xs)
-
--- Each of so many axes is used.
-abbrev pub all_used : List Bool → ℕ → Bool
-all_used used axes = every (λ j. get_or used j false) (tab axes (λ j. j))
 
 -- The axes to which R's are sent.
 abbrev pub sent_axes : Sent → Shape → List ℕ
