@@ -46,7 +46,8 @@ module _ {ts to : List ℕ} {i : ℕ} (f : SentSoFar ts to i) where
       record { axes = a; to = ap₂ take n e ∙ f.same ∙ take_all i ts h }
 
 -- Each of the first n axes is used, by their numbers and by the list.
-used-from : (used : List Bool) (i n : ℕ) → every (λ j. get_or used j false) (tab_from i n (λ j. j)) ≡ list_all (λ u. u) (tab_from i n (λ j. get_or used j false))
+used-from : (used : List Bool) (i n : ℕ)
+    → every (λ j. get_or used j false) (tab_from i n (λ j. j)) ≡ list_all (λ u. u) (tab_from i n (λ j. get_or used j false))
 unfolding every tab_from
 used-from used i zero = refl
 used-from used i (suc n) = ap (λ b. get_or used i false && b) (used-from used (suc i) n)

@@ -136,11 +136,6 @@ module _ {w o : ℕ} {rest : List Axis} {r : List ℤ} {at to : ℕ} where
       → Placed rest r (at + i * w) (to + i * o) out last → Placed (axis_by (i + 1) w o ∷ rest) r at to out₀ last
   placed-more a b = placed-strip (omega arith) (omega arith) refl a (placed_same (λ d e s. one_spot s) (λ d e s. spot-one s) b)
 
-  -- All positions.
-  pub placed-whole : {i n : ℕ} {out last : List ℤ} → (i ≤ n) × Placed (axis_by i w o ∷ rest) r at to out last → n ≤ i
-      → Placed (axis_by n w o ∷ rest) r at to out last
-  placed-whole {i} {n} p h = let e : i ≡ n = omega (arith, p.0) in rw e at p.1
-
 -- One element.
 pub placed-set : (r : List ℤ) (at to : ℕ) (out : List ℤ) (v : ℤ) → to < length out → v ≡ get_or r at (pos 0) → Placed [] r at to out (set out to v)
 placed-set r at to out v h e = record {

@@ -322,7 +322,8 @@ fn walk_blocks(lens: &[usize], strides: &[usize], r: &[i32], at: usize, out: &mu
     put_blocks(near, &lens[1..rank], &strides[1..rank], step, r, at, 0, out);
 }
 
-// The part of the result for the axes in `lens`, whose first element is r's element `at`.
+// The part of the result for the axes in `lens`, whose first element is r's element `at`. The lengths are a part of the shape, whose form the C
+// interface fixes: pairs of a length and a stride would be a third array, and a loop that fills it.
 fn walk(lens: &[usize], strides: &[usize], r: &[i32], at: usize, out: &mut [i32])
     requires { Walk lens.now strides.now at (length r.now) (length out.old) }
     ensures { out.new ≡ walked lens.now strides.now r.now at }

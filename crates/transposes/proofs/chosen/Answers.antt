@@ -42,7 +42,8 @@ bounds-used-axis c =
 
 pub loop-i-preserved : goal.loop-i-preserved
 loop-i-preserved c =
-    choosing-more c.loop-i.invariant _ (found_at _ _ _ _ (sym c.in-Some.is ∙ found c.before.before)) (omega arith) c.requires _ (omega (arith, c.max-axes.ensures))
+    choosing-more c.loop-i.invariant _ (found_at _ _ _ _ (sym c.in-Some.is ∙ found c.before.before)) (omega arith) c.requires _
+    (omega (arith, c.max-axes.ensures))
 
 pub returns-then-all_used : goal.returns-then-all_used
 unfolding asked

@@ -44,7 +44,8 @@ pub returns : goal.returns
 returns c =
     elim c.loop-i-test.branch [
       | else-loop-i-test w ↦
-          placed-strip {i = c.loop-i.i} (omega arith) (omega (arith, c.loop-i.invariant.0)) (omega (arith, c.requires.0)) (rw w.out-is c.loop-i.invariant.1) (placed-swap c.put_plane-2.ensures)
+          placed-strip {i = c.loop-i.i} (omega arith) (omega (arith, c.loop-i.invariant.0)) (omega (arith, c.requires.0))
+          (rw w.out-is c.loop-i.invariant.1) (placed-swap c.put_plane-2.ensures)
       | then-loop-i-test+else-end-i-gt8 w ↦
           placed-strip {i = c.loop-i.i + 8} (omega arith) (omega (arith, c.requires.0)) (omega (arith, c.requires.0))
           (rw w.out-is (placed-strip (omega arith) (omega arith) refl c.loop-i.invariant.1 (placed-swap w.put_plane.ensures)))
