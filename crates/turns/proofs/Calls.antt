@@ -32,10 +32,6 @@ use Rattle.answer.proofs.Order.{Names, own_first, Ready, early_of}
 use Rattle.turns.specs.declared.Turn.TheVariants.{Back, By}
 use Rattle.turns.specs.Steps.{turn_position}
 
--- The axes that K may name: a scalar is read as a vector of one.
-pub axes-are : (s : Shape) (b : List ℤ) {n : ℕ} → rank (array_of (lent s b)) ≡ s.rank → n ≡ max 1 s.rank → rank (as_vector (array_of (lent s b))) ≡ n
-axes-are s b e q = vector-rank (array_of (lent s b)) ∙ ap (max 1) e ∙ sym q
-
 module _ (G K : ℤ) (L R : Operand) where
   pub reverse-names : Names 14 1 G K L R (reverse G K (array_of R))
   unfolding primitives named int_same reverse precedence
