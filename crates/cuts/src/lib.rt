@@ -269,12 +269,14 @@ fn cut(table: &[usize], at: usize, r: &[i32], out: &mut [i32])
         copying::copy_run(&r[first..last], &mut out[start..stop]);
         return;
     }
-    let mut i = 0;
-    while i < len {
+    for i in 0..len {
         let a = start + i * block;
-        let b = a + block;
-        cut(&table[WIDTH..rest], first + i * step, r, &mut out[a..b]);
-        i += 1;
+        cut(
+            &table[WIDTH..rest],
+            first + i * step,
+            r,
+            &mut out[a..a + block],
+        );
     }
 }
 
