@@ -28,6 +28,7 @@ pub fn drop(g: i32, l: &Operand<'_>, r: &Operand<'_>, out: &mut [i32]) -> Result
 }
 
 // What L's numbers say of an axis: how many positions are taken, or how many are dropped.
+// An enum: what it chooses are two short lines, and two types with a trait would go through as many functions.
 #[derive(Clone, Copy)]
 enum CutKind {
     Take,
