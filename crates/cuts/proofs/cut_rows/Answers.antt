@@ -55,7 +55,8 @@ slice_bounds-copy_run-end-in-loop-i c = let k = window-fits _ _ _ _ c.requires.1
 )
 
 pub loop-i-preserved : goal.loop-i-preserved
-loop-i-preserved c = let k = window-fits _ _ _ _ c.requires.1 in rows_step c.args.r.now k c.requires.0 (λ e. eqb-true _ _ e) c.clear_rows.ensures c.loop-i-test.true c.loop-i.invariant c.copy_run.ensures
+loop-i-preserved c = let k = window-fits _ _ _ _ c.requires.1 in rows_step c.args.r.now k c.requires.0 (λ e. eqb-true _ _ e) c.clear_rows.ensures
+    c.loop-i-test.true c.loop-i.invariant c.copy_run.ensures
 
 pub returns : goal.returns
 returns c = let k = window-fits _ _ _ _ c.requires.1 in

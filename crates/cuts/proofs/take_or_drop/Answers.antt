@@ -29,7 +29,8 @@ pub returns-in_err-late : goal.returns-in_err-late
 returns-in_err-late c K =
     let fine = sym (early-read c.ranges.g c.early_two.result _ c.early_two.ensures.number) ∙ asked_ok c.in_ok-l.was in
     let e : c.args.r.now ≡ lent c.r.inside.shape c.r.inside.elements.now = sym (c.r.view_is ∙ c.in_ok-l.ensures.operands.1) in
-    let none : own (cut_number c.args.kind) (cut_meaning c.args.kind (array_of c.args.l.now) (array_of (lent c.r.inside.shape c.r.inside.elements.now))).refusals ≡ 0 =
+    let none : own (cut_number c.args.kind)
+    (cut_meaning c.args.kind (array_of c.args.l.now) (array_of (lent c.r.inside.shape c.r.inside.elements.now))).refusals ≡ 0 =
     sym (c.cut_numbers.ensures.number
     ∙ ap₂ (λ x y. own (cut_number c.args.kind) (cut_meaning c.args.kind (array_of x) (array_of y)).refusals) c.in_ok-l.ensures.operands.0 (sym c.r.view_is))
     ∙ asked_ok c.in_ok-numbers.was in
@@ -53,7 +54,8 @@ slice_bounds-fill-end c =
 pub slice_bounds-fill-end-2 : goal.slice_bounds-fill-end-2
 slice_bounds-fill-end-2 c =
     let e : c.args.r.now ≡ lent c.r.inside.shape c.r.inside.elements.now = sym (c.r.view_is ∙ c.in_ok-l.ensures.operands.1) in
-    let none : own (cut_number c.args.kind) (cut_meaning c.args.kind (array_of c.args.l.now) (array_of (lent c.r.inside.shape c.r.inside.elements.now))).refusals ≡ 0 =
+    let none : own (cut_number c.args.kind)
+    (cut_meaning c.args.kind (array_of c.args.l.now) (array_of (lent c.r.inside.shape c.r.inside.elements.now))).refusals ≡ 0 =
     sym (c.cut_numbers.ensures.number
     ∙ ap₂ (λ x y. own (cut_number c.args.kind) (cut_meaning c.args.kind (array_of x) (array_of y)).refusals) c.in_ok-l.ensures.operands.0 (sym c.r.view_is))
     ∙ asked_ok c.in_ok-numbers.was in
@@ -73,7 +75,8 @@ slice_bounds-fill-end-2 c =
 pub fill-requires : goal.fill-requires
 fill-requires c =
     let e : c.args.r.now ≡ lent c.r.inside.shape c.r.inside.elements.now = sym (c.r.view_is ∙ c.in_ok-l.ensures.operands.1) in
-    let none : own (cut_number c.args.kind) (cut_meaning c.args.kind (array_of c.args.l.now) (array_of (lent c.r.inside.shape c.r.inside.elements.now))).refusals ≡ 0 =
+    let none : own (cut_number c.args.kind)
+    (cut_meaning c.args.kind (array_of c.args.l.now) (array_of (lent c.r.inside.shape c.r.inside.elements.now))).refusals ≡ 0 =
     sym (c.cut_numbers.ensures.number
     ∙ ap₂ (λ x y. own (cut_number c.args.kind) (cut_meaning c.args.kind (array_of x) (array_of y)).refusals) c.in_ok-l.ensures.operands.0 (sym c.r.view_is))
     ∙ asked_ok c.in_ok-numbers.was in
@@ -94,7 +97,8 @@ pub returns : goal.returns
 returns c K =
     let fine = sym (early-read c.ranges.g c.early_two.result _ c.early_two.ensures.number) ∙ asked_ok c.in_ok-l.was in
     let e : c.args.r.now ≡ lent c.r.inside.shape c.r.inside.elements.now = sym (c.r.view_is ∙ c.in_ok-l.ensures.operands.1) in
-    let none : own (cut_number c.args.kind) (cut_meaning c.args.kind (array_of c.args.l.now) (array_of (lent c.r.inside.shape c.r.inside.elements.now))).refusals ≡ 0 =
+    let none : own (cut_number c.args.kind)
+    (cut_meaning c.args.kind (array_of c.args.l.now) (array_of (lent c.r.inside.shape c.r.inside.elements.now))).refusals ≡ 0 =
     sym (c.cut_numbers.ensures.number
     ∙ ap₂ (λ x y. own (cut_number c.args.kind) (cut_meaning c.args.kind (array_of x) (array_of y)).refusals) c.in_ok-l.ensures.operands.0 (sym c.r.view_is))
     ∙ asked_ok c.in_ok-numbers.was in
