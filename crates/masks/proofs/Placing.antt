@@ -29,18 +29,6 @@ pub record BlocksPlaced (a : Action) (l r : List ℤ) (outer n m c : ℕ) (out�
 pub placed-none : (a : Action) (l r : List ℤ) (outer n m c : ℕ) (out₀ : List ℤ) → BlocksPlaced a l r outer n m c out₀ out₀ 0 0 0
 placed-none a l r outer n m c out₀ = record { within = omega arith; source-at = sym (zero-mul (n * c)); written = written_none _ (m * c) out₀ }
 
--- Where a block begins, as the loop counts it.
-pub placed-start : (a : Action) (l r : List ℤ) (outer n m c : ℕ) (out₀ : List ℤ) → BlocksPlaced a l r outer n m c out₀ out₀ (0 * (n * c)) (0 * (m * c)) 0
-placed-start a l r outer n m c out₀ = rw (zero-mul (n * c), zero-mul (m * c)) (placed-none a l r outer n m c out₀)
-
-pub placed-next : {a : Action} {l r : List ℤ} {outer n m c : ℕ} {out₀ next : List ℤ} (o : ℕ)
-    → BlocksPlaced a l r outer n m c out₀ next (o * (n * c) + n * c) (o * (m * c) + m * c) (o + 1)
-    → BlocksPlaced a l r outer n m c out₀ next ((o + 1) * (n * c)) ((o + 1) * (m * c)) (o + 1)
-placed-next {n = n} {m = m} {c = c} o k =
-    let from : o * (n * c) + n * c ≡ (o + 1) * (n * c) = omega arith in
-    let to : o * (m * c) + m * c ≡ (o + 1) * (m * c) = omega arith in
-    rw (from, to) at k
-
 module _ {a : Action} {l r : List ℤ} {outer n m c : ℕ} {out₀ out : List ℤ} {from to o : ℕ} (k : BlocksPlaced a l r outer n m c out₀ out from to o) where
   pub placed-all : outer ≤ o → out ≡ placed_in a l outer n m c r out₀
   placed-all h = written-front k.written outer (omega (arith, k.within))

