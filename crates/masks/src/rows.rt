@@ -103,6 +103,7 @@ pub fn compress_line(l: &[i32], r: &[i32], out: &mut [i32])
     requires { (length r.now ≡ length l.now * 1) × (length out.old ≡ length (ones l.now) * 1) }
     ensures { out.new ≡ tab (length (ones l.now) * 1) (kept_rows (ones l.now) 1 r.now) }
 {
+    // A while: it ends where the buffer is full, which may be before the mask's end.
     let mut to = 0;
     let mut i = 0;
     while to < out.len() {
@@ -132,6 +133,7 @@ pub fn compress_rows(l: &[i32], r: &[i32], inner: usize, out: &mut [i32])
     requires { (length r.now ≡ length l.now * inner) × (length out.old ≡ length (ones l.now) * inner) }
     ensures { out.new ≡ tab (length (ones l.now) * inner) (kept_rows (ones l.now) inner r.now) }
 {
+    // A while: a turn takes a whole stretch of ones.
     let mut to = 0;
     let mut i = 0;
     while to < out.len() {
@@ -185,6 +187,7 @@ pub fn expand_rows(l: &[i32], r: &[i32], inner: usize, out: &mut [i32])
     requires { (length r.now ≡ length (ones l.now) * inner) × (length out.old ≡ length l.now * inner) }
     ensures { out.new ≡ tab (length l.now * inner) (opened_rows l.now inner r.now) }
 {
+    // A while: a turn takes a whole gap and stretch of ones.
     let mut from = 0;
     let mut i = 0;
     while i < l.len() {
