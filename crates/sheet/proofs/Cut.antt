@@ -163,7 +163,6 @@ pub record Going (start : Held) (chunk begun₀ text₀ : List ℕ) (old new : O
   pub within : end ≤ length chunk
   pub held_len : held.len ≤ length begun₀
   pub held_waiting : held.waiting ≤ length text₀
-  pub going : start.stopped ≡ false → held.stopped ≡ false
   pub free : Free chunk at end
   pub found : end < length chunk → get_or chunk end 0 ≡ newline
   pub midway : (bytes : List ℕ) → Holds start begun₀ bytes → Midway start held old new text₀ begun text (lines_from start.line bytes (take at chunk))

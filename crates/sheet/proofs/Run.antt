@@ -1,26 +1,30 @@
 -- The program's run, chunk by chunk.
 use Rattle.std.proofs.Common.{ℕ, ◌+◌, ◌-◌, ◌≤◌, ◌<◌, ◌≡◌, List, [], ◌∷◌, ◌++◌, Bool, true, false, refl, sym, ap, ◌∙◌, arith, append_assoc, append-nil}
 use Rattle.std.proofs.Common.{length, take, length-append, length-take-le}
-use Rattle.std.specs.Prelude.{Option}
+use Rattle.std.specs.Prelude.{Option, Result}
+use Rattle.std.specs.Result.{IsErrAnd}
 use Rattle.std.specs.Io.KnownBytes.{Appends, Consumes}
 use Rattle.std.proofs.KnownBytes.{Appends-nil, Appends-trans, Consumes-nil, Consumes-trans}
+use Rattle.std.proofs.lemmas.Result.{err_from_is_err_and}
 use Rattle.shape.proofs.Bools.{no_way}
 use Rattle.sheet_line.specs.Text.{newline}
 use Rattle.sheet_line.specs.Call.{max_line}
 use Rattle.sheet_answer.specs.Sheet.{sheet_answer}
 use Rattle.sheet.specs.declared.Held.{Held}
+use Rattle.sheet.specs.declared.Stopped.{Stopped}
+use Rattle.sheet.specs.declared.Failure.{Failure}
+use Rattle.sheet.specs.declared.Failure.TheVariants.{Unwritten}
 use Rattle.sheet.specs.Lines.{next, Lines, after, lines_from}
 use Rattle.sheet.specs.Waiting.{Holds, Took}
 use Rattle.sheet.specs.Steps.{newlines, SameLine}
 use Rattle.sheet.specs.Sent.{Sent, Short}
-use Rattle.sheet.specs.Run.{last_answer, sheet_text, ShortIn}
+use Rattle.sheet.specs.Run.{last_answer, sheet_text, ShortIn, Ends}
 use Rattle.sheet.proofs.Search.{newlines-none}
 use Rattle.sheet.proofs.Sent.{short_later}
 use Rattle.sheet.proofs.Cut.{lines_append, lines_end, lines_none}
 
 -- What is known between chunks: beside the lines of the bytes that were read.
 pub record Kept (c₀ c : Option (List ℕ)) (held : Held) (begun : List ℕ) (s : Lines) : Type 0 where
-  pub going : held.stopped ≡ false
   pub none : held.waiting ≡ 0
   pub room : held.len ≤ length begun
   pub line : held.line ≡ s.line
@@ -34,7 +38,7 @@ pub record Running (r₀ r c₀ c : Option (List ℕ)) (held : Held) (begun : Li
   pub kept : Kept c₀ c held begun (lines_from 1 [] bytes)
 
 pub first : (r c : Option (List ℕ)) (held : Held) (begun : List ℕ) → length begun ≡ max_line
-    → (held.len ≡ 0) × ((held.over ≡ false) × ((held.line ≡ 1) × ((held.waiting ≡ 0) × (held.stopped ≡ false)))) → Running r r c c held begun 0
+    → (held.len ≡ 0) × ((held.over ≡ false) × ((held.line ≡ 1) × (held.waiting ≡ 0))) → Running r r c c held begun 0
 first r c held begun l e = record {
   bytes = [];
   read = Consumes-nil r;
@@ -42,8 +46,7 @@ first r c held begun l e = record {
   kept =
       rw (lines_none 1 [])
       (record {
-        going = e.1.1.1.1;
-        none = e.1.1.1.0;
+        none = e.1.1.1;
         room = omega (arith, e.0);
         line = e.1.1.0;
         holds = record { room = l; whole = λ f. ap (λ n. take n begun) e.0; long = λ f. no_way (sym e.1.0 ∙ f) };
@@ -116,16 +119,15 @@ module _ {r₀ r c₀ c : Option (List ℕ)} {held : Held} {begun : List ℕ} {t
 
   pub goes_on : (more text text' : List ℕ) (h k : Held) (begun' : List ℕ) (r' c' c'' : Option (List ℕ)) → Consumes r r' more → 0 < length more
       → Took held h (later more) begun' text text' → Sent c c' (take held.waiting text) (later more).printed (take h.waiting text')
-      → Appends c' c'' (take h.waiting text') → SameLine h k → k.waiting ≡ 0 → k.stopped ≡ false → h.len ≤ length begun'
+      → Appends c' c'' (take h.waiting text') → SameLine h k → k.waiting ≡ 0 → h.len ≤ length begun'
       → Running r₀ r' c₀ c'' k begun' (turns + 1)
-  goes_on more text text' h k begun' r' c' c'' p few t s q same none going room = record {
+  goes_on more text text' h k begun' r' c' c'' p few t s q same none room = record {
     bytes = i.bytes ++ more;
     read = Consumes-trans r₀ r _ i.bytes more i.read p;
     many = omega (arith, i.many, few, length-append i.bytes more);
     kept =
         rw (lines_more more)
         (record {
-          going = going;
           none = none;
           room = omega (arith, same.0, room);
           line = same.1.1 ∙ t.line;
@@ -184,3 +186,8 @@ module _ {r₀ r c₀ c : Option (List ℕ)} {held : Held} {begun : List ℕ} {t
         rw (lines_more (newline ∷ []), lines_end held.line so_far.begun, ← e)
         (short_further c₀ c _ so_far.printed _ i.kept.sent (short_later (rw (waits_none text) at s) x));
   }
+
+-- A write failed, which `?` hands on.
+pub ended_on : {A : Type 0} {old new : Option (List ℕ)} (bytes : List ℕ) (left : Option (List ℕ)) (r : Result A Failure) (s : Stopped)
+    → IsErrAnd r (λ f. f ≡ Unwritten s) → ShortIn old new 1 [] [] (bytes ++ newline ∷ []) s.whole → Ends r bytes left old new
+ended_on bytes left r s h q = let e = err_from_is_err_and r h in rw (e.1, e.2) q

@@ -1,8 +1,10 @@
 -- What was handed over, step by step.
 use Rattle.std.proofs.Common.{ℕ, ◌≡◌, ◌-◌, List, [], ◌++◌, refl, sym, ap, ◌∙◌, append_assoc, append-nil, take, drop, take-append-drop}
-use Rattle.std.specs.Prelude.{Option}
+use Rattle.std.specs.Prelude.{Option, Result}
+use Rattle.std.specs.Result.{IsErrAnd, IfErr}
 use Rattle.std.specs.Io.KnownBytes.{Appends}
 use Rattle.std.proofs.KnownBytes.{Appends-nil, Appends-trans}
+use Rattle.std.proofs.lemmas.Result.{err_from_is_err_and}
 use Rattle.sheet.specs.Steps.{newlines}
 use Rattle.sheet.specs.Sent.{Sent, Short}
 
@@ -52,3 +54,7 @@ module _ {a b c : Option (List ℕ)} {xs ys more : List ℕ} (s : Sent a b xs mo
     rest = append_assoc s.written t.front t.unsent ∙ ap (λ l. s.written ++ l) t.rest ∙ s.rest;
     whole = t.whole;
   }
+
+-- What `?` hands on.
+pub handed_on : {A E : Type 0} {d : E} (P : E → Type 0) (r : Result A E) → IsErrAnd r (λ y. y ≡ d) → P d → IfErr r P
+handed_on P r h q = let e = err_from_is_err_and r h in rw (e.1, e.2) q

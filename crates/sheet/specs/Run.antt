@@ -1,10 +1,10 @@
 -- The program's run: what it wrote, from the bytes that it read.
-use Rattle.std.specs.Prelude.{ℕ, ◌-◌, ◌^◌, ◌≤◌, ◌≡◌, ◌⊎◌, List, [], ◌∷◌, ◌++◌, length, Option}
+use Rattle.std.specs.Prelude.{ℕ, ◌-◌, ◌^◌, ◌≤◌, ◌≡◌, ◌⊎◌, List, [], ◌∷◌, ◌++◌, length, Option, Result, Ok, Err}
 use Rattle.std.specs.Io.KnownBytes.{Appends, IsAtEnd}
 use Rattle.sheet_line.specs.Text.{newline}
 use Rattle.sheet_answer.specs.Sheet.{sheet_answer}
-use Rattle.sheet.specs.declared.Ended.{Ended}
-use Rattle.sheet.specs.declared.Ended.TheVariants.{Answered, Unread, Unwritten}
+use Rattle.sheet.specs.declared.Failure.{Failure}
+use Rattle.sheet.specs.declared.Failure.TheVariants.{Unread, Unwritten}
 use Rattle.sheet.specs.Lines.{Lines, lines_from}
 use Rattle.sheet.specs.Sent.{Short}
 
@@ -27,8 +27,8 @@ pub record ShortIn (old new : Option (List ℕ)) (line : ℕ) (begun before byte
 -- How a run ends that read some bytes, after which the reader has what is left: each line is answered and each answer written, and nothing is left
 -- to be read (a reader that never ends is given up after 2 ^ 64 - 1 reads); or a read failed, and the whole lines before it were answered; or a write
 -- failed, among the bytes or at the end of a last line that lacks its newline.
-abbrev pub Ends : Ended → List ℕ → Option (List ℕ) → Option (List ℕ) → Option (List ℕ) → Type 0
-Ends Answered bytes left old new = Appends old new (sheet_text bytes) × (IsAtEnd left ⊎ (2 ^ 64 - 1 ≤ length bytes))
-Ends (Unread last) bytes left old new =
+abbrev pub Ends : {A : Type 0} → Result A Failure → List ℕ → Option (List ℕ) → Option (List ℕ) → Option (List ℕ) → Type 0
+Ends (Ok _) bytes left old new = Appends old new (sheet_text bytes) × (IsAtEnd left ⊎ (2 ^ 64 - 1 ≤ length bytes))
+Ends (Err (Unread last)) bytes left old new =
     Appends old new (lines_from 1 [] bytes).printed × (last ≡ (lines_from 1 [] bytes).line - 1)
-Ends (Unwritten last gone) bytes left old new = ShortIn old new 1 [] [] (bytes ++ newline ∷ []) last
+Ends (Err (Unwritten stopped)) bytes left old new = ShortIn old new 1 [] [] (bytes ++ newline ∷ []) stopped.whole

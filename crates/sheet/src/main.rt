@@ -1,7 +1,7 @@
 // The sheet program: reads lines from standard input and answers each on standard output.
 #![tactic(auto)]
 
-ghost use Rattle.std.specs.Prelude.{◌≡◌, true, false, List, [], ◌++◌, ℕ, ◌+◌, ◌-◌, ◌≤◌, ◌<◌, length, take, get_or};
+ghost use Rattle.std.specs.Prelude.{◌≡◌, true, false, List, [], ◌++◌, ℕ, ◌+◌, ◌-◌, ◌≤◌, ◌<◌, length, take, get_or, OnOk, IfOk, IfErr};
 ghost use Rattle.std.specs.Io.KnownBytes.{Appends, Consumes};
 ghost use Rattle.sheet_line.specs.Text.{newline};
 ghost use Rattle.sheet_line.specs.Call.{max_line, front};
@@ -12,50 +12,58 @@ ghost use Rattle.sheet.specs.Waiting.{Appended, Holds, Took};
 ghost use Rattle.sheet.specs.Steps.{newlines, SameLine, Answered};
 ghost use Rattle.sheet.specs.Sent.{Sent, Short};
 ghost use Rattle.sheet.specs.Run.{ShortIn, Ends};
+ghost use Rattle.sheet.specs.declared.Failure.TheVariants.{Unwritten};
 
 use answer::{Answer, Operand};
 use sheet_line::{MAX_HELD, MAX_LINE};
 use std::io::{ErrorKind, Read, Write};
 use std::process::ExitCode;
 
-// What is held between chunks: of the line that has begun the length so far, whether it was too long, and its number; how much text waits to be
-// written; and whether a write has failed, after which nothing is answered or written, with the last line whose answer was handed over whole and
-// whether the reader of the answers went away.
+// What is held between chunks: of the line that has begun the length so far, whether it was too long, and its number; and how much text waits to be
+// written.
 #[derive(Clone, Copy)]
 struct Held {
     len: usize,
     over: bool,
     line: u64,
     waiting: usize,
-    stopped: bool,
-    whole: u64,
-    gone: bool,
 }
 
 impl Held {
     // Before the first line.
     fn none() -> Held
-        ensures { (result.len ≡ 0) × ((result.over ≡ false) × ((result.line ≡ 1) × ((result.waiting ≡ 0) × (result.stopped ≡ false)))) }
+        ensures { (result.len ≡ 0) × ((result.over ≡ false) × ((result.line ≡ 1) × (result.waiting ≡ 0))) }
     {
         Held {
             len: 0,
             over: false,
             line: 1,
             waiting: 0,
-            stopped: false,
-            whole: 0,
-            gone: false,
         }
     }
 }
 
-// How a run ends: each line was answered, or a read or a write failed, with the last line whose answer was handed over whole and whether the reader
-// of the answers went away.
+// A write failed, after which nothing is answered or written: the last line whose answer was handed over whole, and whether the reader of the answers
+// went away.
 #[derive(Clone, Copy)]
-enum Ended {
-    Answered,
+struct Stopped {
+    whole: u64,
+    gone: bool,
+}
+
+// Why a run ends before each line is answered: a read failed, with the last line whose answer was handed over whole, or a write.
+#[derive(Clone, Copy)]
+enum Failure {
     Unread(u64),
-    Unwritten(u64, bool),
+    Unwritten(Stopped),
+}
+
+impl From<Stopped> for Failure {
+    ghost from_gives = { λ s f. f ≡ Unwritten s };
+
+    fn from(stopped: Stopped) -> Failure {
+        Failure::Unwritten(stopped)
+    }
 }
 
 // How many bytes were handed over, and whether the reader then went away.
@@ -175,52 +183,37 @@ fn tell(rt: &impl Eprint, failure: &str, last: u64) {
 }
 
 // Writes what waits. Where a write fails the rest is given up, and it is noted up to which line the answers were handed over whole.
-fn written<W: Write>(sink: &mut W, text: &[u8], held: Held) -> Held
+fn written<W: Write>(sink: &mut W, text: &[u8], held: Held) -> Result<Held, Stopped>
     requires { held.waiting ≤ length text.now }
-    ensures same { SameLine held result × (result.waiting ≡ 0) }
-    ensures stays { held.stopped ≡ true → result.stopped ≡ true }
-    ensures sent { result.stopped ≡ false → Appends (W.contents sink.old) (W.contents sink.new) (take held.waiting text.now) }
-    ensures short { held.stopped ≡ false → result.stopped ≡ true
-        → Short (W.contents sink.old) (W.contents sink.new) (take held.waiting text.now) held.line result.whole }
+    ensures same { IfOk result (λ h. SameLine held h × (h.waiting ≡ 0)) }
+    ensures sent { OnOk result (Appends (W.contents sink.old) (W.contents sink.new) (take held.waiting text.now)) }
+    ensures short { IfErr result (λ s. Short (W.contents sink.old) (W.contents sink.new) (take held.waiting text.now) held.line s.whole) }
 {
-    let len = held.len;
-    let over = held.over;
-    let line = held.line;
     let waiting = held.waiting;
-    let mut whole = held.whole;
-    let mut gone = held.gone;
     let handed = handed_over(sink, &text[..waiting]);
     let n = handed.count;
-    let stopped = held.stopped || n < waiting;
     if n < waiting {
-        whole = last_whole(line, &text[n..waiting]);
-        gone = handed.gone;
+        let whole = last_whole(held.line, &text[n..waiting]);
+        return Err(Stopped {
+            whole,
+            gone: handed.gone,
+        });
     }
-    Held {
-        len,
-        over,
-        line,
-        waiting: 0,
-        stopped,
-        whole,
-        gone,
-    }
+    Ok(Held { waiting: 0, ..held })
 }
 
 // Writes what waits, unless there is still room for the longest answer, which is no longer than the longest line.
-fn flushed<W: Write>(sink: &mut W, text: &[u8], held: Held) -> Held
+fn flushed<W: Write>(sink: &mut W, text: &[u8], held: Held) -> Result<Held, Stopped>
     requires { (held.waiting ≤ length text.now) × (max_line ≤ length text.now) }
-    ensures same { SameLine held result }
-    ensures room { result.waiting + max_line ≤ length text.now }
-    ensures text { Appended (take held.waiting text.now) [] (take result.waiting text.now) }
-    ensures sent { result.stopped ≡ false
-        → Sent (W.contents sink.old) (W.contents sink.new) (take held.waiting text.now) [] (take result.waiting text.now) }
-    ensures short { held.stopped ≡ false → result.stopped ≡ true
-        → Short (W.contents sink.old) (W.contents sink.new) (take held.waiting text.now) held.line result.whole }
+    ensures same { IfOk result (SameLine held) }
+    ensures room { IfOk result (λ h. h.waiting + max_line ≤ length text.now) }
+    ensures text { IfOk result (λ h. Appended (take held.waiting text.now) [] (take h.waiting text.now)) }
+    ensures sent { IfOk result
+        (λ h. Sent (W.contents sink.old) (W.contents sink.new) (take held.waiting text.now) [] (take h.waiting text.now)) }
+    ensures short { IfErr result (λ s. Short (W.contents sink.old) (W.contents sink.new) (take held.waiting text.now) held.line s.whole) }
 {
-    let waiting = held.waiting;
-    if MAX_LINE <= text.len() - waiting {
-        return held;
+    if MAX_LINE <= text.len() - held.waiting {
+        return Ok(held);
     }
     written(sink, text, held)
 }
@@ -234,35 +227,25 @@ fn end_line<W: Write>(
     r: &mut [i32],
     out: &mut [i32],
     text: &mut [u8],
-) -> Held
+) -> Result<Held, Stopped>
     requires { (held.waiting ≤ length text.old) × Buffers l.old r.old out.old text.old }
-    ensures bound { (result.len ≤ held.len) × (result.waiting ≤ length text.old) }
-    ensures answer { result.stopped ≡ false
-        → Answered held result (held_answer held.line held.over bytes.now) text.old text.new }
-    ensures sent { result.stopped ≡ false → Sent (W.contents sink.old) (W.contents sink.new)
-        (take held.waiting text.old) (held_answer held.line held.over bytes.now) (take result.waiting text.new) }
-    ensures short { held.stopped ≡ false → result.stopped ≡ true
-        → Short (W.contents sink.old) (W.contents sink.new) (take held.waiting text.old) held.line result.whole }
+    ensures bound { IfOk result (λ h. (h.len ≤ held.len) × (h.waiting ≤ length text.old)) }
+    ensures answer { IfOk result (λ h. Answered held h (held_answer held.line held.over bytes.now) text.old text.new) }
+    ensures sent { IfOk result (λ h. Sent (W.contents sink.old) (W.contents sink.new)
+        (take held.waiting text.old) (held_answer held.line held.over bytes.now) (take h.waiting text.new)) }
+    ensures short { IfErr result (λ s. Short (W.contents sink.old) (W.contents sink.new) (take held.waiting text.old) held.line s.whole) }
 {
-    let over = held.over;
-    let line = held.line;
-    let kept = flushed(sink, text, held);
-    if kept.stopped {
-        return kept;
-    }
+    let kept = flushed(sink, text, held)?;
     let start = kept.waiting;
     let room = text.len();
-    let n = answer_line(bytes, over, line, l, r, out, &mut text[start..room]);
+    let n = answer_line(bytes, held.over, held.line, l, r, out, &mut text[start..room]);
     let end = text_end(start, n, room);
-    Held {
+    Ok(Held {
         len: 0,
         over: false,
-        line: line % 1000000000000000000 + 1,
+        line: held.line % 1000000000000000000 + 1,
         waiting: end,
-        stopped: false,
-        whole: kept.whole,
-        gone: kept.gone,
-    }
+    })
 }
 
 fn copy_bytes(run: &[u8], out: &mut [u8])
@@ -280,37 +263,22 @@ fn copy_bytes(run: &[u8], out: &mut [u8])
 fn hold_run(run: &[u8], held: Held, begun: &mut [u8]) -> Held
     requires { held.len ≤ length begun.old }
     ensures bound { result.len ≤ length begun.old }
-    ensures same { (result.line ≡ held.line) × ((result.waiting ≡ held.waiting) × (result.stopped ≡ held.stopped)) }
+    ensures same { (result.line ≡ held.line) × (result.waiting ≡ held.waiting) }
     ensures begun { (bytes : List ℕ) → Holds held begun.old bytes → Holds result begun.new (bytes ++ run.now) }
 {
     let len = held.len;
-    let over = held.over;
-    let line = held.line;
-    let waiting = held.waiting;
-    let stopped = held.stopped;
-    let whole = held.whole;
-    let gone = held.gone;
     let room = begun.len();
     if room - len < run.len() {
         return Held {
             len: room,
             over: true,
-            line,
-            waiting,
-            stopped,
-            whole,
-            gone,
+            ..held
         };
     }
     copy_bytes(run, &mut begun[len..room]);
     Held {
         len: len + run.len(),
-        over,
-        line,
-        waiting,
-        stopped,
-        whole,
-        gone,
+        ..held
     }
 }
 
@@ -324,15 +292,14 @@ fn take_line<W: Write>(
     r: &mut [i32],
     out: &mut [i32],
     text: &mut [u8],
-) -> Held
+) -> Result<Held, Stopped>
     requires { (held.len ≤ length begun.old) × ((held.waiting ≤ length text.old) × Buffers l.old r.old out.old text.old) }
-    ensures bound { (result.len ≤ length begun.old) × (result.waiting ≤ length text.old) }
-    ensures answer { result.stopped ≡ false → (bytes : List ℕ) → Holds held begun.old bytes
-        → Answered held result (sheet_answer held.line (bytes ++ run.now)) text.old text.new }
-    ensures sent { result.stopped ≡ false → (bytes : List ℕ) → Holds held begun.old bytes → Sent (W.contents sink.old) (W.contents sink.new)
-        (take held.waiting text.old) (sheet_answer held.line (bytes ++ run.now)) (take result.waiting text.new) }
-    ensures short { held.stopped ≡ false → result.stopped ≡ true
-        → Short (W.contents sink.old) (W.contents sink.new) (take held.waiting text.old) held.line result.whole }
+    ensures bound { IfOk result (λ h. (h.len ≤ length begun.old) × (h.waiting ≤ length text.old)) }
+    ensures answer { IfOk result (λ h. (bytes : List ℕ) → Holds held begun.old bytes
+        → Answered held h (sheet_answer held.line (bytes ++ run.now)) text.old text.new) }
+    ensures sent { IfOk result (λ h. (bytes : List ℕ) → Holds held begun.old bytes → Sent (W.contents sink.old) (W.contents sink.new)
+        (take held.waiting text.old) (sheet_answer held.line (bytes ++ run.now)) (take h.waiting text.new)) }
+    ensures short { IfErr result (λ s. Short (W.contents sink.old) (W.contents sink.new) (take held.waiting text.old) held.line s.whole) }
 {
     if held.len == 0 {
         return end_line(sink, run, held, l, r, out, text);
@@ -401,33 +368,30 @@ fn take_chunk<W: Write>(
     r: &mut [i32],
     out: &mut [i32],
     text: &mut [u8],
-) -> Held
+) -> Result<Held, Stopped>
     requires { (start.len ≤ length begun.old) × ((start.waiting ≤ length text.old) × Buffers l.old r.old out.old text.old) }
-    ensures bound { (result.len ≤ length begun.old) × (result.waiting ≤ length text.old) }
-    ensures lines { result.stopped ≡ false → (bytes : List ℕ) → Holds start begun.old bytes
-        → Took start result (lines_from start.line bytes chunk.now) begun.new text.old text.new }
-    ensures sent { result.stopped ≡ false → (bytes : List ℕ) → Holds start begun.old bytes → Sent (W.contents sink.old) (W.contents sink.new)
-        (take start.waiting text.old) (lines_from start.line bytes chunk.now).printed (take result.waiting text.new) }
-    ensures short { start.stopped ≡ false → result.stopped ≡ true → (bytes : List ℕ) → Holds start begun.old bytes
-        → ShortIn (W.contents sink.old) (W.contents sink.new) start.line bytes (take start.waiting text.old) chunk.now result.whole }
+    ensures bound { IfOk result (λ h. (h.len ≤ length begun.old) × (h.waiting ≤ length text.old)) }
+    ensures lines { IfOk result (λ h. (bytes : List ℕ) → Holds start begun.old bytes
+        → Took start h (lines_from start.line bytes chunk.now) begun.new text.old text.new) }
+    ensures sent { IfOk result (λ h. (bytes : List ℕ) → Holds start begun.old bytes → Sent (W.contents sink.old) (W.contents sink.new)
+        (take start.waiting text.old) (lines_from start.line bytes chunk.now).printed (take h.waiting text.new)) }
+    ensures short { IfErr result (λ s. (bytes : List ℕ) → Holds start begun.old bytes
+        → ShortIn (W.contents sink.old) (W.contents sink.new) start.line bytes (take start.waiting text.old) chunk.now s.whole) }
 {
     let mut held = start;
     let mut at = 0;
     let mut end = newline_from(chunk, at);
     while end < chunk.len() {
-        held = take_line(sink, &chunk[at..end], held, begun, l, r, out, text);
-        if held.stopped {
-            return held;
-        }
+        held = take_line(sink, &chunk[at..end], held, begun, l, r, out, text)?;
         at = end + 1;
         end = newline_from(chunk, at);
     }
-    hold_run(&chunk[at..end], held, begun)
+    Ok(hold_run(&chunk[at..end], held, begun))
 }
 
 // Answers each line that is read. What waits is written after each chunk, so that a person at a terminal sees each answer at once. The input's last
 // line may lack its newline; where a read fails it has only begun, and is not answered.
-fn answer_all<R: Read, W: Write>(source: &mut R, sink: &mut W) -> Ended
+fn answer_all<R: Read, W: Write>(source: &mut R, sink: &mut W) -> Result<(), Failure>
     ensures { (bytes : List ℕ) × Consumes (R.remaining source.old) (R.remaining source.new) bytes
         × Ends result bytes (R.remaining source.new) (W.contents sink.old) (W.contents sink.new) }
 {
@@ -441,12 +405,12 @@ fn answer_all<R: Read, W: Write>(source: &mut R, sink: &mut W) -> Ended
     for _ in 0..u64::MAX {
         let n = match source.read(&mut chunk) {
             Ok(n) => n,
-            Err(_) => return Ended::Unread(last_whole(held.line, &text[..0])),
+            Err(_) => return Err(Failure::Unread(last_whole(held.line, &text[..0]))),
         };
         if n == 0 {
             break;
         }
-        held = take_chunk(
+        let taken = take_chunk(
             sink,
             &chunk[..n],
             held,
@@ -455,18 +419,12 @@ fn answer_all<R: Read, W: Write>(source: &mut R, sink: &mut W) -> Ended
             &mut r,
             &mut out,
             &mut text,
-        );
-        if held.stopped {
-            return Ended::Unwritten(held.whole, held.gone);
-        }
-        held = written(sink, &text, held);
-        if held.stopped {
-            return Ended::Unwritten(held.whole, held.gone);
-        }
+        )?;
+        held = written(sink, &text, taken)?;
     }
     let len = held.len;
     if 0 < len || held.over {
-        held = end_line(
+        let ended = end_line(
             sink,
             &begun[..len],
             held,
@@ -474,16 +432,10 @@ fn answer_all<R: Read, W: Write>(source: &mut R, sink: &mut W) -> Ended
             &mut r,
             &mut out,
             &mut text,
-        );
-        if held.stopped {
-            return Ended::Unwritten(held.whole, held.gone);
-        }
-        held = written(sink, &text, held);
-        if held.stopped {
-            return Ended::Unwritten(held.whole, held.gone);
-        }
+        )?;
+        written(sink, &text, ended)?;
     }
-    Ended::Answered
+    Ok(())
 }
 
 // The status of a program that SIGPIPE ends.
@@ -493,14 +445,14 @@ const READER_GONE: u8 = 141;
 // did not want the others, the program ends quietly.
 fn main(rt: HostRuntime) -> ExitCode {
     match answer_all(&mut rt.stdin(), &mut rt.stdout()) {
-        Ended::Answered => ExitCode::SUCCESS,
-        Ended::Unread(last) => {
+        Ok(()) => ExitCode::SUCCESS,
+        Err(Failure::Unread(last)) => {
             tell(&rt, "standard input could not be read", last);
             ExitCode::FAILURE
         }
-        Ended::Unwritten(_, true) => ExitCode::from(READER_GONE),
-        Ended::Unwritten(last, false) => {
-            tell(&rt, "standard output could not be written", last);
+        Err(Failure::Unwritten(stopped)) if stopped.gone => ExitCode::from(READER_GONE),
+        Err(Failure::Unwritten(stopped)) => {
+            tell(&rt, "standard output could not be written", stopped.whole);
             ExitCode::FAILURE
         }
     }

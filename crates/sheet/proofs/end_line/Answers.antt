@@ -1,6 +1,5 @@
-use Rattle.std.proofs.Common.{◌-◌, length, take, drop, refl, arith, length-take, length-drop}
+use Rattle.std.proofs.Common.{◌-◌, length, take, drop, refl, arith, rules, length-take, length-drop}
 use borrow.Rule.Slice.PartMut.{mid_of}
-use Rattle.shape.proofs.Bools.{no_way}
 use Rattle.sheet_answer.specs.Steps.{held_answer}
 use Rattle.sheet.proofs.Waits.{put_front, front_fits}
 use Rattle.sheet.proofs.Sent.{sent_grows}
@@ -10,8 +9,8 @@ pub returns : goal.returns
 returns g c =
     let a = c.args in
     let text = a.text.now in
-    let kept = c.flushed-kept in
-    let at = kept.result.waiting in
+    let kept = c.in_ok-kept in
+    let at = kept.kept.waiting in
     let rest = length text - at in
     let part = mid_of at rest text in
     let answer = c.answer_line-n in
@@ -25,7 +24,7 @@ returns g c =
     (omega (arith, end, answer.ensures.count)) in
     record {
       bound = (omega arith, c.text_end-end.ensures.bound);
-      answer = λ on. record { none = omega arith; over = refl; line = refl; kept = take at text; waited = kept.ensures.text; waits = waits };
-      sent = λ on. sent_grows (kept.ensures.sent c.if-kept.false) waits;
-      short = λ going failed. no_way failed;
+      answer = record { none = omega arith; over = refl; line = refl; kept = take at text; waited = kept.ensures.text; waits = waits };
+      sent = sent_grows kept.ensures.sent waits;
+      short = search rules;
     }

@@ -5,7 +5,7 @@ use Rattle.sheet.proofs.Sent.{short_at}
 use Rattle.sheet.proofs.written.Goals as goal
 
 pub returns-then-n-waiting-clause-short : goal.returns-then-n-waiting-clause-short
-returns-then-n-waiting-clause-short g c = λ going failed.
+returns-then-n-waiting-clause-short g c =
     let text = c.args.text.now in
     let line = c.args.held.line in
     let waiting = c.args.held.waiting in
