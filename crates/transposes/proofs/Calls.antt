@@ -28,7 +28,7 @@ use Rattle.answer.proofs.Exits.{refuses}
 use Rattle.answer.proofs.Lent.{Lent}
 use Rattle.answer.proofs.Order.{Names, own_first, early_of, Ready, Roomy, late-fine, late-replied, given-replied}
 use Rattle.transposes.specs.declared.Sent.{Sent}
-use Rattle.transposes.specs.Steps.Sent.{SentBy, Sending, in_domain, sent_axes, sent_elements, Transposes, Moves, Moved}
+use Rattle.transposes.specs.Steps.Sent.{SentBy, Sending, in_domain, sent_axes, sent_elements, Transposes, Moved}
 use Rattle.transposes.proofs.Choosing.{backwards-few, backwards-occur}
 
 module _ (G K : ℤ) (L R : Operand) where
@@ -111,16 +111,6 @@ module _ {s : Sent} {rs : Shape} {r : List ℤ} {ts : List ℕ} (k : Known s rs 
     axes = k.sent.axes ∙ ap axes_to (sym axes-are);
     few = rw axes-are (omega (arith, k.few, k.operand.rank_is));
     each = rw axes-are k.each;
-  }
-
-  pub sent-moves : {shape : Shape} {total room : ℕ} → shape ≡ shape_of (sent_lengths (sent_axes s rs) (counted rs)) → total ≡ count_of shape
-      → Roomy shape room → Moves s shape total (lent rs r) room
-  sent-moves {shape} e c f = record {
-    form = k.operand.form;
-    sends = sends;
-    shape_is = e;
-    total-is = c ∙ stands-count (made-stands shape _ e) f.good;
-    space = omega (arith, f.space);
   }
 
 -- What they mean, by the axes to which they send.
