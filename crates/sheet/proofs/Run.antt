@@ -73,9 +73,6 @@ module _ (a b c : Option (List ℕ)) where
 pub none_read : (a b c : Option (List ℕ)) (bytes more : List ℕ) → Consumes a b bytes → Consumes b c more → more ≡ [] → Consumes a c bytes
 none_read a b c bytes more p q e = rw (e, append-nil bytes) at (Consumes-trans a b c bytes more p q)
 
-no_newline : newlines [] ≡ 0
-no_newline = newlines-none [] 0 refl
-
 module _ {r₀ r c₀ c : Option (List ℕ)} {held : Held} {begun : List ℕ} {turns : ℕ} (i : Running r₀ r c₀ c held begun turns) where
   abbrev so_far : Lines
   so_far = lines_from 1 [] i.bytes
@@ -85,7 +82,7 @@ module _ {r₀ r c₀ c : Option (List ℕ)} {held : Held} {begun : List ℕ} {t
   waits_none text = ap (λ n. take n text) i.kept.none
 
   pub whole_line : (last : ℕ) → last ≡ held.line - 1 - newlines [] → last ≡ so_far.line - 1
-  whole_line last e = omega (arith, e, no_newline, i.kept.line)
+  whole_line last e = omega (arith, e, newlines-none, i.kept.line)
 
   -- More bytes are read.
   module _ (more : List ℕ) where

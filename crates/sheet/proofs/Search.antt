@@ -1,13 +1,13 @@
 -- The search for newlines.
-use Prim.Native.Nat.{ℕ, suc, ◌+◌, ◌-◌, ◌≤◌, ◌<◌}
+use Prim.Native.Nat.{ℕ, ◌+◌, ◌-◌, ◌≤◌, ◌<◌}
 use native.Mathlib.Omega.{arith}
 use native.Mathlib.Decide.{dec_lt}
-use native.Mathlib.Numerals.{add-one}
-use mathlib.Core.Path.{◌≡◌, ap, ◌∙◌}
-use mathlib.Core.List.{List, ◌∷◌}
+use mathlib.Core.Path.{◌≡◌, refl, sym, ap, ◌∙◌}
+use mathlib.Core.List.{List, []}
 use lib.ListN.{length, get_or, take, drop, length-take, length-drop}
-use lib.Seq.{get_or-take, get_or-drop, drop-cons, drop-length}
-use borrow.Author.Tests.{ne_eqb, eq-eqb}
+use lib.Seq.{get_or-take, get_or-drop}
+use Rattle.std.specs.Prelude.{◌==◌, cond, count_by}
+use Rattle.std.proofs.lemmas.List.Recursion.{is_count_by}
 use Rattle.sheet_line.specs.Text.{newline}
 use Rattle.sheet.specs.Steps.{newlines}
 
@@ -41,19 +41,12 @@ module _ (chunk : List ℕ) (a i : ℕ) (free : Free chunk a i) where
     pub free-block : Free chunk a e
     free-block k p q = block-case k p q (dec_lt k i)
 
--- The newlines from a place on.
-module _ (text : List ℕ) (i : ℕ) (l : i < length text) where
-  later : drop i text ≡ get_or text i 0 ∷ drop (i + 1) text
-  later = drop-cons text i 0 l ∙ rw add-one
-
-  pub newline-here : get_or text i 0 ≡ newline → newlines (drop i text) ≡ suc (newlines (drop (i + 1) text))
-  unfolding newlines
-  newline-here e = ap newlines later ∙ rw (eq-eqb (get_or text i 0) newline e)
-
-  pub newline-later : (get_or text i 0 ≡ newline → ⊥) → newlines (drop i text) ≡ newlines (drop (i + 1) text)
-  unfolding newlines
-  newline-later e = ap newlines later ∙ rw (ne_eqb (get_or text i 0) newline e)
-
-pub newlines-none : (text : List ℕ) (i : ℕ) → i ≡ length text → newlines (drop i text) ≡ 0
+-- The newlines are counted.
+pub newlines-count : (text : List ℕ) → count_by (λ b. b == newline) text ≡ newlines text
 unfolding newlines
-newlines-none text i e = ap (λ k. newlines (drop k text)) e ∙ ap newlines (drop-length text)
+newlines-count text =
+    sym (is_count_by newlines (λ b. b == newline) refl (λ b bs. ap (λ n. cond (b == newline) n (newlines bs)) (omega arith)) text)
+
+pub newlines-none : newlines [] ≡ 0
+unfolding newlines
+newlines-none = refl

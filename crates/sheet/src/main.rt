@@ -149,15 +149,7 @@ fn handed_over<W: Write>(sink: &mut W, text: &[u8]) -> Handed
 fn count_newlines(text: &[u8]) -> u64
     ensures { result ≡ newlines text.now }
 {
-    let mut n: u64 = 0;
-    let mut i = 0;
-    while i < text.len() {
-        if text[i] == b'\n' {
-            n += 1;
-        }
-        i += 1;
-    }
-    n
+    text.iter().filter(|b| **b == b'\n').count() as u64
 }
 
 // The last line whose answer was handed over whole, where line `line` is not yet answered and `unsent` is what was not handed over of the
@@ -248,17 +240,6 @@ fn end_line<W: Write>(
     })
 }
 
-fn copy_bytes(run: &[u8], out: &mut [u8])
-    requires { length run.now ≤ length out.old }
-    ensures { out.new ≡ front run.now out.old }
-{
-    let mut i = 0;
-    while i < run.len() {
-        out[i] = run[i];
-        i += 1;
-    }
-}
-
 // The line so far with a run of bytes more, or too long.
 fn hold_run(run: &[u8], held: Held, begun: &mut [u8]) -> Held
     requires { held.len ≤ length begun.old }
@@ -275,7 +256,7 @@ fn hold_run(run: &[u8], held: Held, begun: &mut [u8]) -> Held
             ..held
         };
     }
-    copy_bytes(run, &mut begun[len..room]);
+    begun[len..len + run.len()].copy_from_slice(run);
     Held {
         len: len + run.len(),
         ..held
