@@ -121,6 +121,7 @@ fn handed_over<W: Write>(sink: &mut W, text: &[u8]) -> Handed
     ensures bound { result.count ≤ length text.now }
     ensures handed { Appends (W.contents sink.old) (W.contents sink.new) (take result.count text.now) }
 {
+    // A while: each write takes as many bytes as it will.
     let len = text.len();
     let mut done = 0;
     while done < len {
@@ -290,19 +291,11 @@ fn take_line<W: Write>(
     end_line(sink, &begun[..len], whole, l, r, out, text)
 }
 
-// Whether there is a newline among the bytes. Each byte is looked at, so that the compiler tests many at a time.
+// Whether there is a newline among the bytes. The library tests many at a time.
 fn has_newline(bytes: &[u8]) -> bool
     ensures { result ≡ false → (k : ℕ) → k < length bytes.now → get_or bytes.now k 0 ≡ newline → ⊥ }
 {
-    let mut found = false;
-    let mut i = 0;
-    while i < bytes.len() {
-        if bytes[i] == b'\n' {
-            found = true;
-        }
-        i += 1;
-    }
-    found
+    bytes.contains(&b'\n')
 }
 
 // The block with the first newline from `at` on, or the last bytes, of which there are fewer than a block.
@@ -311,6 +304,7 @@ fn block_from(chunk: &[u8], at: usize) -> usize
     ensures within { (at ≤ result) × (result ≤ length chunk.now) }
     ensures before { (k : ℕ) → at ≤ k → k < result → get_or chunk.now k 0 ≡ newline → ⊥ }
 {
+    // A while: the block's place is wanted, which an iterator over blocks would count beside.
     let mut i = at;
     while 64 <= chunk.len() - i {
         let end = i + 64;
@@ -329,14 +323,13 @@ fn newline_from(chunk: &[u8], at: usize) -> usize
     ensures before { (k : ℕ) → at ≤ k → k < result → get_or chunk.now k 0 ≡ newline → ⊥ }
     ensures found { result < length chunk.now → get_or chunk.now result 0 ≡ newline }
 {
-    let mut i = block_from(chunk, at);
-    while i < chunk.len() {
+    let len = chunk.len();
+    for i in block_from(chunk, at)..len {
         if chunk[i] == b'\n' {
             return i;
         }
-        i += 1;
     }
-    i
+    len
 }
 
 // Answers each line that ends in the chunk, and holds the bytes after the last newline; stops where a write fails.
@@ -361,6 +354,7 @@ fn take_chunk<W: Write>(
 {
     let mut held = start;
     let mut at = 0;
+    // A while: a line is as long as it is, and the last, which has only begun, is held.
     let mut end = newline_from(chunk, at);
     while end < chunk.len() {
         held = take_line(sink, &chunk[at..end], held, begun, l, r, out, text)?;
