@@ -185,7 +185,8 @@ fn written<W: Write>(sink: &mut W, text: &[u8], held: Held) -> Result<Held, Stop
     let waiting = held.waiting;
     let handed = handed_over(sink, &text[..waiting]);
     let n = handed.count;
-    if n < waiting {
+    let cut = n < waiting;
+    if cut {
         let whole = last_whole(held.line, &text[n..waiting]);
         return Err(Stopped {
             whole,

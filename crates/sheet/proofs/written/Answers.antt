@@ -4,8 +4,8 @@ use Rattle.sheet.specs.Steps.{newlines}
 use Rattle.sheet.proofs.Sent.{short_at}
 use Rattle.sheet.proofs.written.Goals as goal
 
-pub returns-then-n-waiting-clause-short : goal.returns-then-n-waiting-clause-short
-returns-then-n-waiting-clause-short g c =
+pub returns-then-cut-clause-short : goal.returns-then-cut-clause-short
+returns-then-cut-clause-short g c =
     let text = c.args.text.now in
     let line = c.args.held.line in
     let waiting = c.args.held.waiting in
