@@ -232,7 +232,15 @@ fn end_line<W: Write>(
     let kept = flushed(sink, text, held)?;
     let start = kept.waiting;
     let room = text.len();
-    let n = answer_line(bytes, held.over, held.line, l, r, out, &mut text[start..room]);
+    let n = answer_line(
+        bytes,
+        held.over,
+        held.line,
+        l,
+        r,
+        out,
+        &mut text[start..room],
+    );
     let end = text_end(start, n, room);
     Ok(Held {
         len: 0,

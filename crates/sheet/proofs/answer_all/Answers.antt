@@ -36,7 +36,7 @@ returns-in_err-held g c =
       i.bytes ++ more,
       Consumes-trans _ _ _ i.bytes more i.read c.in-Ok.ensures.bytes.0,
       ended_on _ _ c.from_residual-in_err-held.result _ c.from_residual-in_err-held.ensures.1
-      (cut_after i more c.loop.text taken.taken lines.line (taken.ensures.sent _ i.kept.holds) c.in_err-held.ensures.short),
+          (cut_after i more c.loop.text taken.taken lines.line (taken.ensures.sent _ i.kept.holds) c.in_err-held.ensures.short),
     )
 
 pub loop-preserved : goal.loop-preserved

@@ -49,8 +49,8 @@ returns-in_err-held-clause-short g c =
     let contents = g.W.Write.contents in
     handed_on _ c.from_residual.result c.from_residual.ensures.1
     (λ bytes o.
-        chunk_short a.start lp.held (contents a.sink.now) (contents lp.sink) (contents c.take_line.new.sink) a.text.now lp.begun lp.text bytes a.chunk.now lp.at
-        (lp.invariant.midway bytes o) c.in_err-held.ensures.short)
+    chunk_short a.start lp.held (contents a.sink.now) (contents lp.sink) (contents c.take_line.new.sink) a.text.now lp.begun lp.text bytes a.chunk.now lp.at
+    (lp.invariant.midway bytes o) c.in_err-held.ensures.short)
 
 pub returns : goal.returns
 returns g c =

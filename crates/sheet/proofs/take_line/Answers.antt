@@ -27,10 +27,10 @@ returns-clause-answer g c =
     let w = whole.result in
     IfOk-weaker c.end_line-2.result _ _
     (λ h answered bytes o.
-        let line = bytes ++ c.args.run.now in
-        answered-as whole.ensures.same.0 whole.ensures.same.1
-        (held-answer w.line w whole.new.begun line (whole.ensures.begun bytes o) ∙ ap (λ k. sheet_answer k line) whole.ensures.same.0)
-        answered)
+    let line = bytes ++ c.args.run.now in
+    answered-as whole.ensures.same.0 whole.ensures.same.1
+    (held-answer w.line w whole.new.begun line (whole.ensures.begun bytes o) ∙ ap (λ k. sheet_answer k line) whole.ensures.same.0)
+    answered)
     c.end_line-2.ensures.answer
 
 pub returns-clause-sent : goal.returns-clause-sent
@@ -39,8 +39,8 @@ returns-clause-sent g c =
     let w = whole.result in
     IfOk-weaker c.end_line-2.result _ _
     (λ h sent bytes o.
-        let line = bytes ++ c.args.run.now in
-        rw (← whole.ensures.same.1)
-        (sent_as (held-answer w.line w whole.new.begun line (whole.ensures.begun bytes o) ∙ ap (λ k. sheet_answer k line) whole.ensures.same.0)
-        sent))
+    let line = bytes ++ c.args.run.now in
+    rw (← whole.ensures.same.1)
+    (sent_as (held-answer w.line w whole.new.begun line (whole.ensures.begun bytes o) ∙ ap (λ k. sheet_answer k line) whole.ensures.same.0)
+    sent))
     c.end_line-2.ensures.sent
