@@ -24,7 +24,7 @@ pub struct Answer {
 }
 
 impl Answer {
-    fn refused(number: usize) -> Answer
+    pub fn refused(number: usize) -> Answer
         ensures { result ≡ refused number }
     {
         let shape = Shape::scalar();
@@ -32,7 +32,7 @@ impl Answer {
     }
 
     // A success.
-    fn given(shape: Shape) -> Answer
+    pub fn given(shape: Shape) -> Answer
         ensures { result ≡ accepted shape }
     {
         Answer { number: 0, shape }

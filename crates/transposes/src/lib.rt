@@ -80,7 +80,8 @@ fn sent_by(g: i32, l: &Formed<'_>, r: &Formed<'_>) -> Result<Sent, Refusal>
         return Err(Refusal::Rank);
     }
     let elements = l.elements();
-    if elements.len() != r.shape.rank {
+    let count = elements.len();
+    if count != r.shape.rank {
         return Err(Refusal::Length);
     }
     chosen(g, elements)

@@ -52,7 +52,9 @@ returns c =
     let origin : SFits w32 read.origin = search rules in
     let k : SFits w32 read.k = search rules in
     let y = rw (to_z-of_z primitive, to_z-of_z origin, to_z-of_z k) at call.ensures in
-    let e : c.from-a.result ≡ answer_of (reply read.primitive read.origin read.k (lent read.left c.read_line.new.l) (lent read.right c.read_line.new.r) a.out.now) = c.from-a.ensures ∙ y.answer in
+    let e : c.from-a.result
+    ≡ answer_of (reply read.primitive read.origin read.k (lent read.left c.read_line.new.l) (lent read.right c.read_line.new.r) a.out.now) =
+    c.from-a.ensures ∙ y.answer in
     let few : length call.new.out ≤ max_held = omega (arith, call.auto.out, c.requires.result) in
     let same =
     good-answer a.line a.bytes.now a.l.now a.r.now a.out.now c.requires.left c.requires.right c.requires.result

@@ -20,9 +20,9 @@ unfolding asked
 returns-then-not-is_list c =
     record { own_is = sym (by-own c.args.g (array_of c.args.l.now) (array_of c.args.r.now) ∙ rw (sym c.if-not-is_list.ensures) refl); sent = tt }
 
-pub returns-then-elements-r : goal.returns-then-elements-r
+pub returns-then-count-r : goal.returns-then-count-r
 unfolding asked
-returns-then-elements-r c =
+returns-then-count-r c =
     let L = array_of c.args.l.now in
     let R = array_of c.args.r.now in
     let l : is_list (array_of c.args.l.now) ≡ true = sym c.if-not-is_list.ensures in
@@ -32,19 +32,19 @@ returns-then-elements-r c =
           ∙ rw (
             l,
             ne_eqb (length (array_of c.args.l.now).elements) (rank (array_of c.args.r.now))
-                (λ e. c.if-elements-r.true (ap length c.elements-elements.ensures ∙ e ∙ n)),
+                (λ e. c.if-count-r.true (ap length c.elements-elements.ensures ∙ e ∙ n)),
           ) refl);
       sent = tt;
     }
 
 pub chosen-requires : goal.chosen-requires
-chosen-requires c = omega (arith, c.if-elements-r.false, (formed c.r.invariant).high)
+chosen-requires c = omega (arith, c.if-count-r.false, (formed c.r.invariant).high)
 
 pub returns : goal.returns
 returns c =
     let l : is_list (array_of c.args.l.now) ≡ true = sym c.if-not-is_list.ensures in
     let n : rank (array_of c.args.r.now) ≡ c.r.inside.shape.rank = ap (λ o. rank (array_of o)) (sym c.r.view_is) ∙ (formed c.r.invariant).rank_is in
-    let e = sym (ap length c.elements-elements.ensures) ∙ c.if-elements-r.false ∙ sym n in
+    let e = sym (ap length c.elements-elements.ensures) ∙ c.if-count-r.false ∙ sym n in
     rw (by-domain c.args.g (array_of c.args.l.now) (array_of c.args.r.now) l e)
     (subst (λ (p : List ℤ). Sending c.chosen.result (cond {A = ℕ} (not (in_domain c.args.g (length p) p)) 7 0) (map (from_zero c.args.g) p))
     c.elements-elements.ensures (rw (read32 c.args.g c.ranges.g) at c.chosen.ensures))

@@ -8,7 +8,8 @@ use Rattle.answer.proofs.Operand.good_form.Goals as goal
 
 pub returns-then-count-le-MAX_COUNT : goal.returns-then-count-le-MAX_COUNT
 returns-then-count-le-MAX_COUNT c =
-    rw (c.count-count.ensures) (sym (form-by c.self.inside.shape c.self.inside.elements.now (omega (arith, c.count-count.ensures))) ∙ ap good_form c.self.view_is)
+    rw (c.count-count.ensures)
+    (sym (form-by c.self.inside.shape c.self.inside.elements.now (omega (arith, c.count-count.ensures))) ∙ ap good_form c.self.view_is)
 
 pub returns-else-count-le-MAX_COUNT : goal.returns-else-count-le-MAX_COUNT
 returns-else-count-le-MAX_COUNT c =
