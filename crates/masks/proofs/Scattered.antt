@@ -4,7 +4,7 @@ use mathlib.Core.List.{List}
 use mathlib.Core.Bool.{Bool, true, false}
 use mathlib.Core.Logic.{⊎_elim}
 use Prim.Native.Nat.{ℕ, zero, suc, ◌+◌, ◌*◌, ◌-◌, ◌≤◌, ◌<◌}
-use native.Mathlib.Nat.{eq-or-lt_of_le, zero-mul}
+use native.Mathlib.Nat.{eq-or-lt_of_le, zero-mul, mul-le-mul_right}
 use native.Mathlib.Omega.{arith}
 use lib.ListN.{length, get_or, take, drop, set, replicate, length-take, length-drop, length-replicate, get_or-replicate}
 use lib.Seq.{ext_get_or}
@@ -15,7 +15,7 @@ use Rattle.meaning.specs.Terms.{ones}
 use Rattle.meaning.proofs.Tab.{get_or_part}
 use Rattle.copying.specs.Runs.{copied}
 use Rattle.masks.specs.Steps.Actions.{one_at}
-use Rattle.masks.specs.Steps.Rows.{opened_rows, Zeros, Stretch}
+use Rattle.masks.specs.Steps.Rows.{opened_rows, Zeros, Opens, Stretch}
 use Rattle.masks.proofs.Ones.{before, before-none, before-all, before-one, ones-le, one-at, one_below}
 use Rattle.masks.proofs.Stretches.{others-pass}
 use Rattle.masks.proofs.Written.{Written, written-rest, written_one, run-next}
@@ -95,9 +95,6 @@ module _ {l r : List ℤ} {c : ℕ} {zeros out : List ℤ} {from q : ℕ} (s : S
   room : length zeros ≡ length l * c
   room = zeros-length _ _ s.blank
 
-  pub scattered-long : length out ≡ length l * c
-  scattered-long = s.front.written.long ∙ room
-
   module _ (all : length r ≡ length (ones l) * c) where
     pub scattered-all : 0 < c → length r ≤ from → out ≡ tab (length l * c) (opened_rows l c r)
     scattered-all some h =
@@ -121,7 +118,7 @@ module _ {l r : List ℤ} {c : ℕ} {zeros out : List ℤ} {from q : ℕ} (s : S
       pub count-few : q < length l
       count-few = omega (arith, one_left, ones-le 0 l)
 
-      pub row_inside : from + c ≤ length r
+      row_inside : from + c ≤ length r
       row_inside = opened_inside s.front room next-in (s.one next-in) all
 
       module _ {p : ℕ} (noted : p ≡ get_or (ones l) q 0) where
@@ -153,7 +150,7 @@ module _ {l r : List ℤ} {c : ℕ} {zeros out : List ℤ} {from q : ℕ} (s : S
             scattered-on (p + 1) (rw end at (opened-next here room one_in w one-here))
             (before-one l p one_in one-here ∙ ap (λ x. x + 1) count-here) s.blank
 
-        pub scattered-row : (last : List ℤ) → last ≡ copied (take (from + c - from) (drop from r)) (take (p * c + c - p * c) (drop (p * c) out))
+        scattered-row : (last : List ℤ) → last ≡ copied (take (from + c - from) (drop from r)) (take (p * c + c - p * c) (drop (p * c) out))
             → Scattered l r c zeros (put_mid (p * c) (p * c + c - p * c) out last) (from + c) (q + 1)
         scattered-row last w =
             scattered-next
@@ -169,3 +166,30 @@ scattered-one {l = l} {r = r} {zeros = zeros} {out = out} {q = q} {p = p} s all 
     let there = one-is (one_at l) (λ j. before j l) r p q (one-here s all left noted) (count-here s all left noted) in
     scattered-next s all left noted
     (rw single (written_one (rw single at (here s all left noted).written) (omega (arith, row-zeros s all left noted)) v (w ∙ sym there)))
+
+-- Where n rows in all go by noted ones, and row q is the next: it is left, its position is noted, and there is room for it there.
+module _ {l r : List ℤ} {at : List ℕ} {c n q : ℕ} {zeros blank out : List ℤ} (s : Scattered l r c zeros out (q * c) q)
+    (known : (0 < c) × ((length r ≡ n * c) × Opens l at c (length r) blank)) where
+  pub rows-all : n ≤ q → out ≡ tab (length l * c) (opened_rows l c r)
+  rows-all h = scattered-all s known.1.1.source known.0 (omega (arith, mul-le-mul_right {m = n} {n = q} c h, known.1.0))
+
+  module _ (h : q < n) where
+    row_left : q * c < length r
+    row_left = omega (arith, mul-le-mul_right {m = q + 1} {n = n} c (omega arith), known.1.0, known.0)
+
+    row-noted : get_or at q 0 ≡ get_or (ones l) q 0
+    row-noted = known.1.1.notes q (one_left s known.1.1.source row_left)
+
+    pub note-inside : q < length at
+    note-inside = omega (arith, count-few s known.1.1.source row_left, known.1.1.short)
+
+    pub noted-room : get_or at q 0 * c + c ≤ length out
+    noted-room = row_room s known.1.1.source row_left row-noted
+
+    pub rows-next : (last : List ℤ)
+        → last ≡ copied (take (q * c + c - q * c) (drop (q * c) r)) (take (get_or at q 0 * c + c - get_or at q 0 * c) (drop (get_or at q 0 * c) out))
+        → Scattered l r c zeros (put_mid (get_or at q 0 * c) (get_or at q 0 * c + c - get_or at q 0 * c) out last) ((q + 1) * c) (q + 1)
+    rows-next last w =
+        let more = put_mid (get_or at q 0 * c) (get_or at q 0 * c + c - get_or at q 0 * c) out last in
+        subst (λ x. Scattered l r c zeros more x (q + 1)) (let e : q * c + c ≡ (q + 1) * c = omega arith in e)
+        (scattered-row s known.1.1.source row_left row-noted last w)

@@ -367,7 +367,7 @@ fn block(
 {
     if noted {
         if expands {
-            rows::opened_rows(l, at, r, inner, out);
+            rows::opened_rows(l, at, r, n, inner, out);
         } else {
             rows::kept_rows(at, r, m, inner, out);
         }

@@ -75,9 +75,9 @@ fn opened_line(l: &[i32], at: &[u16], r: &[i32], out: &mut [i32])
     }
 }
 
-// The rows in order at the noted positions, over zeros: one run of zeros for a block costs less than one for each gap.
-pub fn opened_rows(l: &[i32], at: &[u16], r: &[i32], inner: usize, out: &mut [i32])
-    requires { (0 < inner) × Opens l.now at.now inner (length r.now) out.old }
+// The n rows in order at the noted positions, over zeros: one run of zeros for a block costs less than one for each gap.
+pub fn opened_rows(l: &[i32], at: &[u16], r: &[i32], n: usize, inner: usize, out: &mut [i32])
+    requires { (0 < inner) × ((length r.now ≡ n * inner) × Opens l.now at.now inner (length r.now) out.old) }
     ensures { out.new ≡ tab (length l.now * inner) (opened_rows l.now inner r.now) }
 {
     if inner == 1 {
@@ -85,16 +85,13 @@ pub fn opened_rows(l: &[i32], at: &[u16], r: &[i32], inner: usize, out: &mut [i3
         return;
     }
     copying::fill_run(0, out);
-    let mut from = 0;
-    let mut q = 0;
-    while from < r.len() {
+    for q in 0..n {
         let x = at[q] as usize;
-        let to = x * inner;
+        let from = q * inner;
         let stop = from + inner;
+        let to = x * inner;
         let end = to + inner;
         copying::copy_run(&r[from..stop], &mut out[to..end]);
-        from = stop;
-        q += 1;
     }
 }
 

@@ -12,7 +12,7 @@ opened-rows-requires : tie.Need-opened_rows-requires
 opened-rows-requires c κs =
     let e = c.before in
     let pre = (start e.before).requires in
-    (pre.0, noted-opens pre.1.0 (ap action_of e.if-expands.true) refl (pre.1.1 e.if-noted.true))
+    (pre.0, (pre.1.0.source, noted-opens pre.1.0 (ap action_of e.if-expands.true) refl (pre.1.1 e.if-noted.true)))
 
 kept-rows-requires : tie.Need-kept_rows-requires
 kept-rows-requires c κs =
