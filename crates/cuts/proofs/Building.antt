@@ -4,8 +4,8 @@ use native.Mathlib.Nat.{mul_comm, sub-zero}
 use native.Mathlib.Omega.{arith}
 use mathlib.Core.Path.{◌≡◌, refl, sym, ap, ap₂, ◌∙◌}
 use mathlib.Core.List.{List, [], ◌∷◌, ◌++◌, append_assoc}
-use lib.ListN.{length, get_or, take, drop, set, replicate}
-use lib.Seq.{get_or-take, take_all, length-take-le, slice_empty, slice-cons, sets, length-sets, sets-eq, drop_at, take-nil}
+use lib.ListN.{length, get_or, take, drop, set, replicate, drop_of_length-le}
+use lib.Seq.{get_or-take, take_all, length-take-le, slice_empty, slice-cons, sets, length-sets, sets-eq, drop_at, take-nil, take-length, drop-cons}
 use lib.IntN.{ℤ, pos}
 use Rattle.shape.specs.declared.Shape.{Shape}
 use Rattle.shape.specs.Shape.{max_rank, max_count, count, shape_of}
@@ -57,19 +57,18 @@ lengths-drop kind (suc k) (z ∷ zs) [] l = absurd (omega arith)
 lengths-drop kind (suc k) (z ∷ zs) (n ∷ ns) l = lengths-drop kind k zs ns (omega arith)
 
 -- What the loop has found of the result's lengths when it comes to axis i: the first i of n, and zeros.
-pub record Lengths (kind : CutKind) (rank : ℕ) (lens : List ℕ) (l : List ℤ) (n : ℕ) (xs : List ℕ) (i : ℕ) : Type 0 where
-  pub enough : rank ≤ length l
+pub record Lengths (kind : CutKind) (lens : List ℕ) (l : List ℤ) (n : ℕ) (xs : List ℕ) (i : ℕ) : Type 0 where
   pub long : length lens ≡ max_rank
-  pub all : n ≡ min rank max_rank
+  pub all : n ≡ min (length l) max_rank
   pub some : i ≤ n
   pub done : xs ≡ take i (cut_lengths kind (take n l) (take n lens)) ++ replicate (max_rank - i) 0
 
-module _ {kind : CutKind} {rank : ℕ} {lens : List ℕ} {l : List ℤ} {n : ℕ} {xs : List ℕ} {i : ℕ} (b : Lengths kind rank lens l n xs i) where
+module _ {kind : CutKind} {lens : List ℕ} {l : List ℤ} {n : ℕ} {xs : List ℕ} {i : ℕ} (b : Lengths kind lens l n xs i) where
   abbrev ms : List ℕ
   ms = cut_lengths kind (take n l) (take n lens)
 
   zs-long : length (take n l) ≡ n
-  zs-long = length-take-le n l (omega (arith, b.all, b.enough))
+  zs-long = length-take-le n l (omega (arith, b.all))
 
   ns-long : length (take n lens) ≡ n
   ns-long = length-take-le n lens (omega (arith, b.all, b.long))
@@ -77,26 +76,25 @@ module _ {kind : CutKind} {rank : ℕ} {lens : List ℕ} {l : List ℤ} {n : ℕ
   ms-long : length ms ≡ n
   ms-long = lengths-long kind (take n l) (take n lens) (zs-long ∙ sym ns-long) ∙ ns-long
 
-  pub lengths-more : (v : ℕ) → i < n → v ≡ cut_length kind (get_or l i (pos 0)) (get_or lens i 0) → Lengths kind rank lens l n (set xs i v) (i + 1)
+  pub lengths-more : (v : ℕ) → i < n → v ≡ cut_length kind (get_or l i (pos 0)) (get_or lens i 0) → Lengths kind lens l n (set xs i v) (i + 1)
   lengths-more v h f =
       let here : get_or ms i 0 ≡ v =
       lengths-at kind (take n l) (take n lens) i (rw zs-long h) (rw ns-long h)
       ∙ ap₂ (cut_length kind) (get_or-take n l i (pos 0) h) (get_or-take n lens i 0 h)
       ∙ sym f in
       record {
-        enough = b.enough;
         long = b.long;
         all = b.all;
         some = omega arith;
         done = rw (b.done, ← here) (padded-more ms max_rank i (omega (arith, ms-long)) (omega (arith, b.all)));
       }
 
-  pub lengths-all : n ≤ i → CutShape kind rank lens l (record { rank = rank; lens = xs })
+  pub lengths-all : n ≤ i → CutShape kind lens l (record { rank = length l; lens = xs })
   lengths-all h =
       let e : i ≡ n = omega (arith, b.some) in
       let whole : ◌≡◌ {A = Shape} (record { rank = n; lens = xs }) (shape_of ms) =
       ap₂ (λ x y. record { rank = x; lens = y }) (sym ms-long) (b.done ∙ rw (e, take_all n ms (omega (arith, ms-long)), ms-long)) in
-      record { rank_is = refl; made = λ h. let same : n ≡ rank = omega (arith, b.all) in rw same at whole }
+      record { rank_is = refl; made = λ h. let same : n ≡ length l = omega (arith, b.all) in rw (same, take-length l) at whole }
 
 -- Two lists of lengths that are the same from one axis on are so from the axis before it, if that is the same.
 pub same_more : (lens result : List ℕ) {rank i : ℕ} → 0 < i → i ≤ rank → rank ≤ length lens → rank ≤ length result
@@ -144,79 +142,79 @@ module _ (t : List ℕ) (p : ℕ) where
       ∙ ap (λ x. a ∷ b ∷ c ∷ d ∷ e ∷ x) (sym (drop-take (p + 5) n t))
 
 -- What the table's loop has built when it comes to axis i.
-pub record Built (kind : CutKind) (rank : ℕ) (lens : List ℕ) (l : List ℤ) (table : List ℕ) (step block i : ℕ) : Type 0 where
-  pub below : i ≤ rank
+pub record Built (kind : CutKind) (lens : List ℕ) (l : List ℤ) (table : List ℕ) (step block i : ℕ) : Type 0 where
+  pub below : i ≤ length l
   pub long : length table ≡ 5 * max_rank
-  pub rows : drop (i * 5) (take (rank * 5) table) ≡ table_of kind (drop i (take rank l)) (drop i (take rank lens))
-  pub steps : step ≡ count (drop i (take rank lens))
-  pub blocks : block ≡ count (cut_lengths kind (drop i (take rank l)) (drop i (take rank lens)))
+  pub rows : drop (i * 5) (take (length l * 5) table) ≡ table_of kind (drop i l) (drop i (take (length l) lens))
+  pub steps : step ≡ count (drop i (take (length l) lens))
+  pub blocks : block ≡ count (cut_lengths kind (drop i l) (drop i (take (length l) lens)))
 
-module _ {kind : CutKind} {rank : ℕ} {lens : List ℕ} {l : List ℤ} (c : Nonempty kind rank lens l) (long : length lens ≡ max_rank) where
-  pub built-none : (table : List ℕ) → length table ≡ 5 * max_rank → Built kind rank lens l table 1 1 rank
+module _ {kind : CutKind} {lens : List ℕ} {l : List ℤ} (c : Nonempty kind lens l) (long : length lens ≡ max_rank) where
+  pub built-none : (table : List ℕ) → length table ≡ 5 * max_rank → Built kind lens l table 1 1 (length l)
   unfolding table_of cut_lengths count
   built-none table t =
-      let zs : drop rank (take rank l) ≡ [] = slice_empty rank l in
-      let ns : drop rank (take rank lens) ≡ [] = slice_empty rank lens in
+      let zs : drop (length l) l ≡ [] = drop_of_length-le l {i = length l} (omega arith) in
+      let ns : drop (length l) (take (length l) lens) ≡ [] = slice_empty (length l) lens in
       record {
         below = omega arith;
-        rows = slice_empty (rank * 5) table ∙ sym (rw zs);
+        rows = slice_empty (length l * 5) table ∙ sym (rw zs);
         long = t;
         steps = sym (rw ns);
         blocks = sym (rw zs);
       }
 
-  pub built-all : {table : List ℕ} {step block i : ℕ} → i ≡ 0 → Built kind rank lens l table step block i
-      → take (rank * 5) table ≡ table_of kind (take rank l) (take rank lens)
+  pub built-all : {table : List ℕ} {step block i : ℕ} → i ≡ 0 → Built kind lens l table step block i
+      → take (length l * 5) table ≡ table_of kind l (take (length l) lens)
   built-all e b = rw e at b.rows
 
-  same : length (take rank l) ≡ length (take rank lens)
-  same = length-take-le rank l c.enough ∙ sym (length-take-le rank lens (omega (arith, c.high)))
+  same : length l ≡ length (take (length l) lens)
+  same = sym (length-take-le (length l) lens (omega (arith, c.high)))
 
-  module _ {table : List ℕ} {step block i : ℕ} (k : ℕ) (b : Built kind rank lens l table step block i) (e : i ≡ suc k) where
+  module _ {table : List ℕ} {step block i : ℕ} (k : ℕ) (b : Built kind lens l table step block i) (e : i ≡ suc k) where
     abbrev n : ℕ
     n = get_or lens k 0
 
     abbrev m : ℕ
     m = cut_length kind (get_or l k (pos 0)) n
 
-    ns-cons : drop k (take rank lens) ≡ n ∷ drop i (take rank lens)
-    ns-cons = slice-cons k rank lens 0 (omega (arith, b.below)) (omega (arith, c.high)) ∙ ap (λ x. n ∷ drop x (take rank lens)) (sym e)
+    ns-cons : drop k (take (length l) lens) ≡ n ∷ drop i (take (length l) lens)
+    ns-cons = slice-cons k (length l) lens 0 (omega (arith, b.below)) (omega (arith, c.high)) ∙ ap (λ x. n ∷ drop x (take (length l) lens)) (sym e)
 
-    zs-cons : drop k (take rank l) ≡ get_or l k (pos 0) ∷ drop i (take rank l)
-    zs-cons = slice-cons k rank l (pos 0) (omega (arith, b.below)) c.enough ∙ ap (λ x. get_or l k (pos 0) ∷ drop x (take rank l)) (sym e)
+    zs-cons : drop k l ≡ get_or l k (pos 0) ∷ drop i l
+    zs-cons = drop-cons l k (pos 0) (omega (arith, b.below)) ∙ ap (λ x. get_or l k (pos 0) ∷ drop x l) (sym e)
 
-    next-step : step * n ≡ count (drop k (take rank lens))
+    next-step : step * n ≡ count (drop k (take (length l) lens))
     unfolding count
     next-step = rw (ns-cons, b.steps) (mul_comm _ _)
 
-    next-block : block * m ≡ count (cut_lengths kind (drop k (take rank l)) (drop k (take rank lens)))
+    next-block : block * m ≡ count (cut_lengths kind (drop k l) (drop k (take (length l) lens)))
     unfolding count cut_lengths
     next-block = rw (ns-cons, zs-cons, b.blocks) (mul_comm _ _)
 
     -- The products stay within the limit.
     pub step_small : step * n ≤ max_count
-    step_small = rw next-step (omega (arith, (count-drop k (take rank lens) c.some).1, c.small))
+    step_small = rw next-step (omega (arith, (count-drop k (take (length l) lens) c.some).1, c.small))
 
     pub block-small : block * m ≤ max_count
     block-small =
-        rw (next-block, lengths-drop kind k (take rank l) (take rank lens) same)
-        (omega (arith, (count-drop k (cut_lengths kind (take rank l) (take rank lens)) c.result).1, c.limit))
+        rw (next-block, lengths-drop kind k l (take (length l) lens) same)
+        (omega (arith, (count-drop k (cut_lengths kind l (take (length l) lens)) c.result).1, c.limit))
 
     pub built-more : (table' : List ℕ) (w : Window) → table' ≡ stored table (k * 5) w.lead w.from w.len step block
-        → w ≡ window_of kind (get_or l k (pos 0)) n → Built kind rank lens l table' (step * n) (block * w.size) k
+        → w ≡ window_of kind (get_or l k (pos 0)) n → Built kind lens l table' (step * n) (block * w.size) k
     unfolding table_of
     built-more table' w t q =
-        let room : k * 5 + 5 ≤ rank * 5 = omega (arith, b.below) in
+        let room : k * 5 + 5 ≤ length l * 5 = omega (arith, b.below) in
         let wide : k * 5 + 5 ≤ length table = omega (arith, b.long, c.high) in
         let next : k * 5 + 5 ≡ i * 5 = omega arith in
-        let rest : drop (k * 5 + 5) (take (rank * 5) table) ≡ table_of kind (drop i (take rank l)) (drop i (take rank lens)) =
-        ap (λ x. drop x (take (rank * 5) table)) next ∙ b.rows in
+        let rest : drop (k * 5 + 5) (take (length l * 5) table) ≡ table_of kind (drop i l) (drop i (take (length l) lens)) =
+        ap (λ x. drop x (take (length l * 5) table)) next ∙ b.rows in
         record {
           below = omega (arith, b.below);
           long = ap length t ∙ stored-long table (k * 5) w.lead w.from w.len step block ∙ b.long;
           rows =
-              ap (λ x. drop (k * 5) (take (rank * 5) x)) t
-              ∙ stored-front table (k * 5) (rank * 5) w.lead w.from w.len step block room wide
+              ap (λ x. drop (k * 5) (take (length l * 5) x)) t
+              ∙ stored-front table (k * 5) (length l * 5) w.lead w.from w.len step block room wide
               ∙ rw (ns-cons, zs-cons, rest, b.steps, b.blocks, q);
           steps = next-step;
           blocks = ap (λ x. block * x.size) q ∙ next-block;

@@ -7,7 +7,7 @@ use mathlib.Core.Bool.{Bool, true, false, not, cond, ◌||◌, ◌&&◌}
 use borrow.Author.Tests.{eq-eqb, eqb-true, eqb-false}
 use lib.Dec.{eqb}
 use lib.ListN.{length, take, drop, replicate, length-replicate}
-use lib.Seq.{length-take-le, take-length}
+use lib.Seq.{length-take-le}
 use lib.IntN.{ℤ, pos}
 use Rattle.shape.specs.declared.Shape.{Shape}
 use Rattle.shape.specs.Shape.{max_rank, counted, count, count_of, shape_of}
@@ -92,7 +92,7 @@ pub record Cuts (kind : CutKind) (L : Array) (rs : Shape) (r : List ℤ) (zs : L
   pub fit : length L.elements ≡ rank (read L (array rs r))
   pub numbers : zs ≡ L.elements
   pub lens-are : lens ≡ read_lengths rs
-  pub shape : CutShape kind (length zs) lens zs s
+  pub shape : CutShape kind lens zs s
 
 module _ {kind : CutKind} {L : Array} {rs : Shape} {r zs : List ℤ} {lens : List ℕ} {s : Shape} (g : Cuts kind L rs r zs lens s) where
   abbrev R : Array
@@ -108,9 +108,6 @@ module _ {kind : CutKind} {L : Array} {rs : Shape} {r zs : List ℤ} {lens : Lis
   so-many : length L.elements ≡ k
   so-many = ap length (sym g.numbers)
 
-  numbers-read : take k zs ≡ L.elements
-  numbers-read = take-length zs ∙ g.numbers
-
   -- If a shape can have so many.
   lens-read : k ≤ max_rank → take k lens ≡ (read L R).lengths
   lens-read high = ap (take k) g.lens-are ∙ by (eqb rs.rank 0) refl
@@ -125,8 +122,8 @@ module _ {kind : CutKind} {L : Array} {rs : Shape} {r zs : List ℤ} {lens : Lis
           let same : read L R ≡ R = array-as (length L.elements) R (omega (arith, g.right.rank_is)) in
           ap (λ x. take x rs.lens) (sym so-many ∙ g.fit ∙ ap rank same ∙ g.right.rank_is) ∙ sym (ap (λ a. a.lengths) same)
 
-  lengths-are : k ≤ max_rank → cut_lengths kind (take k zs) (take k lens) ≡ ms
-  lengths-are h = ap₂ (cut_lengths kind) numbers-read (lens-read h) ∙ sym (cut-lengths L R g.fit kind)
+  lengths-are : k ≤ max_rank → cut_lengths kind zs (take k lens) ≡ ms
+  lengths-are h = ap₂ (cut_lengths kind) g.numbers (lens-read h) ∙ sym (cut-lengths L R g.fit kind)
 
   shape_is : k ≤ max_rank → s ≡ shape_of ms
   shape_is h = g.shape.made h ∙ ap shape_of (lengths-are h)
@@ -151,10 +148,9 @@ module _ {kind : CutKind} {L : Array} {rs : Shape} {r zs : List ℤ} {lens : Lis
     pub out-long : length (take c out) ≡ c
     out-long = length-take-le c out (omega (arith, b, room.space))
 
-    pub parts : Parts kind k lens s.lens zs (length src) (length (take c out))
+    pub parts : Parts kind lens s.lens zs (length src) (length (take c out))
     parts = record {
       high = high;
-      enough = omega arith;
       made = ap (λ x. take x s.lens) (sym g.shape.rank_is) ∙ ap counted (shape_is high) ∙ made_counted ms ∙ sym (lengths-are high);
       source = source-long ∙ sym (ap count (lens-read high) ∙ count-as (length L.elements) R);
       small = omega (arith, source-long, g.right.count_small);
@@ -165,10 +161,10 @@ module _ {kind : CutKind} {L : Array} {rs : Shape} {r zs : List ℤ} {lens : Lis
     pub given_is : s ≡ shape_of ms
     given_is = shape_is high
 
-    pub out-is : {last : List ℤ} → last ≡ tab (length (take c out)) (cut_at (table_of kind (take k zs) (take k lens)) src 0)
+    pub out-is : {last : List ℤ} → last ≡ tab (length (take c out)) (cut_at (table_of kind zs (take k lens)) src 0)
         → last ++ drop c out ≡ (build ms (cut_meaning kind L R).element).elements ++ drop (count ms) out
     out-is q =
-        ap₂ (λ x y. x ++ drop y out) (rw (out-long ∙ count-is, numbers-read, lens-read high, a, ← cut-elements L R g.fit kind) at q) count-is
+        ap₂ (λ x y. x ++ drop y out) (rw (out-long ∙ count-is, lens-read high, g.numbers, a, ← cut-elements L R g.fit kind) at q) count-is
 
 pub cut-ready : {kind : CutKind} {G K : ℤ} {L : Operand} {rs : Shape} {r zs : List ℤ} {lens : List ℕ} {s : Shape} → Cuts kind (array_of L) rs r zs lens s
     → early (good_form L && good_form (lent rs r)) G ≡ 0 → own (cut_number kind) (cut_meaning kind (array_of L) (array_of (lent rs r))).refusals ≡ 0

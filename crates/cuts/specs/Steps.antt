@@ -37,10 +37,10 @@ cut_lengths kind [] ns = []
 cut_lengths kind (z ∷ zs) [] = []
 cut_lengths kind (z ∷ zs) (n ∷ ns) = cut_length kind z n ∷ cut_lengths kind zs ns
 
--- The shape of a result by the first `rank` numbers of l: it has that rank and, where a shape can have it, the lengths that they leave.
-pub record CutShape (kind : CutKind) (rank : ℕ) (lens : List ℕ) (l : List ℤ) (s : Shape) : Type 0 where
-  pub rank_is : s.rank ≡ rank
-  pub made : rank ≤ max_rank → s ≡ shape_of (cut_lengths kind (take rank l) (take rank lens))
+-- The shape of a result by the numbers of l: it has an axis for each and, where a shape can have so many, the lengths that they leave.
+pub record CutShape (kind : CutKind) (lens : List ℕ) (l : List ℤ) (s : Shape) : Type 0 where
+  pub rank_is : s.rank ≡ length l
+  pub made : length l ≤ max_rank → s ≡ shape_of (cut_lengths kind l (take (length l) lens))
 
 -- The window of an axis.
 abbrev pub window_of : CutKind → ℤ → ℕ → Window
@@ -95,21 +95,19 @@ pub record Blank (whole : Bool) (start stop n : ℕ) (out : List ℤ) : Type 0 w
   pub after : (j : ℕ) → stop ≤ j → j < n → get_or out j (pos 0) ≡ pos 0
   pub between : whole ≡ false → (j : ℕ) → j < n → get_or out j (pos 0) ≡ pos 0
 
--- What is known of a cut with elements: one number in l for each of the first `rank` lengths, and neither R nor the result is empty.
-pub record Nonempty (kind : CutKind) (rank : ℕ) (lens : List ℕ) (l : List ℤ) : Type 0 where
-  pub high : rank ≤ max_rank
-  pub enough : rank ≤ length l
-  pub some : 0 < count (take rank lens)
-  pub small : count (take rank lens) ≤ max_count
-  pub result : 0 < count (cut_lengths kind (take rank l) (take rank lens))
-  pub limit : count (cut_lengths kind (take rank l) (take rank lens)) ≤ max_count
+-- What is known of a cut with elements: l has a number for each axis, lens the lengths that are read, and neither R nor the result is empty.
+pub record Nonempty (kind : CutKind) (lens : List ℕ) (l : List ℤ) : Type 0 where
+  pub high : length l ≤ max_rank
+  pub some : 0 < count (take (length l) lens)
+  pub small : count (take (length l) lens) ≤ max_count
+  pub result : 0 < count (cut_lengths kind l (take (length l) lens))
+  pub limit : count (cut_lengths kind l (take (length l) lens)) ≤ max_count
 
 -- The same of any cut: ms are the result's lengths, n and m the counts of R and of the result.
-pub record Parts (kind : CutKind) (rank : ℕ) (lens ms : List ℕ) (l : List ℤ) (n m : ℕ) : Type 0 where
-  pub high : rank ≤ max_rank
-  pub enough : rank ≤ length l
-  pub made : take rank ms ≡ cut_lengths kind (take rank l) (take rank lens)
-  pub source : n ≡ count (take rank lens)
+pub record Parts (kind : CutKind) (lens ms : List ℕ) (l : List ℤ) (n m : ℕ) : Type 0 where
+  pub high : length l ≤ max_rank
+  pub made : take (length l) ms ≡ cut_lengths kind l (take (length l) lens)
+  pub source : n ≡ count (take (length l) lens)
   pub small : n ≤ max_count
-  pub result : m ≡ count (cut_lengths kind (take rank l) (take rank lens))
+  pub result : m ≡ count (cut_lengths kind l (take (length l) lens))
   pub limit : m ≤ max_count

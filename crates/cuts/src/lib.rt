@@ -46,14 +46,12 @@ fn take_or_drop(
 {
     let (l, r) = answer::early_two(g, l, r)?;
     let numbers = cut_numbers(kind, &l, &r)?;
-    let rank = numbers.len();
     let lens = read_lengths(r.shape);
-    let shape = cut_shape(kind, rank, lens, numbers);
+    let shape = cut_shape(kind, lens, numbers);
     let count = shape.count();
     answer::late(count, out.len())?;
     fill(
         kind,
-        rank,
         lens,
         shape.lens,
         numbers,
@@ -90,10 +88,10 @@ fn read_lengths(rs: Shape) -> [usize; Shape::MAX_RANK]
 }
 
 // The result's shape. Of more axes than a shape can have, as a scalar R may be read with, it is bad by its rank, whatever the lengths.
-fn cut_shape(kind: CutKind, rank: usize, lens: [usize; Shape::MAX_RANK], l: &[i32]) -> Shape
-    requires { rank ≤ length l.now }
-    ensures { CutShape kind rank lens l.now result }
+fn cut_shape(kind: CutKind, lens: [usize; Shape::MAX_RANK], l: &[i32]) -> Shape
+    ensures { CutShape kind lens l.now result }
 {
+    let rank = l.len();
     let axes = rank.min(Shape::MAX_RANK);
     let mut result = [0; Shape::MAX_RANK];
     for axis in 0..axes {
@@ -116,15 +114,14 @@ fn cut_length(kind: CutKind, z: i32, n: usize) -> usize
 // The elements of a result: `r` and `out` are R and the result, whole.
 fn fill(
     kind: CutKind,
-    rank: usize,
     lens: [usize; Shape::MAX_RANK],
     res: [usize; Shape::MAX_RANK],
     l: &[i32],
     r: &[i32],
     out: &mut [i32],
 )
-    requires { Parts kind rank lens res l.now (length r.now) (length out.old) }
-    ensures { out.new ≡ tab (length out.old) (cut_at (table_of kind (take rank l.now) (take rank lens)) r.now 0) }
+    requires { Parts kind lens res l.now (length r.now) (length out.old) }
+    ensures { out.new ≡ tab (length out.old) (cut_at (table_of kind l.now (take (length l.now) lens)) r.now 0) }
 {
     if out.is_empty() {
         return;
@@ -133,12 +130,12 @@ fn fill(
         copying::fill_run(0, out);
         return;
     }
-    let used = cut_axes(rank, lens, res);
+    let used = cut_axes(l.len(), lens, res);
     if used == 0 {
         copying::copy_run(r, out);
         return;
     }
-    let table = table_of(kind, rank, lens, l);
+    let table = table_of(kind, lens, l);
     cut(&table[..used * WIDTH], 0, r, out);
 }
 
@@ -161,17 +158,16 @@ const WIDTH: usize = 5;
 // From the last axis to the first, since a position's elements are those of the axes after it.
 fn table_of(
     kind: CutKind,
-    rank: usize,
     lens: [usize; Shape::MAX_RANK],
     l: &[i32],
 ) -> [usize; WIDTH * Shape::MAX_RANK]
-    requires { Nonempty kind rank lens l.now }
-    ensures { take (rank * 5) result ≡ table_of kind (take rank l.now) (take rank lens) }
+    requires { Nonempty kind lens l.now }
+    ensures { take (length l.now * 5) result ≡ table_of kind l.now (take (length l.now) lens) }
 {
     let mut table = [0; WIDTH * Shape::MAX_RANK];
     let mut step = 1;
     let mut block = 1;
-    for axis in (0..rank).rev() {
+    for axis in (0..l.len()).rev() {
         let n = lens[axis];
         let w = window_on(kind, l[axis], n);
         let first = axis * WIDTH;

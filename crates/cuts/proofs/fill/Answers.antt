@@ -12,7 +12,7 @@ returns-then-is_empty-2 c =
     let e : length c.args.r.now ≡ 0 = search rules in fill-zeros _ c.args.r.now c.args.out.now _ e c.fill_run.ensures
 
 -- The axes up to the last that is not taken whole.
-known : (c : After-cut_axes-used) → Front c.args.kind c.args.rank c.args.lens c.args.res c.args.l.now c.args.r.now c.args.out.now c.cut_axes-used.result
+known : (c : After-cut_axes-used) → Front c.args.kind c.args.lens c.args.res c.args.l.now c.args.r.now c.args.out.now c.cut_axes-used.result
 known c =
     let long : length c.args.lens ≡ max_rank = search rules in
     let e = c.cut_axes-used.ensures in
