@@ -1,13 +1,13 @@
 -- The first position of an element, looked for from the front.
-use mathlib.Core.Path.{◌≡◌, refl, sym, ap, ◌∙◌}
-use mathlib.Core.List.{List, [], ◌∷◌}
+use mathlib.Core.Path.{◌≡◌, refl, sym, ap, ap₂, ◌∙◌}
+use mathlib.Core.List.{List, [], ◌∷◌, ◌++◌}
 use mathlib.Core.Bool.{Bool, true, false, cond}
 use Prim.Native.Nat.{ℕ, zero, suc, ◌+◌, ◌-◌, ◌≤◌, ◌<◌}
 use native.Mathlib.Nat.{zero-add}
 use native.Mathlib.Decide.{dec_lt}
 use native.Mathlib.Omega.{arith}
-use lib.ListN.{length, get_or, take, drop, drop_of_length-le}
-use lib.Seq.{drop-cons}
+use lib.ListN.{length, length-append, length-drop, get_or, take, drop, drop_of_length-le}
+use lib.Seq.{drop-cons, drop-drop, drop_at, take_at}
 use lib.IntN.{ℤ, pos}
 use borrow.Rule.Slice.PartMut.{mid_len}
 use mir.Syntax.{w32}
@@ -112,3 +112,14 @@ module _ {x : ℤ} {l : List ℤ} {n : ℕ} (p : Passed x l n) (e m : ℕ) (lo :
       let here = first_holds x part (rw (mid_len n e l room) (omega arith)) in
       let holds = sym (ap (int_same x) (part_at l n e m lo h)) ∙ ap (λ j. int_same x (get_or part j (pos 0))) q ∙ here in
       passed_here (passed-part (passed_first x part (m - n) (omega arith))) (omega arith) holds
+
+-- A block of elements that are passed over, as the chunks of what is left give it.
+pub passed-block : {x : ℤ} {l block rest : List ℤ} {n : ℕ} → Passed x l n → drop n l ≡ block ++ rest → length block ≡ 16
+    → Passed x block (length block) → Passed x l (n + 16) × (drop (n + 16) l ≡ rest)
+passed-block {x} {l} {block} {rest} {n} p e long q =
+    let whole = sym (length-drop n l) ∙ ap length e ∙ length-append block rest in
+    let s : length block ≡ n + 16 - n = omega arith in
+    let front : take (n + 16 - n) (drop n l) ≡ block = ap₂ take (sym s) e ∙ take_at block rest (length block) refl in (
+      passed-part p (n + 16) (n + 16) (omega arith) (omega arith) (omega (arith, p.inside)) (rw (front, sym s) q),
+      sym (drop-drop 16 n l) ∙ ap (drop 16) e ∙ drop_at block rest 16 long,
+    )

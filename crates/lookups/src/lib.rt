@@ -175,14 +175,12 @@ fn passed(l: &[i32], from: usize, x: i32) -> usize
     requires { Passed x l.now from }
     ensures { Passed x l.now result }
 {
-    let n = l.len();
     let mut start = from;
-    while BLOCK <= n - start {
-        let end = start + BLOCK;
-        if may_have(&l[start..end], x) {
+    for block in l[from..].chunks_exact(BLOCK) {
+        if may_have(block, x) {
             return start;
         }
-        start = end;
+        start += BLOCK;
     }
     start
 }
