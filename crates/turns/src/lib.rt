@@ -58,7 +58,8 @@ fn rotation(g: i32, k: i32, l: &Formed<'_>, r: &Formed<'_>) -> Result<(usize, i3
     if elements.len() != 1 {
         return Err(Refusal::Length);
     }
-    Ok((axis, elements[0]))
+    let amount = elements[0];
+    Ok((axis, amount))
 }
 
 // How the positions of an axis move: backwards, or by an amount. An enum, not a closure: the contracts speak of it, and which loops run is asked once.
