@@ -85,7 +85,8 @@ fn put_searched<const BITS: bool>(first: usize, l: &[i32], r: &[i32], out: &mut 
     r.len()
 }
 
-// Every element of r, looked for along its bucket's chain.
+// Every element of r, looked for along its bucket's chain. A function of its own: as a part of its caller its table would be on the stack of every call.
+#[inline(never)]
 fn put_hashed<const BITS: bool>(first: usize, l: &[i32], r: &[i32], out: &mut [i32])
     requires { Looks first l.now r.now (length out.old) }
     ensures { AllEntered BITS first l.now r.now out.old out.new }
