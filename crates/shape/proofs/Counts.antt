@@ -118,11 +118,6 @@ module _ (s : Shape) where
       by false e = e
 
 -- One axis more, the count held at the limit.
-pub held_more : (ns : List ℕ) (i total m : ℕ) → i < length ns → total ≡ held (count (take i ns)) → m ≡ held (get_or ns i 0)
-    → min (total * m) (suc max_count) ≡ held (count (take (i + 1) ns))
-held_more ns i total m l e f =
-    let n : ℕ = get_or ns i 0 in
-    let c : ℕ = suc max_count in
-    let a : ℕ = count (take i ns) in
-    rw (e, f, take_more ns i 0 l, count-snoc (take i ns) n)
-    (min-mul a (min n c) c ∙ ap (λ x. min x c) (mul_comm a (min n c)) ∙ min-mul n a c ∙ ap (λ x. min x c) (mul_comm n a))
+pub held_more : (ns : List ℕ) (i total : ℕ) → i < length ns → total ≡ held (count (take i ns))
+    → min (total * get_or ns i 0) (suc max_count) ≡ held (count (take (i + 1) ns))
+held_more ns i total l e = rw (e, take_more ns i 0 l, count-snoc (take i ns)) (min-mul (count (take i ns)) (get_or ns i 0) (suc max_count))

@@ -1,16 +1,12 @@
-use Rattle.std.proofs.Common.{◌≡◌, ◌∙◌, sym, take, length, get_or, rules, arith}
+use Rattle.std.proofs.Common.{◌≡◌, ◌∙◌, sym, take, length, get_or, arith}
 use Rattle.std.proofs.Math.Seq.{take-length}
 use Rattle.std.proofs.lemmas.List.{take_more}
-use Rattle.shape.specs.Shape.{counted, count, small}
+use Rattle.shape.specs.Shape.{counted}
 use Rattle.shape.proofs.Counts.{small-snoc, small-not, count-high-rank, count-long-axis, count_held, held_more}
 use Rattle.shape.proofs.Shape.count.Goals as goal
 
 pub returns-then-self-gt-MAX_RANK : goal.returns-then-self-gt-MAX_RANK
 returns-then-self-gt-MAX_RANK c = sym (count-high-rank c.args.self (omega arith))
-
-pub loop-n-init : goal.loop-n-init
-unfolding count small
-loop-n-init c = search rules
 
 pub returns-then-n-gt-MAX_COUNT : goal.returns-then-n-gt-MAX_COUNT
 returns-then-n-gt-MAX_COUNT c =
@@ -22,7 +18,7 @@ loop-n-preserved c =
     let ns = counted c.args.self in
     let l = c.loop-n in
     let n = get_or ns l.n-index 0 in (
-      c.capped-total.ensures ∙ held_more ns l.n-index l.total n c.loop-n-test.true l.invariant.0 (omega arith),
+      c.capped-total.ensures ∙ held_more ns l.n-index l.total c.loop-n-test.true l.invariant.0,
       rw (take_more ns l.n-index 0 c.loop-n-test.true) (small-snoc (take l.n-index ns) n l.invariant.1 (omega arith)),
     )
 
