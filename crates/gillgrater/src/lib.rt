@@ -75,12 +75,12 @@ pub extern "C" fn gillgrater_count(s: Shape) -> usize
 pub extern "C" fn gillgrater_max_rank() -> usize
     ensures { result ≡ max_rank }
 {
-    Shape::MAX_RANK
+    Shape::max_rank()
 }
 
 #[unsafe(no_mangle)]
 pub extern "C" fn gillgrater_max_count() -> usize
     ensures { result ≡ max_count }
 {
-    Shape::MAX_COUNT
+    Shape::max_count()
 }
