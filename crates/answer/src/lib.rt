@@ -7,7 +7,7 @@ ghost use Rattle.std.specs.Prelude.{◌≡◌, ◌&&◌, true, not, cond, ◌<�
 ghost use Rattle.meaning.specs.Array.{Operand, array_of, good_form};
 ghost use Rattle.meaning.specs.Terms.{rank, is_list, as_vector, within, from_zero};
 ghost use Rattle.meaning.specs.Refusal.{number};
-ghost use Rattle.meaning.specs.Refusal.Refusal.{AXIS};
+ghost use Rattle.meaning.specs.Refusal.Refusal.{FORM, AXIS};
 ghost use Rattle.answer.specs.Answer.{lent, WellFormed, early, late, accepted, refused};
 ghost use Rattle.answer.specs.Refused.{answered, asked};
 
@@ -39,6 +39,7 @@ impl Answer {
     }
 }
 
+#[tactic(auto, unfolding(crate::specs::Refused::answered))]
 impl From<Result<Shape, Refusal>> for Answer {
     ghost from_gives = { λ r a. a ≡ answered r };
 
@@ -63,7 +64,8 @@ impl<'a> Model for Operand<'a> {
     ghost view = { λ o. lent o.shape o.elements.now };
 }
 
-// An operand of good form: a good shape, and as many elements as it counts.
+// An operand of good form: a good shape, and as many elements as it counts. Two fields of its own, since the primitives would read each shape and each
+// buffer through an Operand in it.
 #[derive(Drop)]
 pub struct Formed<'a> {
     pub shape: Shape,
@@ -114,12 +116,27 @@ impl<'a> Formed<'a> {
 }
 
 impl<'a> Operand<'a> {
-    // A good shape, and as many elements as it counts.
+    // A good shape, and as many elements as it counts. C has the count of a bad shape as a number above the limit, which is tested here.
     pub fn good_form(&self) -> bool
         ensures { result ≡ good_form self.now }
     {
         let count = self.shape.count();
         count <= Shape::MAX_COUNT && count <= self.elements.len()
+    }
+
+    // FORM, or else the same as an operand of good form.
+    #[tactic(auto, unfolding(crate::specs::Refused::asked))]
+    fn formed(&self) -> Result<Formed<'a>, Refusal>
+        ensures number { asked result ≡ cond (good_form self.now) 0 (number FORM) }
+        ensures operand { IfOk result (λ f. f ≡ self.now) }
+    {
+        if !self.good_form() {
+            return Err(Refusal::Form);
+        }
+        Ok(Formed {
+            shape: self.shape,
+            elements: self.elements,
+        })
     }
 }
 
@@ -128,16 +145,11 @@ pub fn early_one<'a>(g: i32, r: &Operand<'a>) -> Result<Formed<'a>, Refusal>
     ensures number { asked result ≡ early (good_form r.now) g }
     ensures operand { IfOk result (λ f. f ≡ r.now) }
 {
-    if !r.good_form() {
-        return Err(Refusal::Form);
-    }
+    let formed = r.formed()?;
     if !signed::is_origin(g) {
         return Err(Refusal::Origin);
     }
-    Ok(Formed {
-        shape: r.shape,
-        elements: r.elements,
-    })
+    Ok(formed)
 }
 
 // FORM and ORIGIN with two operands.
@@ -149,14 +161,8 @@ pub fn early_two<'a>(
     ensures number { asked result ≡ early (good_form l.now && good_form r.now) g }
     ensures operands { IfOk result (λ f. (f.0 ≡ l.now) × (f.1 ≡ r.now)) }
 {
-    if !l.good_form() {
-        return Err(Refusal::Form);
-    }
+    let left = l.formed()?;
     let right = early_one(g, r)?;
-    let left = Formed {
-        shape: l.shape,
-        elements: l.elements,
-    };
     Ok((left, right))
 }
 
