@@ -2,7 +2,7 @@
 use mathlib.Core.Path.{◌≡◌, refl, sym, ap, ap₂, ◌∙◌}
 use mathlib.Core.List.{List, [], ◌∷◌, ◌++◌}
 use Prim.Native.Nat.{ℕ, zero, suc, ◌+◌, ◌*◌, ◌-◌, ◌≤◌, ◌<◌}
-use native.Mathlib.Nat.{zero-add, sub-zero, mul-add, mul-zero}
+use native.Mathlib.Nat.{sub-zero, mul-add, mul-zero}
 use native.Mathlib.Omega.{arith}
 use borrow.Rule.Slice.PartMut.{put_mid}
 use lib.ListN.{length, get_or, set, take, drop, replicate}
@@ -89,16 +89,16 @@ module _ (ts ns : List ℕ) (e : length ts ≡ length ns) where
         ∙ sym (index-dot ns (brought_back ts q) (length_back ts q ∙ e))
 
     -- The walk gives the elements that 15 and 26 mean.
-    walked-is : (b : List ℤ) → walked lens steps b 0 ≡ sent_elements ts (record { lengths = ns; elements = take (count ns) b })
+    walked-is : (b : List ℤ) → walked lens steps b ≡ sent_elements ts (record { lengths = ns; elements = take (count ns) b })
     unfolding walked build at
     walked-is b =
         tab-ext (count lens) _ _
         (λ j l.
         let i : In lens (place lens j) = place_in lens j l in
-        ap (λ x. get_or b x (pos 0)) (zero-add (dot (place lens j) steps) ∙ offset-is (place lens j) i)
+        ap (λ x. get_or b x (pos 0)) (offset-is (place lens j) i)
         ∙ sym (get_or-take (count ns) b (index ns (brought_back ts (place lens j))) (pos 0) (back-lt (place lens j) i)))
 
-    walk_is : (m room : ℕ) → count ns ≤ m → 0 < room → room ≡ count lens → Walk lens steps 0 m room
+    walk_is : (m room : ℕ) → count ns ≤ m → 0 < room → room ≡ count lens → Walk lens steps m room
     walk_is m room c some whole = record {
       axes = length-take-le (axes_to ts) (sent_strides max_rank ts (strides ns)) (rw (length-sent max_rank ts (strides ns)) few) ∙ sym (length-shape ts ns);
       some = some;
@@ -141,12 +141,12 @@ module _ {s : Sent} {shape : Shape} {total : ℕ} {rs : Shape} {r : List ℤ} {r
     steps-is : take (shape.rank - 0) ws ≡ steps ts (counted rs) same_rank few
     steps-is = ap₂ take (sub-zero shape.rank ∙ rank_is) q
 
-    pub into-walk : (part : ℕ) → 0 < total → part ≡ total → Walk (take (shape.rank - 0) shape.lens) (take (shape.rank - 0) ws) 0 (length r) part
+    pub into-walk : (part : ℕ) → 0 < total → part ≡ total → Walk (take (shape.rank - 0) shape.lens) (take (shape.rank - 0) ws) (length r) part
     into-walk part h e =
         rw (lens-is, steps-is) (walk_is ts (counted rs) same_rank few (length r) part (form-room (lent rs r) m.form) (omega arith) (e ∙ m.total-is))
 
-    pub into-all : (out last : List ℤ) → last ≡ walked (take (shape.rank - 0) shape.lens) (take (shape.rank - 0) ws) r 0
+    pub into-all : (out last : List ℤ) → last ≡ walked (take (shape.rank - 0) shape.lens) (take (shape.rank - 0) ws) r
         → put_mid 0 (total - 0) out last ≡ sent_elements ts (array_of (lent rs r)) ++ drop total out
     into-all out last w =
         ap₂ (λ x k. x ++ drop k out)
-        (w ∙ ap₂ (λ x y. walked x y r 0) lens-is steps-is ∙ walked-is ts (counted rs) same_rank few r) (sub-zero total)
+        (w ∙ ap₂ (λ x y. walked x y r) lens-is steps-is ∙ walked-is ts (counted rs) same_rank few r) (sub-zero total)

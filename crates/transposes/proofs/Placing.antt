@@ -1,6 +1,6 @@
 -- Elements written place by place: no law asks in which order, or that a place is written once.
 use mathlib.Core.Path.{◌≡◌, refl, sym, ap, subst₂, ◌∙◌}
-use mathlib.Core.List.{List, [], ◌∷◌}
+use mathlib.Core.List.{List, [], ◌∷◌, ◌++◌}
 use mathlib.Core.Bool.{Bool, true, false}
 use Prim.Native.Nat.{ℕ, ◌+◌, ◌*◌, ◌-◌, ◌≤◌, ◌<◌}
 use native.Mathlib.Nat.{add-zero, add-mul, zero-mul}
@@ -8,10 +8,12 @@ use native.Mathlib.Omega.{arith}
 use borrow.Author.Tests.{ltb-true, ltb-false, eqb-true, eqb-false}
 use lib.Dec.{ltb, eqb}
 use lib.IntN.{ℤ, pos}
-use lib.ListN.{length, get_or, set, length-set}
-use lib.Seq.{get_or-set_same, get_or-set_other}
+use borrow.Rule.Slice.PartMut.{put_mid, mid_len, same_len_mid}
+use lib.ListN.{length, get_or, set, take, drop, length-set, get_or-append}
+use lib.Seq.{get_or-set_same, get_or-set_other, get_or-take, get_or-drop, length-take-le, drop-drop}
+use Rattle.std.proofs.lemmas.List.{take_rest, drop_all, append-nil, get_or-append-add}
 use Rattle.transposes.specs.declared.Axis.{Axis}
-use Rattle.transposes.specs.Steps.Placed.{Spot, Reach, Wanted, Agrees, Kept, Placed}
+use Rattle.transposes.specs.Steps.Placed.{Spot, Reach, Agrees, Kept, Placed}
 use Rattle.transposes.specs.Steps.Placed.Spot.{here, further}
 
 -- n positions of an axis.
@@ -49,8 +51,18 @@ one_spot {w} {o} {d} {e} s =
     let y : e ≡ 0 * o + e = omega (arith, zero-mul o) in
     further {a = axis_by 1 w o} 0 d e (omega arith) s x y
 
+-- What is left of a list from some place on, as the code takes it.
+abbrev pub rest_of : {A : Type 0} → List A → ℕ → List A
+rest_of xs from = take (length xs - from) (drop from xs)
+
+pub rest-long : {A : Type 0} (xs : List A) (from : ℕ) → from ≤ length xs → length (rest_of xs from) ≡ length xs - from
+rest-long xs from h = mid_len from (length xs) xs (omega arith)
+
+pub rest-at : (xs : List ℤ) (from i : ℕ) → get_or (rest_of xs from) i (pos 0) ≡ get_or xs (from + i) (pos 0)
+rest-at xs from i = ap (λ ys. get_or ys i (pos 0)) (take_rest xs from) ∙ get_or-drop from xs i (pos 0)
+
 -- The places of fewer axes, and of a part of an axis, lie in R and in the buffer where all do.
-module _ {n w o at m to room : ℕ} {rest : List Axis} (k : Reach (axis_by n w o ∷ rest) at m to room) where
+module _ {n w o m room : ℕ} {rest : List Axis} (k : Reach (axis_by n w o ∷ rest) m room) where
   pub reach-some : 0 < n
   reach-some = by k.some.2
     where
@@ -63,86 +75,140 @@ module _ {n w o at m to room : ℕ} {rest : List Axis} (k : Reach (axis_by n w o
       by : {d e : ℕ} → Spot (axis_by n w o ∷ rest) d e → (d : ℕ) × (e : ℕ) × Spot rest d e
       by (further i c f l s p q) = (c, f, s)
 
-  -- At one position of the first axis, and where that starts.
-  pub reach-inner : (i : ℕ) → i < n → Reach rest (at + i * w) m (to + i * o) room
-  reach-inner i l = record {
-    some = some-inner;
-    lie = λ d e s. let x = k.lie _ _ (further {a = axis_by n w o} i d e l s refl refl) in (omega arith, omega arith);
-  }
+  -- Where a position of the first axis starts.
+  pub reach-from : (i : ℕ) → i < n → (i * w < m) × (i * o < room)
+  reach-from i l = let x = k.lie _ _ (further {a = axis_by n w o} i _ _ l some-inner.2 refl refl) in (omega arith, omega arith)
 
-  pub reach-from : (i : ℕ) → i < n → (at + i * w < m) × (to + i * o < room)
-  reach-from i l = let x = (reach-inner i l).lie _ _ some-inner.2 in (omega arith, omega arith)
+-- At one position of the first axis, and at some positions of it from l on.
+module _ {n w o : ℕ} {rest : List Axis} (r out₀ out : List ℤ) (k : Reach (axis_by n w o ∷ rest) (length r) (length out₀)) (z : length out ≡ length out₀) where
+  pub reach-inner : (i : ℕ) → i < n → Reach rest (length (rest_of r (i * w))) (length (rest_of out (i * o)))
+  reach-inner i l =
+      let b = reach-from k i l in
+      record {
+        some = some-inner k;
+        lie = λ d e s.
+            let x = k.lie _ _ (further {a = axis_by n w o} i d e l s refl refl) in
+            (omega (arith, rest-long r (i * w)), omega (arith, rest-long out (i * o)));
+      }
 
-  -- At some positions of it, from l on.
-  pub reach-strip : (l j : ℕ) → 0 < j → l + j ≤ n → Reach (axis_by j w o ∷ rest) (at + l * w) m (to + l * o) room
-  reach-strip l j h b = record {
-    some = (_, _, further {a = axis_by j w o} 0 _ _ h some-inner.2 refl refl);
-    lie = λ d e s. let x = k.lie _ _ (spot-from l b s) in (omega arith, omega arith);
-  }
+  pub reach-strip : (l j : ℕ) → 0 < j → l + j ≤ n → Reach (axis_by j w o ∷ rest) (length (rest_of r (l * w))) (length (rest_of out (l * o)))
+  reach-strip l j h b =
+      let f = reach-from k l (omega arith) in
+      record {
+        some = (_, _, further {a = axis_by j w o} 0 _ _ h (some-inner k).2 refl refl);
+        lie = λ d e s.
+            let x = k.lie _ _ (spot-from l b s) in
+            (omega (arith, rest-long r (l * w)), omega (arith, rest-long out (l * o)));
+      }
 
-pub reach-swap : {a b : Axis} {rest : List Axis} {at m to room : ℕ} → Reach (a ∷ (b ∷ rest)) at m to room → Reach (b ∷ (a ∷ rest)) at m to room
+pub reach-swap : {a b : Axis} {rest : List Axis} {m room : ℕ} → Reach (a ∷ (b ∷ rest)) m room → Reach (b ∷ (a ∷ rest)) m room
 reach-swap k = record { some = (_, _, spot-swap k.some.2); lie = λ d e s. k.lie d e (spot-swap s) }
 
 -- Written along axes with the same places.
-placed_same : {xs ys : List Axis} {r : List ℤ} {at to : ℕ} {out last : List ℤ}
-    → ((d e : ℕ) → Spot xs d e → Spot ys d e) → ((d e : ℕ) → Spot ys d e → Spot xs d e) → Placed xs r at to out last → Placed ys r at to out last
+placed_same : {xs ys : List Axis} {r out last : List ℤ}
+    → ((d e : ℕ) → Spot xs d e → Spot ys d e) → ((d e : ℕ) → Spot ys d e → Spot xs d e) → Placed xs r out last → Placed ys r out last
 placed_same f g k = record {
   room = k.room;
   each = λ T w. let x = k.each T (λ d e s. w d e (f d e s)) in (x.0, λ d e s. x.1 d e (g d e s));
 }
 
-pub placed-swap : {a b : Axis} {rest : List Axis} {r : List ℤ} {at to : ℕ} {out last : List ℤ}
-    → Placed (a ∷ (b ∷ rest)) r at to out last → Placed (b ∷ (a ∷ rest)) r at to out last
+pub placed-swap : {a b : Axis} {rest : List Axis} {r out last : List ℤ} → Placed (a ∷ (b ∷ rest)) r out last → Placed (b ∷ (a ∷ rest)) r out last
 placed-swap k = placed_same (λ d e s. spot-swap s) (λ d e s. spot-swap s) k
 
+-- The same from a place in R and one in the buffer on.
+pub record PlacedFrom (axes : List Axis) (r : List ℤ) (at to : ℕ) (out last : List ℤ) : Type 0 where
+  pub room : length last ≡ length out
+  pub each : (T : List ℤ) → ((d e : ℕ) → Spot axes d e → get_or T (to + e) (pos 0) ≡ get_or r (at + d) (pos 0))
+      → Kept T out last × ((d e : ℕ) → Spot axes d e → get_or last (to + e) (pos 0) ≡ get_or T (to + e) (pos 0))
+
+-- What is written to the rest of the buffer.
+abbrev pub put : ℕ → List ℤ → List ℤ → List ℤ
+put to out part = put_mid to (length out - to) out part
+
+module _ (to : ℕ) (out part : List ℤ) (h : to ≤ length out) where
+  front : length (take to out) ≡ to
+  front = length-take-le to out h
+
+  put-is : put to out part ≡ take to out ++ part
+  put-is =
+      ap (λ x. take to out ++ (part ++ x)) (drop-drop (length out - to) to out ∙ drop_all (to + (length out - to)) out (omega arith))
+      ∙ ap (λ x. take to out ++ x) (append-nil part)
+
+  put-before : (q : ℕ) → q < to → get_or (put to out part) q (pos 0) ≡ get_or out q (pos 0)
+  put-before q l = ap (λ xs. get_or xs q (pos 0)) put-is ∙ get_or-append (take to out) part (pos 0) q (omega (arith, front)) ∙ get_or-take to out q (pos 0) l
+
+  put-after : (i : ℕ) → get_or (put to out part) (to + i) (pos 0) ≡ get_or part i (pos 0)
+  put-after i =
+      ap (λ xs. get_or xs (to + i) (pos 0)) put-is
+      ∙ ap (λ n. get_or (take to out ++ part) (n + i) (pos 0)) (sym front)
+      ∙ get_or-append-add (take to out) part i (pos 0)
+
+-- Written to the rest of the buffer from the rest of R.
+pub placed_rest : {axes : List Axis} {r out part : List ℤ} (at to : ℕ) → to ≤ length out → Placed axes (rest_of r at) (rest_of out to) part
+    → PlacedFrom axes r at to out (put to out part)
+placed_rest {axes} {r} {out} {part} at to h p = record {
+  room = same_len_mid to (length out - to) out part p.room;
+  each = λ T f.
+      let x = p.each (rest_of T to) (λ d e s. rest-at T to e ∙ f d e s ∙ sym (rest-at r at d)) in
+      ((λ q k. kept T x.0 q k (ltb q to) refl), λ d e s. put-after to out part h e ∙ x.1 d e s ∙ rest-at T to e);
+}
+  where
+    kept : (T : List ℤ) → Kept (rest_of T to) (rest_of out to) part → (q : ℕ) → get_or out q (pos 0) ≡ get_or T q (pos 0) → (b : Bool) → ltb q to ≡ b
+        → get_or (put to out part) q (pos 0) ≡ get_or T q (pos 0)
+    kept T x q k true b = put-before to out part h q (ltb-true q to b) ∙ k
+    kept T x q k false b =
+        let l : to ≤ q = ltb-false q to b in
+        let z : to + (q - to) ≡ q = omega arith in
+        rw z at (put-after to out part h (q - to) ∙ x (q - to) (rest-at out to (q - to) ∙ rw z k ∙ sym (rw z at (rest-at T to (q - to)))) ∙ rest-at T to (q - to))
+
 -- No position, one more, and a strip of them from l on.
-module _ {w o : ℕ} {rest : List Axis} {r : List ℤ} {at to : ℕ} where
-  pub placed-none : (out : List ℤ) → Placed (axis_by 0 w o ∷ rest) r at to out out
+module _ {w o : ℕ} {rest : List Axis} {r : List ℤ} where
+  pub placed-none : (out : List ℤ) → Placed (axis_by 0 w o ∷ rest) r out out
   placed-none out = record { room = refl; each = λ T h. ((λ q e. e), λ d e s. none-agrees T d e s) }
     where
-      none-agrees : (T : List ℤ) → Agrees (axis_by 0 w o ∷ rest) to T out
+      none-agrees : (T : List ℤ) → Agrees (axis_by 0 w o ∷ rest) T out
       none-agrees T d e (further i c f l s p q) = absurd (omega arith)
 
-  pub placed-strip : {l k i n : ℕ} {out₀ out last : List ℤ} → l ≤ i → i ≤ n → n ≡ l + k → Placed (axis_by i w o ∷ rest) r at to out₀ out
-      → Placed (axis_by k w o ∷ rest) r (at + l * w) (to + l * o) out last → Placed (axis_by n w o ∷ rest) r at to out₀ last
+  pub placed-strip : {l k i n : ℕ} {out₀ out last : List ℤ} → l ≤ i → i ≤ n → n ≡ l + k → Placed (axis_by i w o ∷ rest) r out₀ out
+      → PlacedFrom (axis_by k w o ∷ rest) r (l * w) (l * o) out last → Placed (axis_by n w o ∷ rest) r out₀ last
   placed-strip {l} {k} {i} {n} {out₀} {out} {last} h m z a b = record {
     room = b.room ∙ a.room;
     each = λ T f.
         let x = a.each T (λ d e s. f d e (spot-fewer m s)) in
-        let y = b.each T (λ d e s. wanted T f d e s) in
+        let y = b.each T (λ d e s. f _ _ (spot-from l (omega arith) s)) in
         ((λ q e. y.0 q (x.0 q e)), λ d e s. agrees T x.1 y.0 y.1 d e s);
   }
     where
-      at_from : (x v d : ℕ) → x + l * v + d ≡ x + (l * v + d)
-      at_from x v d = omega arith
-
-      wanted : (T : List ℤ) → Wanted (axis_by n w o ∷ rest) r at to T → Wanted (axis_by k w o ∷ rest) r (at + l * w) (to + l * o) T
-      wanted T f d e s =
-          ap (λ x. get_or T x (pos 0)) (at_from to o e) ∙ f _ _ (spot-from l (omega arith) s) ∙ ap (λ x. get_or r x (pos 0)) (sym (at_from at w d))
-
-      agrees : (T : List ℤ) → Agrees (axis_by i w o ∷ rest) to T out → Kept T out last → Agrees (axis_by k w o ∷ rest) (to + l * o) T last
-          → Agrees (axis_by n w o ∷ rest) to T last
+      agrees : (T : List ℤ) → Agrees (axis_by i w o ∷ rest) T out → Kept T out last
+          → ((d e : ℕ) → Spot (axis_by k w o ∷ rest) d e → get_or last (l * o + e) (pos 0) ≡ get_or T (l * o + e) (pos 0))
+          → Agrees (axis_by n w o ∷ rest) T last
       agrees T f g s d e (further j c v b t p q) = by (ltb j i) refl
         where
-          by : (b : Bool) → ltb j i ≡ b → get_or last (to + e) (pos 0) ≡ get_or T (to + e) (pos 0)
+          by : (b : Bool) → ltb j i ≡ b → get_or last e (pos 0) ≡ get_or T e (pos 0)
           by true y = g _ (f d e (further {a = axis_by i w o} j c v (ltb-true j i y) t p q))
           by false y =
               let y' : i ≤ j = ltb-false j i y in
               let u : l + (j - l) ≡ j = omega arith in
-              let x : to + l * o + ((j - l) * o + v) ≡ to + e = omega (arith, add-mul l (j - l) o, ap (λ k. k * o) u) in
+              let x : l * o + ((j - l) * o + v) ≡ e = omega (arith, add-mul l (j - l) o, ap (λ k. k * o) u) in
               rw x at (s _ _ (further {a = axis_by k w o} (j - l) c v (omega arith) t refl refl))
 
-  pub placed-more : {i : ℕ} {out₀ out last : List ℤ} → Placed (axis_by i w o ∷ rest) r at to out₀ out
-      → Placed rest r (at + i * w) (to + i * o) out last → Placed (axis_by (i + 1) w o ∷ rest) r at to out₀ last
-  placed-more a b = placed-strip (omega arith) (omega arith) refl a (placed_same (λ d e s. one_spot s) (λ d e s. spot-one s) b)
+  -- Position i by itself.
+  pub placed-more : {i : ℕ} {out₀ out last : List ℤ} → Placed (axis_by i w o ∷ rest) r out₀ out
+      → PlacedFrom (axis_by 1 w o ∷ rest) r (i * w) (i * o) out last → Placed (axis_by (i + 1) w o ∷ rest) r out₀ last
+  placed-more a b = placed-strip (omega arith) (omega arith) refl a b
+
+  pub placed_one : {out part : List ℤ} (at to : ℕ) → to ≤ length out → Placed rest (rest_of r at) (rest_of out to) part
+      → PlacedFrom (axis_by 1 w o ∷ rest) r at to out (put to out part)
+  placed_one at to h b = placed_rest at to h (placed_same (λ d e s. one_spot s) (λ d e s. spot-one s) b)
 
 -- One element.
-pub placed-set : (r : List ℤ) (at to : ℕ) (out : List ℤ) (v : ℤ) → to < length out → v ≡ get_or r at (pos 0) → Placed [] r at to out (set out to v)
-placed-set r at to out v h e = record {
+pub placed-set : {w o : ℕ} (r : List ℤ) (at to : ℕ) (out : List ℤ) (v : ℤ) → to < length out → v ≡ get_or r at (pos 0)
+    → PlacedFrom (axis_by 1 w o ∷ []) r at to out (set out to v)
+placed-set {w} {o} r at to out v h e = record {
   room = length-set out to v;
   each = λ T f.
-      let x : v ≡ get_or T to (pos 0) = e ∙ sym (rw (add-zero to, add-zero at) at (f 0 0 (here refl refl))) in
-      ((λ q k. kept T x q k (eqb q to) refl), λ d f s. agrees T x d f s);
+      let x : v ≡ get_or T to (pos 0) = e ∙ sym (rw (add-zero to, add-zero at) at (f 0 0 (one_spot (here refl refl)))) in
+      ((λ q k. kept T x q k (eqb q to) refl), λ d f s. agrees T x d f (spot-one s));
 }
   where
     kept : (T : List ℤ) → v ≡ get_or T to (pos 0) → (q : ℕ) → get_or out q (pos 0) ≡ get_or T q (pos 0) → (b : Bool) → eqb q to ≡ b
@@ -152,7 +218,7 @@ placed-set r at to out v h e = record {
         ap (λ y. get_or (set out to v) y (pos 0)) s ∙ get_or-set_same out to v (pos 0) h ∙ x ∙ sym (ap (λ y. get_or T y (pos 0)) s)
     kept T x q k false t = get_or-set_other out to q v (pos 0) (eqb-false q to t) ∙ k
 
-    agrees : (T : List ℤ) → v ≡ get_or T to (pos 0) → Agrees [] to T (set out to v)
+    agrees : (T : List ℤ) → v ≡ get_or T to (pos 0) → (d f : ℕ) → Spot [] d f → get_or (set out to v) (to + f) (pos 0) ≡ get_or T (to + f) (pos 0)
     agrees T x d f (here p q) =
         let z : to + f ≡ to = omega arith in
         ap (λ y. get_or (set out to v) y (pos 0)) z ∙ get_or-set_same out to v (pos 0) h ∙ x ∙ sym (ap (λ y. get_or T y (pos 0)) z)

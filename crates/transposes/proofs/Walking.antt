@@ -2,12 +2,12 @@
 use mathlib.Core.Path.{◌≡◌, refl, sym, ap, ap₂, subst₂, ◌∙◌}
 use mathlib.Core.List.{List, [], ◌∷◌}
 use Prim.Native.Nat.{ℕ, ◌+◌, ◌*◌, ◌-◌, ◌/◌, ◌%◌, ◌≤◌, ◌<◌}
-use native.Mathlib.Nat.{zero-add, add-zero, add_assoc, mul-one, div-one, mul-div_cancel_left, div-add-mod', mod-lt}
+use native.Mathlib.Nat.{zero-add, sub-zero, add-zero, mul-one, div-one, mul-div_cancel_left, div-add-mod', mod-lt}
 use native.Mathlib.Omega.{arith}
-use borrow.Rule.Slice.PartMut.{put_mid, mid_len}
+use borrow.Rule.Slice.PartMut.{put_mid}
 use lib.Arith.{digits_lt, digits_div, digits_mod}
 use lib.ListN.{length, get_or, take, drop}
-use lib.Seq.{take_all, ext_get_or}
+use lib.Seq.{take_all, ext_get_or, length-take-le}
 use lib.IntN.{ℤ, pos}
 use Rattle.shape.specs.Shape.{count}
 use Rattle.shape.specs.Place.{place}
@@ -23,23 +23,23 @@ use Rattle.transposes.specs.Steps.Strides.{dot, LineIn, strided, walked, Walk}
 use Rattle.transposes.specs.Steps.Placed.{Spot, Reach, Wanted, Placed, row_axes, Blocked}
 use Rattle.transposes.specs.Steps.Placed.Spot.{here, further}
 use Rattle.transposes.specs.declared.Axis.{Axis}
-use Rattle.transposes.proofs.Placing.{axis_by, reach-some, reach-inner, reach-from, reach-swap}
+use Rattle.transposes.proofs.Placing.{axis_by, rest_of, rest-at, reach-some, reach-inner, reach-from, reach-swap}
 
-pub strided-filled : (n w : ℕ) (r : List ℤ) (at : ℕ) (out out₀ : List ℤ) → n ≡ length out₀
-    → out ≡ filled (λ i. get_or r (at + i * w) (pos 0)) n out₀ → out ≡ strided (length out₀) w r at
+pub strided-filled : (n w : ℕ) (r : List ℤ) (out out₀ : List ℤ) → n ≡ length out₀
+    → out ≡ filled (λ i. get_or r (i * w) (pos 0)) n out₀ → out ≡ strided (length out₀) w r
 unfolding strided
-strided-filled n w r at out out₀ e q = q ∙ filled-whole _ n out₀ (omega arith) ∙ ap (λ k. tab k (λ i. get_or r (at + i * w) (pos 0))) e
+strided-filled n w r out out₀ e q = q ∙ filled-whole _ n out₀ (omega arith) ∙ ap (λ k. tab k (λ i. get_or r (i * w) (pos 0))) e
 
 -- Neighbours are a run.
-pub run-strided : (r out last : List ℤ) (at w e : ℕ) → w ≡ 1 → e ≡ at + length out → e ≤ length r → last ≡ copied (take (e - at) (drop at r)) out
-    → last ≡ strided (length out) w r at
+pub run-strided : (r out last : List ℤ) (w : ℕ) → w ≡ 1 → 0 < length out → LineIn (length out) w (length r)
+    → last ≡ copied (take (length out - 0) r) out → last ≡ strided (length out) w r
 unfolding strided
-run-strided r out last at w e one end room q =
-    let n : e - at ≡ length out = omega arith in
-    q ∙ copied-whole (take (e - at) (drop at r)) out (mid_len at e r room ∙ n)
-    ∙ ap (λ k. take k (drop at r)) n
-    ∙ tab-part r at (length out) (pos 0) (omega arith)
-    ∙ tab-ext (length out) _ _ (λ i l. ap (λ k. get_or r (at + k) (pos 0)) (sym (mul-one i) ∙ ap (λ k. i * k) (sym one)))
+run-strided r out last w one some lies q =
+    let room : length out ≤ length r = omega (arith, rw one at (lies (length out - 1) (omega arith))) in
+    q ∙ copied-whole (take (length out - 0) r) out (length-take-le (length out - 0) r (omega arith) ∙ sub-zero (length out))
+    ∙ ap (λ k. take k r) (sub-zero (length out))
+    ∙ tab-part r 0 (length out) (pos 0) (omega arith)
+    ∙ tab-ext (length out) _ _ (λ i l. ap (λ k. get_or r k (pos 0)) (zero-add i ∙ sym (mul-one i) ∙ ap (λ k. i * k) (sym one)))
 
 -- What k axes have after the first.
 abbrev pub others : ℕ → List ℕ → List ℕ
@@ -59,8 +59,8 @@ unfolding place dot
 dot-place n ns w ws i j l = ap₂ (λ x y. x * w + dot (place ns y) ws) (digits_div i l) (digits_mod i l)
 
 -- Where element j of the walk stands.
-abbrev pub reached : List ℕ → List ℕ → List ℤ → ℕ → ℕ → ℤ
-reached ns ws r at j = get_or r (at + dot (place ns j) ws) (pos 0)
+abbrev pub reached : List ℕ → List ℕ → List ℤ → ℕ → ℤ
+reached ns ws r j = get_or r (dot (place ns j) ws) (pos 0)
 
 -- A walk over an axis and others.
 pub record Rows (n : ℕ) (ns : List ℕ) (room : ℕ) : Type 0 where
@@ -70,73 +70,75 @@ pub record Rows (n : ℕ) (ns : List ℕ) (room : ℕ) : Type 0 where
   pub whole : room ≡ n * count ns
   pub size : room / n ≡ count ns
 
-module _ {n : ℕ} {ns : List ℕ} {w : ℕ} {ws : List ℕ} {at m room : ℕ} (k : Walk (n ∷ ns) (w ∷ ws) at m room) where
+module _ {n : ℕ} {ns : List ℕ} {w : ℕ} {ws : List ℕ} {m room : ℕ} (k : Walk (n ∷ ns) (w ∷ ws) m room) where
   pub walk_rows : Rows n ns room
   unfolding count
   walk_rows =
       let b = factor n (count ns) room k.whole k.some in
       record { first = b.0; some = b.1; few = b.2; whole = k.whole; size = ap (λ x. x / n) k.whole ∙ mul-div_cancel_left (count ns) b.0 }
 
-  pub walk-inner : (i part : ℕ) → i < n → part ≡ count ns → Walk ns ws (at + i * w) m part
+  reached-in : (i j : ℕ) → i < n → j < count ns → i * w + dot (place ns j) ws < m
   unfolding count
-  walk-inner i part l q = record {
+  reached-in i j l h =
+      let x : i * count ns + j < n * count ns = digits_lt l h in
+      omega (arith, k.reach (i * count ns + j) (omega (arith, k.whole)), dot-place n ns w ws i j h)
+
+  pub walk_from : LineIn n w m
+  walk_from i l = omega (arith, reached-in i 0 l walk_rows.some)
+
+  pub walk-inner : (i rest part : ℕ) → i < n → rest ≡ m - i * w → part ≡ count ns → Walk ns ws rest part
+  walk-inner i rest part l e q = record {
     axes = omega (arith, k.axes);
     some = omega (arith, walk_rows.some);
     whole = q;
-    reach = λ j h.
-        let h' : j < count ns = omega arith in
-        let x : i * count ns + j < n * count ns = digits_lt l h' in
-        omega (arith, k.reach (i * count ns + j) (omega (arith, k.whole)), dot-place n ns w ws i j h');
+    reach = λ j h. omega (arith, reached-in i j l (omega arith));
   }
 
-  pub walk_from : LineIn n w at m
-  walk_from i l = omega (arith, (walk-inner i (count ns) l refl).reach 0 walk_rows.some)
-
 -- A walk's lists, taken apart as the code does.
-module _ {ns ws : List ℕ} {at m room : ℕ} (k : Walk ns ws at m room) where
-  pub walk_split : 0 < length ns → Walk (get_or ns 0 0 ∷ others (length ns) ns) (get_or ws 0 0 ∷ others (length ns) ws) at m room
-  walk_split h = subst₂ (λ x y. Walk x y at m room) (first-others (length ns) ns refl h) (first-others (length ns) ws (sym k.axes) h) k
+module _ {ns ws : List ℕ} {m room : ℕ} (k : Walk ns ws m room) where
+  pub walk_split : 0 < length ns → Walk (get_or ns 0 0 ∷ others (length ns) ns) (get_or ws 0 0 ∷ others (length ns) ws) m room
+  walk_split h = subst₂ (λ x y. Walk x y m room) (first-others (length ns) ns refl h) (first-others (length ns) ws (sym k.axes) h) k
 
   pub walked-split : (r : List ℤ) → 0 < length ns
-      → walked (get_or ns 0 0 ∷ others (length ns) ns) (get_or ws 0 0 ∷ others (length ns) ws) r at ≡ walked ns ws r at
+      → walked (get_or ns 0 0 ∷ others (length ns) ns) (get_or ws 0 0 ∷ others (length ns) ws) r ≡ walked ns ws r
   walked-split r h =
-      sym (ap₂ (λ x y. walked x y r at) (first-others (length ns) ns refl h) (first-others (length ns) ws (sym k.axes) h))
+      sym (ap₂ (λ x y. walked x y r) (first-others (length ns) ns refl h) (first-others (length ns) ws (sym k.axes) h))
 
   -- No axes: one element. One axis: a line.
   module _ (e : length ns ≡ 0) where
     no-axes : ns ≡ []
     no-axes = sym (take_all 0 ns (omega arith))
 
-    pub reach-none : LineIn room 1 at m
+    pub reach-none : LineIn room 1 m
     unfolding count
     reach-none i l = omega (arith, k.reach 0 k.some, k.whole, ap count no-axes)
 
-    pub walked_none : (r : List ℤ) → strided room 1 r at ≡ walked ns ws r at
+    pub walked_none : (r : List ℤ) → strided room 1 r ≡ walked ns ws r
     unfolding strided walked count place dot
     walked_none r =
-        ap (λ n. tab n (λ i. get_or r (at + i * 1) (pos 0))) (k.whole ∙ ap count no-axes)
-        ∙ tab-ext 1 _ _ (λ i l. ap (λ x. get_or r x (pos 0)) (let z : at + i * 1 ≡ at + 0 = omega arith in z))
-        ∙ sym (ap (λ x. walked x ws r at) no-axes)
+        ap (λ n. tab n (λ i. get_or r (i * 1) (pos 0))) (k.whole ∙ ap count no-axes)
+        ∙ tab-ext 1 _ _ (λ i l. ap (λ x. get_or r x (pos 0)) (let z : i * 1 ≡ 0 = omega arith in z))
+        ∙ sym (ap (λ x. walked x ws r) no-axes)
 
   module _ (e : length ns ≡ 1) where
     one-axis : ns ≡ get_or ns 0 0 ∷ []
     one-axis = first-others 1 ns (sym e) (omega arith)
 
-    pub reach-line : LineIn room (get_or ws 0 0) at m
+    pub reach-line : LineIn room (get_or ws 0 0) m
     unfolding count
     reach-line i l = walk_from (walk_split (omega arith)) i (omega (arith, k.whole, ap count one-axis))
 
-    pub walked_line : (r : List ℤ) → strided room (get_or ws 0 0) r at ≡ walked ns ws r at
+    pub walked_line : (r : List ℤ) → strided room (get_or ws 0 0) r ≡ walked ns ws r
     unfolding strided walked count place dot
     walked_line r =
         let w : ℕ = get_or ws 0 0 in
-        ap (λ c. tab c (λ i. get_or r (at + i * w) (pos 0))) (k.whole ∙ ap count one-axis)
-        ∙ tab-ext (get_or ns 0 0 * 1) _ _ (λ i l. ap (λ v. get_or r (at + v) (pos 0)) (sym (add-zero (i * w)) ∙ ap (λ v. v * w + 0) (sym (div-one i))))
-        ∙ sym (ap₂ (λ x y. walked x y r at) one-axis (first-others 1 ws (sym e ∙ sym k.axes) (omega arith)))
+        ap (λ c. tab c (λ i. get_or r (i * w) (pos 0))) (k.whole ∙ ap count one-axis)
+        ∙ tab-ext (get_or ns 0 0 * 1) _ _ (λ i l. ap (λ v. get_or r v (pos 0)) (sym (add-zero (i * w)) ∙ ap (λ v. v * w + 0) (sym (div-one i))))
+        ∙ sym (ap₂ (λ x y. walked x y r) one-axis (first-others 1 ws (sym e ∙ sym k.axes) (omega arith)))
 
 -- A walk part by part: i parts of the result are there.
-module _ {n : ℕ} {ns : List ℕ} {w : ℕ} {ws : List ℕ} {at m room : ℕ} (k : Walk (n ∷ ns) (w ∷ ws) at m room) (r : List ℤ) {out₀ out : List ℤ} {i : ℕ}
-    (b : Blockwise n (room / n) (reached (n ∷ ns) (w ∷ ws) r at) out₀ out (i * (room / n)) i) where
+module _ {n : ℕ} {ns : List ℕ} {w : ℕ} {ws : List ℕ} {room : ℕ} (r : List ℤ) (k : Walk (n ∷ ns) (w ∷ ws) (length r) room) {out₀ out : List ℤ} {i : ℕ}
+    (b : Blockwise n (room / n) (reached (n ∷ ns) (w ∷ ws) r) out₀ out (i * (room / n)) i) where
   pub walked-room : i < n → i * (room / n) + room / n ≤ room
   walked-room l = blockwise-room b room l (rw (walk_rows k).size (omega (arith, (walk_rows k).whole)))
 
@@ -144,25 +146,25 @@ module _ {n : ℕ} {ns : List ℕ} {w : ℕ} {ws : List ℕ} {at m room : ℕ} (
   abbrev c : ℕ
   c = room / n
 
-  pub walked_more : (last : List ℤ) → i < n → length last ≡ length (take (i * c + c - i * c) (drop (i * c) out)) → last ≡ walked ns ws r (at + i * w)
-      → Blockwise n c (reached (n ∷ ns) (w ∷ ws) r at) out₀ (put_mid (i * c) (i * c + c - i * c) out last) ((i + 1) * c) (i + 1)
+  pub walked_more : (last : List ℤ) → i < n → length last ≡ length (take (i * c + c - i * c) (drop (i * c) out)) → last ≡ walked ns ws (rest_of r (i * w))
+      → Blockwise n c (reached (n ∷ ns) (w ∷ ws) r) out₀ (put_mid (i * c) (i * c + c - i * c) out last) ((i + 1) * c) (i + 1)
   unfolding walked
   walked_more last l e q =
       let s : c ≡ count ns = (walk_rows k).size in
       let z : (i + 1) * c ≡ i * c + c = omega arith in
       rw z (blockwise-next b last l e
-      (put-list (reached (n ∷ ns) (w ∷ ws) r at) (pos 0) (i * c) c (i * c + c) out out₀ last b.done refl (ap length q ∙ length-tab _ _ ∙ sym s)
+      (put-list (reached (n ∷ ns) (w ∷ ws) r) (pos 0) (i * c) c (i * c + c) out out₀ last b.done refl (ap length q ∙ length-tab _ _ ∙ sym s)
       (λ j l.
       let l' : j < count ns = omega arith in
-      ap (λ x. get_or r (at + x) (pos 0)) (ap (λ x. dot (place (n ∷ ns) (i * x + j)) (w ∷ ws)) s ∙ dot-place n ns w ws i j l')
-      ∙ ap (λ x. get_or r x (pos 0)) (sym (add_assoc at (i * w) (dot (place ns j) ws)))
+      ap (λ x. get_or r x (pos 0)) (ap (λ x. dot (place (n ∷ ns) (i * x + j)) (w ∷ ws)) s ∙ dot-place n ns w ws i j l')
+      ∙ sym (rest-at r (i * w) (dot (place ns j) ws))
       ∙ sym (ap (λ x. get_or x j (pos 0)) q ∙ get_or-tab (count ns) _ j (pos 0) l'))))
 
   -- All of them.
-  pub walked_all : n ≤ i → length out₀ ≡ room → out ≡ walked (n ∷ ns) (w ∷ ws) r at
+  pub walked_all : n ≤ i → length out₀ ≡ room → out ≡ walked (n ∷ ns) (w ∷ ws) r
   unfolding walked count
   walked_all h e =
-      blockwise-all b h ∙ ap (λ x. filled (reached (n ∷ ns) (w ∷ ws) r at) (n * x) out₀) (walk_rows k).size
+      blockwise-all b h ∙ ap (λ x. filled (reached (n ∷ ns) (w ∷ ws) r) (n * x) out₀) (walk_rows k).size
       ∙ filled-whole _ (n * count ns) out₀ (omega (arith, (walk_rows k).whole))
 
 -- The places of a walk, row by row.
@@ -185,20 +187,20 @@ place-spot (n ∷ ns) (w ∷ ws) {d} {e} h (further i c f l s p q) =
     let t = place-spot ns ws (omega arith) s in
     (rw q (digits_lt l t.0), ap (λ x. dot (place (n ∷ ns) x) (w ∷ ws)) q ∙ dot-place n ns w ws i f t.0 ∙ ap (◌+◌ (i * w)) t.1 ∙ sym p)
 
-placed-walk : {ns ws : List ℕ} {r : List ℤ} {at m room : ℕ} {out last : List ℤ} → Walk ns ws at m room → length out ≡ room
-    → Placed (row_axes ns ws) r at 0 out last → last ≡ walked ns ws r at
+placed-walk : {ns ws : List ℕ} {r : List ℤ} {m room : ℕ} {out last : List ℤ} → Walk ns ws m room → length out ≡ room
+    → Placed (row_axes ns ws) r out last → last ≡ walked ns ws r
 unfolding walked
-placed-walk {ns} {ws} {r} {at} {m} {room} {out} {last} k e p =
-    ext_get_or (pos 0) last (walked ns ws r at) (p.room ∙ e ∙ k.whole ∙ sym (length-tab (count ns) _))
-    (λ q l. rw zero-add at ((p.each (walked ns ws r at) wanted).1 _ q (spot-place ns ws q k.axes (omega (arith, p.room, k.whole)))))
+placed-walk {ns} {ws} {r} {m} {room} {out} {last} k e p =
+    ext_get_or (pos 0) last (walked ns ws r) (p.room ∙ e ∙ k.whole ∙ sym (length-tab (count ns) _))
+    (λ q l. (p.each (walked ns ws r) wanted).1 _ q (spot-place ns ws q k.axes (omega (arith, p.room, k.whole))))
   where
-    wanted : Wanted (row_axes ns ws) r at 0 (walked ns ws r at)
+    wanted : Wanted (row_axes ns ws) r (walked ns ws r)
     wanted d e s =
         let t = place-spot ns ws k.axes s in
-        rw zero-add (get_or-tab (count ns) (reached ns ws r at) e (pos 0) t.0 ∙ ap (λ x. get_or r (at + x) (pos 0)) t.1)
+        get_or-tab (count ns) (reached ns ws r) e (pos 0) t.0 ∙ ap (λ x. get_or r x (pos 0)) t.1
 
-reach-walk : {ns ws : List ℕ} {at m room : ℕ} → Walk ns ws at m room → Reach (row_axes ns ws) at m 0 room
-reach-walk {ns} {ws} {at} {m} k = record {
+reach-walk : {ns ws : List ℕ} {m room : ℕ} → Walk ns ws m room → Reach (row_axes ns ws) m room
+reach-walk {ns} {ws} k = record {
   some = (_, 0, spot-place ns ws 0 k.axes (omega (arith, k.some, k.whole)));
   lie = λ d e s.
       let t = place-spot ns ws k.axes s in
@@ -215,14 +217,14 @@ pub rows-one : (ns ws : List ℕ) → length ns ≡ 1 → length ws ≡ length n
 unfolding row_axes count
 rows-one ns ws h e = ap₂ row_axes (first-others 1 ns (sym h) (omega arith)) (first-others 1 ws (sym h ∙ sym e) (omega arith))
 
-module _ {near : Axis} {ns ws : List ℕ} {size at m to room : ℕ} (k : Blocked near ns ws size at m to room) where
+module _ {near : Axis} {ns ws : List ℕ} {size m room : ℕ} (k : Blocked near ns ws size m room) where
   abbrev n : ℕ
   n = get_or ns 0 0
 
   abbrev inner : List ℕ
   inner = others (length ns) ns
 
-  across : Reach (axis_by n (get_or ws 0 0) (count inner) ∷ (near ∷ row_axes inner (others (length ns) ws))) at m to room
+  across : Reach (axis_by n (get_or ws 0 0) (count inner) ∷ (near ∷ row_axes inner (others (length ns) ws))) m room
   across = reach-swap (rw (rows_split ns ws k.some k.axes) at k.reach)
 
   pub blocked-first : 0 < n
@@ -233,30 +235,32 @@ module _ {near : Axis} {ns ws : List ℕ} {size at m to room : ℕ} (k : Blocked
   blocked-step =
       ap (λ x. x / n) (k.size_is ∙ ap count (first-others (length ns) ns refl k.some)) ∙ mul-div_cancel_left (count inner) blocked-first
 
-  pub blocked-from : (i : ℕ) → i < n → (at + i * get_or ws 0 0 < m) × (to + i * (size / n) < room)
+  pub blocked-from : (i : ℕ) → i < n → (i * get_or ws 0 0 < m) × (i * (size / n) < room)
   blocked-from i l = rw blocked-step (reach-from across i l)
 
-  pub blocked-inner : (i : ℕ) → i < n → 1 < length ns
-      → Blocked near inner (others (length ns) ws) (size / n) (at + i * get_or ws 0 0) m (to + i * (size / n)) room
-  blocked-inner i l h =
-      let x = ap length (first-others (length ns) ns refl k.some) in
-      let y = ap length (first-others (length ns) ws (sym k.axes) k.some) in
-      rw blocked-step (record { axes = omega (arith, k.axes); some = omega arith; size_is = refl; reach = reach-inner across i l })
-
   pub blocked-all : {r out last : List ℤ} (i : ℕ) → i ≡ n
-      → Placed (near ∷ (axis_by i (get_or ws 0 0) (size / n) ∷ row_axes inner (others (length ns) ws))) r at to out last
-      → Placed (near ∷ row_axes ns ws) r at to out last
+      → Placed (near ∷ (axis_by i (get_or ws 0 0) (size / n) ∷ row_axes inner (others (length ns) ws))) r out last
+      → Placed (near ∷ row_axes ns ws) r out last
   blocked-all i e p = rw (rows_split ns ws k.some k.axes) (rw (e, blocked-step) at p)
 
+pub blocked-inner : {near : Axis} {ns ws : List ℕ} {size : ℕ} (r out₀ out : List ℤ) → Blocked near ns ws size (length r) (length out₀)
+    → length out ≡ length out₀ → (i : ℕ) → i < get_or ns 0 0 → 1 < length ns
+    → Blocked near (others (length ns) ns) (others (length ns) ws) (size / get_or ns 0 0) (length (rest_of r (i * get_or ws 0 0)))
+    (length (rest_of out (i * (size / get_or ns 0 0))))
+blocked-inner {near} {ns} {ws} r out₀ out k z i l h =
+    let x = ap length (first-others (length ns) ns refl k.some) in
+    let y = ap length (first-others (length ns) ws (sym k.axes) k.some) in
+    rw (blocked-step k) (record { axes = omega (arith, k.axes); some = omega arith; size_is = refl; reach = reach-inner r out₀ out (across k) z i l })
+
 -- A walk by blocks along its first axis, whose neighbours are a part of the result apart.
-module _ {ns ws : List ℕ} {at m room : ℕ} (k : Walk ns ws at m room) (h : 1 < length ns) where
+module _ {ns ws : List ℕ} {m room : ℕ} (k : Walk ns ws m room) (h : 1 < length ns) where
   abbrev first_axis : Axis
   first_axis = axis_by (get_or ns 0 0) (get_or ws 0 0) (room / get_or ns 0 0)
 
   size : room / get_or ns 0 0 ≡ count (others (length ns) ns)
   size = (walk_rows (walk_split k (omega arith))).size
 
-  pub walk-blocked : Blocked first_axis (others (length ns) ns) (others (length ns) ws) (room / get_or ns 0 0) at m 0 room
+  pub walk-blocked : Blocked first_axis (others (length ns) ns) (others (length ns) ws) (room / get_or ns 0 0) m room
   walk-blocked =
       let w = walk_split k (omega arith) in
       let x = ap length (first-others (length ns) ns refl (omega arith)) in
@@ -268,5 +272,5 @@ module _ {ns ws : List ℕ} {at m room : ℕ} (k : Walk ns ws at m room) (h : 1 
       }
 
   pub blocked-walk : {r out last : List ℤ} → length out ≡ room
-      → Placed (first_axis ∷ row_axes (others (length ns) ns) (others (length ns) ws)) r at 0 out last → last ≡ walked ns ws r at
+      → Placed (first_axis ∷ row_axes (others (length ns) ns) (others (length ns) ws)) r out last → last ≡ walked ns ws r
   blocked-walk {out = out} e p = placed-walk {out = out} k e (rw (rows_split ns ws (omega arith) k.axes) (rw size at p))

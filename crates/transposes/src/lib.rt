@@ -143,7 +143,7 @@ fn transpose_into(sent: Sent, shape: Shape, total: usize, rs: Shape, r: &[i32], 
     let axes = shape.rank;
     let lens = shape.lens;
     let steps = strides(sent, rs);
-    walk(&lens[0..axes], &steps[0..axes], r, 0, &mut out[0..total]);
+    walk(&lens[0..axes], &steps[0..axes], r, &mut out[0..total]);
 }
 
 // The strides in R of the axes sent to each axis, added up. No length of R is 0, so that no product is above R's count.
@@ -161,28 +161,28 @@ fn strides(sent: Sent, rs: Shape) -> [usize; Shape::MAX_RANK]
     sums
 }
 
-// Elements of r that stand `stride` apart, from the one at `at` on.
-fn spread(stride: usize, r: &[i32], at: usize, out: &mut [i32])
-    requires { LineIn (length out.old) stride at (length r.now) }
-    ensures { out.new ≡ strided (length out.old) stride r.now at }
+// Elements of r that stand `stride` apart, from the first on.
+fn spread(stride: usize, r: &[i32], out: &mut [i32])
+    requires { LineIn (length out.old) stride (length r.now) }
+    ensures { out.new ≡ strided (length out.old) stride r.now }
 {
     for i in 0..out.len() {
-        let from = at + i * stride;
+        let from = i * stride;
         out[i] = r[from];
     }
 }
 
 // The same, by a run where they are neighbours.
-fn line(stride: usize, r: &[i32], at: usize, out: &mut [i32])
-    requires { (0 < length out.old) × LineIn (length out.old) stride at (length r.now) }
-    ensures { out.new ≡ strided (length out.old) stride r.now at }
+fn line(stride: usize, r: &[i32], out: &mut [i32])
+    requires { (0 < length out.old) × LineIn (length out.old) stride (length r.now) }
+    ensures { out.new ≡ strided (length out.old) stride r.now }
 {
     if stride == 1 {
-        let end = at + out.len();
-        copying::copy_run(&r[at..end], out);
+        let end = out.len();
+        copying::copy_run(&r[0..end], out);
         return;
     }
-    spread(stride, r, at, out);
+    spread(stride, r, out);
 }
 
 // A strip's width: as many lines of R are read side by side. They are few enough to stay in the cache until they are read to their end.
@@ -196,34 +196,34 @@ struct Axis {
     step: usize,
 }
 
-// The elements of r along an axis, from the one at `at` on, each to its place from `to` on.
-fn put_line(axis: Axis, r: &[i32], at: usize, to: usize, out: &mut [i32])
-    requires { Reach (axis ∷ []) at (length r.now) to (length out.old) }
-    ensures { Placed (axis ∷ []) r.now at to out.old out.new }
+// The elements of r along an axis, each to its place in the result.
+fn put_line(axis: Axis, r: &[i32], out: &mut [i32])
+    requires { Reach (axis ∷ []) (length r.now) (length out.old) }
+    ensures { Placed (axis ∷ []) r.now out.old out.new }
 {
     for i in 0..axis.length {
-        let from = at + i * axis.stride;
-        let place = to + i * axis.step;
+        let from = i * axis.stride;
+        let place = i * axis.step;
         out[place] = r[from];
     }
 }
 
 // The same along two axes, line by line.
-fn put_plane(axis: Axis, line: Axis, r: &[i32], at: usize, to: usize, out: &mut [i32])
-    requires { Reach (axis ∷ (line ∷ [])) at (length r.now) to (length out.old) }
-    ensures { Placed (axis ∷ (line ∷ [])) r.now at to out.old out.new }
+fn put_plane(axis: Axis, line: Axis, r: &[i32], out: &mut [i32])
+    requires { Reach (axis ∷ (line ∷ [])) (length r.now) (length out.old) }
+    ensures { Placed (axis ∷ (line ∷ [])) r.now out.old out.new }
 {
     for i in 0..axis.length {
-        let from = at + i * axis.stride;
-        let place = to + i * axis.step;
-        put_line(line, r, from, place, out);
+        let from = i * axis.stride;
+        let place = i * axis.step;
+        put_line(line, &r[from..], &mut out[place..]);
     }
 }
 
 // The same along the last axis and another, strip by strip of the last. The last strip may overlap the one before it.
-fn put_strips(last: Axis, near: Axis, r: &[i32], at: usize, to: usize, out: &mut [i32])
-    requires { (TILE ≤ last.length) × Reach (last ∷ (near ∷ [])) at (length r.now) to (length out.old) }
-    ensures { Placed (last ∷ (near ∷ [])) r.now at to out.old out.new }
+fn put_strips(last: Axis, near: Axis, r: &[i32], out: &mut [i32])
+    requires { (TILE ≤ last.length) × Reach (last ∷ (near ∷ [])) (length r.now) (length out.old) }
+    ensures { Placed (last ∷ (near ∷ [])) r.now out.old out.new }
 {
     let strip = Axis {
         length: TILE,
@@ -231,29 +231,29 @@ fn put_strips(last: Axis, near: Axis, r: &[i32], at: usize, to: usize, out: &mut
     };
     let end = last.length - TILE;
     for i in (0..end).step_by(TILE) {
-        let from = at + i * last.stride;
-        let place = to + i * last.step;
-        put_plane(near, strip, r, from, place, out);
+        let from = i * last.stride;
+        let place = i * last.step;
+        put_plane(near, strip, &r[from..], &mut out[place..]);
     }
-    let from = at + end * last.stride;
-    let place = to + end * last.step;
-    put_plane(near, strip, r, from, place, out);
+    let from = end * last.stride;
+    let place = end * last.step;
+    put_plane(near, strip, &r[from..], &mut out[place..]);
 }
 
 // The same, however long the last axis is. A short one is done line by line of the other. One with a short stride in R needs no strips.
-fn put_block(near: Axis, last: Axis, r: &[i32], at: usize, to: usize, out: &mut [i32])
-    requires { Reach (near ∷ (last ∷ [])) at (length r.now) to (length out.old) }
-    ensures { Placed (near ∷ (last ∷ [])) r.now at to out.old out.new }
+fn put_block(near: Axis, last: Axis, r: &[i32], out: &mut [i32])
+    requires { Reach (near ∷ (last ∷ [])) (length r.now) (length out.old) }
+    ensures { Placed (near ∷ (last ∷ [])) r.now out.old out.new }
 {
     if last.length < TILE {
-        put_plane(last, near, r, at, to, out);
+        put_plane(last, near, r, out);
         return;
     }
     if last.stride < TILE {
-        put_plane(near, last, r, at, to, out);
+        put_plane(near, last, r, out);
         return;
     }
-    put_strips(last, near, r, at, to, out);
+    put_strips(last, near, r, out);
 }
 
 // The same along an axis and those in `lens`, which have `size` places and stand row by row in the result.
@@ -263,12 +263,10 @@ fn put_blocks(
     strides: &[usize],
     size: usize,
     r: &[i32],
-    at: usize,
-    to: usize,
     out: &mut [i32],
 )
-    requires { Blocked near lens.now strides.now size at (length r.now) to (length out.old) }
-    ensures { Placed (near ∷ row_axes lens.now strides.now) r.now at to out.old out.new }
+    requires { Blocked near lens.now strides.now size (length r.now) (length out.old) }
+    ensures { Placed (near ∷ row_axes lens.now strides.now) r.now out.old out.new }
 {
     let rank = lens.len();
     let n = lens[0];
@@ -279,22 +277,20 @@ fn put_blocks(
             stride: apart,
             step: 1,
         };
-        put_block(near, last, r, at, to, out);
+        put_block(near, last, r, out);
         return;
     }
     let step = size / n;
     for i in 0..n {
-        let from = at + i * apart;
-        let place = to + i * step;
+        let from = i * apart;
+        let place = i * step;
         put_blocks(
             near,
             &lens[1..rank],
             &strides[1..rank],
             step,
-            r,
-            from,
-            place,
-            out,
+            &r[from..],
+            &mut out[place..],
         );
     }
 }
@@ -307,9 +303,9 @@ fn blocks_pay(lens: &[usize], strides: &[usize]) -> bool
 }
 
 // What `walk` gives of two axes or more, by blocks along the first and the last.
-fn walk_blocks(lens: &[usize], strides: &[usize], r: &[i32], at: usize, out: &mut [i32])
-    requires { (1 < length lens.now) × Walk lens.now strides.now at (length r.now) (length out.old) }
-    ensures { out.new ≡ walked lens.now strides.now r.now at }
+fn walk_blocks(lens: &[usize], strides: &[usize], r: &[i32], out: &mut [i32])
+    requires { (1 < length lens.now) × Walk lens.now strides.now (length r.now) (length out.old) }
+    ensures { out.new ≡ walked lens.now strides.now r.now }
 {
     let rank = lens.len();
     let length = lens[0];
@@ -320,40 +316,39 @@ fn walk_blocks(lens: &[usize], strides: &[usize], r: &[i32], at: usize, out: &mu
         stride: apart,
         step,
     };
-    put_blocks(near, &lens[1..rank], &strides[1..rank], step, r, at, 0, out);
+    put_blocks(near, &lens[1..rank], &strides[1..rank], step, r, out);
 }
 
-// The part of the result for the axes in `lens`, whose first element is r's element `at`. The lengths are a part of the shape, whose form the C
+// The part of the result for the axes in `lens`, whose first element is r's first. The lengths are a part of the shape, whose form the C
 // interface fixes: pairs of a length and a stride would be a third array, and a loop that fills it.
-fn walk(lens: &[usize], strides: &[usize], r: &[i32], at: usize, out: &mut [i32])
-    requires { Walk lens.now strides.now at (length r.now) (length out.old) }
-    ensures { out.new ≡ walked lens.now strides.now r.now at }
+fn walk(lens: &[usize], strides: &[usize], r: &[i32], out: &mut [i32])
+    requires { Walk lens.now strides.now (length r.now) (length out.old) }
+    ensures { out.new ≡ walked lens.now strides.now r.now }
 {
     let rank = lens.len();
     if rank == 0 {
-        line(1, r, at, out);
+        line(1, r, out);
         return;
     }
     let n = lens[0];
     let stride = strides[0];
     if rank == 1 {
-        line(stride, r, at, out);
+        line(stride, r, out);
         return;
     }
     if blocks_pay(lens, strides) {
-        walk_blocks(lens, strides, r, at, out);
+        walk_blocks(lens, strides, r, out);
         return;
     }
     let size = out.len() / n;
     for i in 0..n {
-        let from = at + i * stride;
+        let from = i * stride;
         let start = i * size;
         let end = start + size;
         walk(
             &lens[1..rank],
             &strides[1..rank],
-            r,
-            from,
+            &r[from..],
             &mut out[start..end],
         );
     }

@@ -10,4 +10,4 @@ decreases-put_blocks l = length l.lens.now
 abbrev pub invariant-loop-i : goal.invariant-loop-i
 invariant-loop-i l =
     Placed (l.near ∷ (axis_by l.i l.apart l.step ∷ row_axes (others (length l.lens) l.lens) (others (length l.lens) l.strides)))
-    l.r l.at l.to l.initial.out l.out
+    l.r l.initial.out l.out

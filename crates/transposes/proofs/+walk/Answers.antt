@@ -2,6 +2,7 @@ use Rattle.std.proofs.Common.{arith, refl, ◌∙◌}
 use native.Mathlib.Nat.{zero-mul}
 use Rattle.copying.proofs.Blockwise.{blockwise-none}
 use Rattle.copying.proofs.Parts.{part_room}
+use Rattle.transposes.proofs.Placing.{rest-long}
 use Rattle.transposes.proofs.Walking.{others-fewer, walk_rows, walk-inner, walk_from, walk_split, walked-split}
 use Rattle.transposes.proofs.Walking.{reach-none, walked_none, reach-line, walked_line, walked-room, walked_more, walked_all}
 use Rattle.transposes.proofs.+walk.Goals as goal
@@ -29,22 +30,28 @@ loop-i-init t c = rw zero-mul (blockwise-none _ _ _ _)
 pub overflow_mul-from : goal.overflow_mul-from
 overflow_mul-from t c = omega (arith, walk_from (walk_split c.requires (omega arith)) c.loop-i.i (omega arith))
 
-pub overflow_add-from : goal.overflow_add-from
-overflow_add-from t c = omega (arith, walk_from (walk_split c.requires (omega arith)) c.loop-i.i (omega arith))
+pub offset_bounds-r-from : goal.offset_bounds-r-from
+offset_bounds-r-from t c = omega (arith, walk_from (walk_split c.requires (omega arith)) c.loop-i.i (omega arith))
+
+pub slice_bounds-walk-count-in-loop-i-2 : goal.slice_bounds-walk-count-in-loop-i-2
+slice_bounds-walk-count-in-loop-i-2 t c = omega (arith, walk_from (walk_split c.requires (omega arith)) c.loop-i.i (omega arith))
+
+pub slice_bounds-walk-start-in-loop-i-2 : goal.slice_bounds-walk-start-in-loop-i-2
+slice_bounds-walk-start-in-loop-i-2 t c = omega (arith, walk_from (walk_split c.requires (omega arith)) c.loop-i.i (omega arith))
 
 pub walk-requires : goal.walk-requires
 walk-requires t c =
     let k = walk_split c.requires (omega arith) in
-    let l = walked-room k c.args.r.now c.loop-i.invariant (omega arith) in (
+    let l = walked-room c.args.r.now k c.loop-i.invariant (omega arith) in (
       omega (arith, others-fewer c.args.lens.now (omega arith), c.decreases),
-      walk-inner k _ _ (omega arith) (part_room c.loop-i.out _ _ _ c.loop-i.invariant.long l ∙ (walk_rows k).size),
+      walk-inner k _ _ _ (omega arith) (rest-long c.args.r.now _ (omega (arith, walk_from k c.loop-i.i (omega arith)))) (part_room c.loop-i.out _ _ _ c.loop-i.invariant.long l ∙ (walk_rows k).size),
     )
 
 pub loop-i-preserved : goal.loop-i-preserved
 loop-i-preserved t c =
-    walked_more (walk_split c.requires (omega arith)) c.args.r.now c.loop-i.invariant _ (omega arith) c.walk.auto.out c.walk.ensures
+    walked_more c.args.r.now (walk_split c.requires (omega arith)) c.loop-i.invariant _ (omega arith) c.walk.auto.out c.walk.ensures
 
 pub returns : goal.returns
 returns t c =
-    walked_all (walk_split c.requires (omega arith)) c.args.r.now c.loop-i.invariant (omega arith) refl
+    walked_all c.args.r.now (walk_split c.requires (omega arith)) c.loop-i.invariant (omega arith) refl
     ∙ walked-split c.requires _ (omega arith)

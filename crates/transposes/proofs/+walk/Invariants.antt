@@ -8,5 +8,5 @@ decreases-walk l = length l.lens.now
 
 abbrev pub invariant-loop-i : goal.invariant-loop-i
 invariant-loop-i l =
-    Blockwise l.n l.size (reached (l.n ∷ others (length l.lens) l.lens) (l.stride ∷ others (length l.lens) l.strides) l.r l.at)
+    Blockwise l.n l.size (reached (l.n ∷ others (length l.lens) l.lens) (l.stride ∷ others (length l.lens) l.strides) l.r)
     l.initial.out l.out (l.i * l.size) l.i

@@ -9,14 +9,8 @@ use Rattle.transposes.proofs.put_line.Goals as goal
 pub overflow_mul-from : goal.overflow_mul-from
 overflow_mul-from c = omega (arith, reach-from c.requires c.loop-i.i (omega arith))
 
-pub overflow_add-from : goal.overflow_add-from
-overflow_add-from c = omega (arith, reach-from c.requires c.loop-i.i (omega arith))
-
 pub overflow_mul-place : goal.overflow_mul-place
 overflow_mul-place c = omega (arith, reach-from c.requires c.loop-i.i (omega arith))
-
-pub overflow_add-place : goal.overflow_add-place
-overflow_add-place c = omega (arith, reach-from c.requires c.loop-i.i (omega arith))
 
 pub offset_bounds-r-from : goal.offset_bounds-r-from
 offset_bounds-r-from c = omega (arith, reach-from c.requires c.loop-i.i (omega arith))

@@ -4,4 +4,4 @@ use Rattle.transposes.proofs.Placing.{axis_by}
 use Rattle.transposes.proofs.put_plane.Given as goal
 
 abbrev pub invariant-loop-i : goal.invariant-loop-i
-invariant-loop-i l = Placed (axis_by l.i l.axis.stride l.axis.step ∷ (l.line ∷ [])) l.r l.at l.to l.initial.out l.out
+invariant-loop-i l = Placed (axis_by l.i l.axis.stride l.axis.step ∷ (l.line ∷ [])) l.r l.initial.out l.out

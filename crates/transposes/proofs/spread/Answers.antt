@@ -13,4 +13,4 @@ pub loop-i-preserved : goal.loop-i-preserved
 loop-i-preserved c = rw (to_z-of_z {w = w32} (sfits_of c.out-1.given), c.loop-i.invariant) (filled-one _ (pos 0) _ c.loop-i.i c.args.out.now (omega arith) refl)
 
 pub returns : goal.returns
-returns c = strided-filled _ _ c.args.r.now c.args.at _ c.args.out.now (omega arith) c.loop-i.invariant
+returns c = strided-filled _ _ c.args.r.now _ c.args.out.now (omega arith) c.loop-i.invariant

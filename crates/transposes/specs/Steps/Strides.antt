@@ -21,21 +21,21 @@ sent_strides r [] ws = replicate r 0
 sent_strides r (t ∷ ts) [] = replicate r 0
 sent_strides r (t ∷ ts) (w ∷ ws) = set (sent_strides r ts ws) t (get_or (sent_strides r ts ws) t 0 + w)
 
--- n elements that stand w apart, from `at` on, lie in m elements.
-abbrev pub LineIn : ℕ → ℕ → ℕ → ℕ → Type 0
-LineIn n w at m = (i : ℕ) → i < n → at + i * w < m
+-- n elements that stand w apart, from the first on, lie in m elements.
+abbrev pub LineIn : ℕ → ℕ → ℕ → Type 0
+LineIn n w m = (i : ℕ) → i < n → i * w < m
 
--- n elements of r that stand w apart, from `at` on.
-unfoldable pub strided : ℕ → ℕ → List ℤ → ℕ → List ℤ
-strided n w r at = tab n (λ i. get_or r (at + i * w) (pos 0))
+-- n elements of r that stand w apart, from the first on.
+unfoldable pub strided : ℕ → ℕ → List ℤ → List ℤ
+strided n w r = tab n (λ i. get_or r (i * w) (pos 0))
 
--- The elements of r from `at` on, place by place of some lengths, by strides.
-unfoldable pub walked : List ℕ → List ℕ → List ℤ → ℕ → List ℤ
-walked ns ws r at = tab (count ns) (λ j. get_or r (at + dot (place ns j) ws) (pos 0))
+-- The elements of r, place by place of some lengths, by strides.
+unfoldable pub walked : List ℕ → List ℕ → List ℤ → List ℤ
+walked ns ws r = tab (count ns) (λ j. get_or r (dot (place ns j) ws) (pos 0))
 
 -- Such a walk over m elements into a buffer of its count, which is not 0.
-pub record Walk (ns ws : List ℕ) (at m room : ℕ) : Type 0 where
+pub record Walk (ns ws : List ℕ) (m room : ℕ) : Type 0 where
   pub axes : length ws ≡ length ns
   pub some : 0 < room
   pub whole : room ≡ count ns
-  pub reach : (j : ℕ) → j < room → at + dot (place ns j) ws < m
+  pub reach : (j : ℕ) → j < room → dot (place ns j) ws < m
