@@ -61,6 +61,10 @@ rest-long xs from h = mid_len from (length xs) xs (omega arith)
 pub rest-at : (xs : List ℤ) (from i : ℕ) → get_or (rest_of xs from) i (pos 0) ≡ get_or xs (from + i) (pos 0)
 rest-at xs from i = ap (λ ys. get_or ys i (pos 0)) (take_rest xs from) ∙ get_or-drop from xs i (pos 0)
 
+-- The n positions of an axis start in R's m elements and in a buffer of some room. An invariant that says so leaves no bound to show.
+abbrev pub StartsIn : ℕ → ℕ → ℕ → ℕ → ℕ → Type 0
+StartsIn n w o m room = (i : ℕ) → i < n → (i * w < m) × (i * o < room)
+
 -- The places of fewer axes, and of a part of an axis, lie in R and in the buffer where all do.
 module _ {n w o m room : ℕ} {rest : List Axis} (k : Reach (axis_by n w o ∷ rest) m room) where
   pub reach-some : 0 < n
@@ -75,15 +79,15 @@ module _ {n w o m room : ℕ} {rest : List Axis} (k : Reach (axis_by n w o ∷ r
       by : {d e : ℕ} → Spot (axis_by n w o ∷ rest) d e → (d : ℕ) × (e : ℕ) × Spot rest d e
       by (further i c f l s p q) = (c, f, s)
 
-  -- Where a position of the first axis starts.
-  pub reach-from : (i : ℕ) → i < n → (i * w < m) × (i * o < room)
-  reach-from i l = let x = k.lie _ _ (further {a = axis_by n w o} i _ _ l some-inner.2 refl refl) in (omega arith, omega arith)
+  -- Where the positions of the first axis start.
+  pub reach_from : StartsIn n w o m room
+  reach_from i l = let x = k.lie _ _ (further {a = axis_by n w o} i _ _ l some-inner.2 refl refl) in (omega arith, omega arith)
 
 -- At one position of the first axis, and at some positions of it from l on.
 module _ {n w o : ℕ} {rest : List Axis} (r out₀ out : List ℤ) (k : Reach (axis_by n w o ∷ rest) (length r) (length out₀)) (z : length out ≡ length out₀) where
   pub reach-inner : (i : ℕ) → i < n → Reach rest (length (rest_of r (i * w))) (length (rest_of out (i * o)))
   reach-inner i l =
-      let b = reach-from k i l in
+      let b = reach_from k i l in
       record {
         some = some-inner k;
         lie = λ d e s.
@@ -93,7 +97,7 @@ module _ {n w o : ℕ} {rest : List Axis} (r out₀ out : List ℤ) (k : Reach (
 
   pub reach-strip : (l j : ℕ) → 0 < j → l + j ≤ n → Reach (axis_by j w o ∷ rest) (length (rest_of r (l * w))) (length (rest_of out (l * o)))
   reach-strip l j h b =
-      let f = reach-from k l (omega arith) in
+      let f = reach_from k l (omega arith) in
       record {
         some = (_, _, further {a = axis_by j w o} 0 _ _ h (some-inner k).2 refl refl);
         lie = λ d e s.

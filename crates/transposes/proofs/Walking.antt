@@ -23,7 +23,7 @@ use Rattle.transposes.specs.Steps.Strides.{dot, LineIn, strided, walked, Walk}
 use Rattle.transposes.specs.Steps.Placed.{Spot, Reach, Wanted, Placed, row_axes, Blocked}
 use Rattle.transposes.specs.Steps.Placed.Spot.{here, further}
 use Rattle.transposes.specs.declared.Axis.{Axis}
-use Rattle.transposes.proofs.Placing.{axis_by, rest_of, rest-at, reach-some, reach-inner, reach-from, reach-swap}
+use Rattle.transposes.proofs.Placing.{axis_by, StartsIn, rest_of, rest-at, reach-some, reach-inner, reach_from, reach-swap}
 
 pub strided-filled : (n w : ℕ) (r : List ℤ) (out out₀ : List ℤ) → n ≡ length out₀
     → out ≡ filled (λ i. get_or r (i * w) (pos 0)) n out₀ → out ≡ strided (length out₀) w r
@@ -235,8 +235,8 @@ module _ {near : Axis} {ns ws : List ℕ} {size m room : ℕ} (k : Blocked near 
   blocked-step =
       ap (λ x. x / n) (k.size_is ∙ ap count (first-others (length ns) ns refl k.some)) ∙ mul-div_cancel_left (count inner) blocked-first
 
-  pub blocked-from : (i : ℕ) → i < n → (i * get_or ws 0 0 < m) × (i * (size / n) < room)
-  blocked-from i l = rw blocked-step (reach-from across i l)
+  pub blocked-from : StartsIn n (get_or ws 0 0) (size / n) m room
+  blocked-from i l = rw blocked-step (reach_from across i l)
 
   pub blocked-all : {r out last : List ℤ} (i : ℕ) → i ≡ n
       → Placed (near ∷ (axis_by i (get_or ws 0 0) (size / n) ∷ row_axes inner (others (length ns) ws))) r out last

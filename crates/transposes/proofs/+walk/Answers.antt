@@ -25,33 +25,24 @@ pub nonzero_div-size : goal.nonzero_div-size
 nonzero_div-size t c = (walk_rows (walk_split c.requires (omega arith))).first
 
 pub loop-i-init : goal.loop-i-init
-loop-i-init t c = rw zero-mul (blockwise-none _ _ _ _)
-
-pub overflow_mul-from : goal.overflow_mul-from
-overflow_mul-from t c = omega (arith, walk_from (walk_split c.requires (omega arith)) c.loop-i.i (omega arith))
-
-pub offset_bounds-r-from : goal.offset_bounds-r-from
-offset_bounds-r-from t c = omega (arith, walk_from (walk_split c.requires (omega arith)) c.loop-i.i (omega arith))
-
-pub slice_bounds-walk-count-in-loop-i-2 : goal.slice_bounds-walk-count-in-loop-i-2
-slice_bounds-walk-count-in-loop-i-2 t c = omega (arith, walk_from (walk_split c.requires (omega arith)) c.loop-i.i (omega arith))
-
-pub slice_bounds-walk-start-in-loop-i-2 : goal.slice_bounds-walk-start-in-loop-i-2
-slice_bounds-walk-start-in-loop-i-2 t c = omega (arith, walk_from (walk_split c.requires (omega arith)) c.loop-i.i (omega arith))
+loop-i-init t c = record { done = rw zero-mul (blockwise-none _ _ _ _); starts = walk_from (walk_split c.requires (omega arith)) }
 
 pub walk-requires : goal.walk-requires
 walk-requires t c =
     let k = walk_split c.requires (omega arith) in
-    let l = walked-room c.args.r.now k c.loop-i.invariant (omega arith) in (
+    let l = walked-room c.args.r.now k c.loop-i.invariant.done (omega arith) in (
       omega (arith, others-fewer c.args.lens.now (omega arith), c.decreases),
-      walk-inner k _ _ _ (omega arith) (rest-long c.args.r.now _ (omega (arith, walk_from k c.loop-i.i (omega arith)))) (part_room c.loop-i.out _ _ _ c.loop-i.invariant.long l ∙ (walk_rows k).size),
+      walk-inner k _ _ _ (omega arith) (rest-long c.args.r.now _ (omega (arith, c.loop-i.invariant.starts)))
+          (part_room c.loop-i.out _ _ _ c.loop-i.invariant.done.long l ∙ (walk_rows k).size),
     )
 
 pub loop-i-preserved : goal.loop-i-preserved
-loop-i-preserved t c =
-    walked_more c.args.r.now (walk_split c.requires (omega arith)) c.loop-i.invariant _ (omega arith) c.walk.auto.out c.walk.ensures
+loop-i-preserved t c = record {
+  done = walked_more c.args.r.now (walk_split c.requires (omega arith)) c.loop-i.invariant.done _ (omega arith) c.walk.auto.out c.walk.ensures;
+  starts = c.loop-i.invariant.starts;
+}
 
 pub returns : goal.returns
 returns t c =
-    walked_all c.args.r.now (walk_split c.requires (omega arith)) c.loop-i.invariant (omega arith) refl
+    walked_all c.args.r.now (walk_split c.requires (omega arith)) c.loop-i.invariant.done (omega arith) refl
     ∙ walked-split c.requires _ (omega arith)
