@@ -22,7 +22,7 @@ use Rattle.meaning.specs.Steps.Beside.{scalar, less, equal}
 use Rattle.meaning.proofs.Without.{without-parts}
 use Rattle.meaning.proofs.Sides.{same-lengths, side-scalar, side-lower, side-whole}
 use Rattle.answer.specs.Answer.{lent}
-use Rattle.joins.specs.Steps.{Compared, agree}
+use Rattle.joins.specs.Steps.{agree}
 
 -- Slices of lengths, as `==` compares them.
 pub same_pointwise : (a b : List ℕ) → same_lengths a b ≡ pointwise nat_eq a b
@@ -40,8 +40,13 @@ same-both (a ∷ ws) bs [] ds e = absurd (omega arith)
 same-both (a ∷ ws) bs (c ∷ cs) ds e =
     ap (λ t. eqb a c && t) (same-both ws bs cs ds (omega arith)) ∙ sym (and_assoc (eqb a c) (same_lengths ws cs) (same_lengths bs ds))
 
+beside-le : {m n : ℕ} → Beside m n → m ≤ n
+beside-le (scalar h) = omega arith
+beside-le (less h e) = omega arith
+beside-le (equal h e) = omega arith
+
 -- An operand's shape s and the higher shape, of which the program has all lengths.
-module _ (s hs : Shape) (k : ℕ) (c : Compared s hs k) (sl : length s.lens ≡ max_rank) (hl : length hs.lens ≡ max_rank) where
+module _ (s hs : Shape) (k : ℕ) (beside : Beside s.rank hs.rank) (high : hs.rank ≤ max_rank) (has : k < hs.rank) (sl : length s.lens ≡ max_rank) (hl : length hs.lens ≡ max_rank) where
   -- The lengths after axis k: the operand's start at `from`, the higher ones at k + 1.
   abbrev from : ℕ
   from = k + 1 + s.rank - hs.rank
@@ -59,16 +64,12 @@ module _ (s hs : Shape) (k : ℕ) (c : Compared s hs k) (sl : length s.lens ≡ 
 
   higher-parts : without k (counted hs) ≡ take k hs.lens ++ take (hs.rank - (k + 1)) (drop (k + 1) hs.lens)
   higher-parts =
-      let h = c.has in
       without-parts (counted hs) k
       ∙ ap₂ (λ x y. x ++ y) (front hs (omega arith)) (ap (λ n. drop n (counted hs)) (sym (add-one k)) ∙ back hs (k + 1) (omega arith))
 
   parted : (xs : List ℕ) → k ≤ s.rank → from ≤ s.rank → xs ≡ take k (counted s) ++ drop from (counted s)
       → same_lengths xs (without k (counted hs)) ≡ parts
   parted xs h q e =
-      let l = c.low in
-      let m = c.high in
-      let n = c.has in
       ap₂ same_lengths (e ∙ ap₂ (λ x y. x ++ y) (front s h) (back s from q)) higher-parts
       ∙ same-both (take k s.lens) _ (take k hs.lens) _ (length-take-le k s.lens (omega arith) ∙ sym (length-take-le k hs.lens (omega arith)))
 
@@ -79,8 +80,7 @@ module _ (s hs : Shape) (k : ℕ) (c : Compared s hs k) (sl : length s.lens ≡ 
 
     ranked : (rank a ≡ s.rank) × (length (counted hs) ≡ hs.rank)
     ranked =
-        let l = c.low in
-        let h = c.high in
+        let low : s.rank ≤ hs.rank = beside-le beside in
         (length-take-le s.rank s.lens (omega arith), length-take-le hs.rank hs.lens (omega arith))
 
     pub agrees-scalar : s.rank ≡ 0 → agree (counted hs) k a ≡ true
@@ -89,19 +89,17 @@ module _ (s hs : Shape) (k : ℕ) (c : Compared s hs k) (sl : length s.lens ≡ 
         ∙ same-lengths (without k (counted hs))
 
     pub agrees-parts : 0 < s.rank → agree (counted hs) k a ≡ parts
-    agrees-parts p = by c.beside
+    agrees-parts p = by beside
       where
         by : Beside s.rank hs.rank → agree (counted hs) k a ≡ parts
         by (scalar h) = absurd (omega arith)
         by (less h e) =
-            let l = c.has in
             let r = ranked in
             let f : k ≡ from = omega arith in
             ap (λ (z : Side). same_lengths z.others (without k (counted hs))) (side-lower (counted hs) k a (omega arith) (omega arith))
             ∙ parted (counted s) (omega arith) (omega arith)
             (sym (take-append-drop k (counted s)) ∙ ap (λ n. take k (counted s) ++ drop n (counted s)) f)
         by (equal h e) =
-            let l = c.has in
             let r = ranked in
             let f : suc k ≡ from = omega arith in
             ap (λ (z : Side). same_lengths z.others (without k (counted hs))) (side-whole (counted hs) k a (omega arith) (omega arith))

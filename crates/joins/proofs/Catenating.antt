@@ -22,7 +22,7 @@ use Rattle.shape.proofs.Rule.{rule-length}
 use Rattle.shape.proofs.Made.{with-length-is, made-stands, stands-count}
 use Rattle.signed.proofs.Reading.{read32}
 use Rattle.signed.proofs.Finding.{read-from-zero}
-use Rattle.meaning.specs.Array.{Array, array_of, tab, build}
+use Rattle.meaning.specs.Array.{Operand, Array, array_of, good_form, tab, build}
 use Rattle.meaning.specs.Terms.{rank, within, from_zero}
 use Rattle.meaning.specs.Primitives.{Side, side, catenate}
 use Rattle.meaning.specs.Steps.{Beside, fit, side_at}
@@ -30,14 +30,14 @@ use Rattle.meaning.proofs.Positions.{within-below}
 use Rattle.meaning.proofs.Scalars.{scalar-count}
 use Rattle.meaning.proofs.Sides.{beside-as, same-is, side-extent, side-flat, side-count}
 use Rattle.copying.specs.Steps.{filled}
-use Rattle.answer.specs.Answer.{lent, own}
+use Rattle.answer.specs.Answer.{lent, early, own}
 use Rattle.answer.specs.Refused as answers
 use Rattle.answer.specs.declared.refusal.Refusal as code
+use Rattle.answer.proofs.Early.{two-fine}
 use Rattle.answer.proofs.Lent.{Lent, axis-is, FineTwo}
 use Rattle.answer.proofs.Exits.{asked_ok}
 use Rattle.answer.proofs.Order.{Ready}
-use Rattle.joins.specs.Steps.{higher_shape, extent_of, agree, run_of, joined_at, joined_along, sized, Gives, Joinable}
-use Rattle.joins.specs.declared.Run.{Run}
+use Rattle.joins.specs.Steps.{Given, Joins, higher_shape, extent_of, agree, run_of, joined_at, joined_along, sized, Gives, Joinable}
 use Rattle.joins.proofs.Heights.{High, Higher, higher-is, besides, asked, catenate-own, catenate-names}
 use Rattle.joins.proofs.Joining.{RowByRow, joined-flat}
 
@@ -85,7 +85,7 @@ module _ {s : Shape} {x : List ℤ} {hs : Shape} {k : ℕ} (d : Sided s x hs k) 
       by (yes z) e = rw (eq-eqb s.rank 0 z) (omega (arith, scalar-count (counted s) (e ∙ z)))
       by (no z) e = rw (ne_eqb s.rank 0 z) (omega (arith, side-count (counted hs) k a below beside-is (same-is _ _ d.agrees) (omega arith)))
 
-  gives : Gives (run_of s hs.rank k) x hs k
+  gives : Gives (run_of hs.rank k (lent s x)) hs k
   gives = rw extent-is (omega (arith, room, d.operand.room))
 
   flat : RowByRow (set (counted hs) k taken.extent) (side_at (eqb s.rank 0) x) taken.element
@@ -99,20 +99,20 @@ module _ {s : Shape} {x : List ℤ} {hs : Shape} {k : ℕ} (d : Sided s x hs k) 
       picked false m n j h l = omega arith
 
 -- All that a call knows where 22 refuses nothing: hs is the higher shape, and k the axis.
-pub record Catenates (G K : ℤ) (ls : Shape) (l : List ℤ) (rs : Shape) (r : List ℤ) (hs : Shape) (k : ℕ) : Type 0 where
-  pub left : Sided ls l hs k
-  pub right : Sided rs r hs k
-  pub higher : Higher hs (array_of (lent ls l)) (array_of (lent rs r))
+pub record Catenates (G K : ℤ) (L R : Operand) (hs : Shape) (k : ℕ) : Type 0 where
+  pub left : Sided L.shape L.buffer hs k
+  pub right : Sided R.shape R.buffer hs k
+  pub higher : Higher hs (array_of L) (array_of R)
   pub axis-is : k ≡ from_zero G K
-  pub fine : FineTwo G ls l rs r
-  pub none : own 22 (catenate G K (array_of (lent ls l)) (array_of (lent rs r))).refusals ≡ 0
+  pub fine : FineTwo G L.shape L.buffer R.shape R.buffer
+  pub none : own 22 (catenate G K (array_of L) (array_of R)).refusals ≡ 0
 
-module _ {G : ℤ} (K : ℤ) {ls : Shape} {l : List ℤ} {rs : Shape} {r : List ℤ} (f : FineTwo G ls l rs r) {hs : Shape} {k : ℕ} where
-  pub catenates : hs ≡ higher_shape ls rs → k ≡ from_zero G K → own 22 (catenate G K (array_of (lent ls l)) (array_of (lent rs r))).refusals ≡ 0
-      → Catenates G K ls l rs r hs k
-  catenates e q z = by _ refl _ refl _ refl (sym (catenate-own high G K l r) ∙ z)
+module _ {G : ℤ} (K : ℤ) {L R : Operand} (f : FineTwo G L.shape L.buffer R.shape R.buffer) {hs : Shape} {k : ℕ} where
+  pub catenates : hs ≡ higher_shape L.shape R.shape → k ≡ from_zero G K → own 22 (catenate G K (array_of L) (array_of R)).refusals ≡ 0
+      → Catenates G K L R hs k
+  catenates e q z = by _ refl _ refl _ refl (sym (catenate-own high G K L.buffer R.buffer) ∙ z)
     where
-      high : High ls rs hs
+      high : High L.shape R.shape hs
       high =
           let gl = f.left in
           let gr = f.right in
@@ -122,89 +122,98 @@ module _ {G : ℤ} (K : ℤ) {ls : Shape} {l : List ℤ} {rs : Shape} {r : List 
           → agree (counted hs) (from_zero G K) (array_of (lent s x)) ≡ true → Sided s x hs k
       sided {s} {x} g u b a = record {
         operand = g;
-        rank_is = (higher-is high l r).rank_is;
+        rank_is = (higher-is high L.buffer R.buffer).rank_is;
         has = within-below (K -ℤ G) hs.rank hs.rank k refl q u;
         beside = b;
         agrees = ap (λ k. agree (counted hs) k (array_of (lent s x))) q ∙ a;
       }
 
-      by : (w : Bool) → fit ls.rank rs.rank ≡ w → (i : Bool) → within (K -ℤ G) hs.rank ≡ i
-          → (t : Bool) → (agree (counted hs) (from_zero G K) (array_of (lent ls l)) && agree (counted hs) (from_zero G K) (array_of (lent rs r))) ≡ t
-          → asked w i t ≡ 0 → Catenates G K ls l rs r hs k
+      by : (w : Bool) → fit L.shape.rank R.shape.rank ≡ w → (i : Bool) → within (K -ℤ G) hs.rank ≡ i
+          → (t : Bool) → (agree (counted hs) (from_zero G K) (array_of L) && agree (counted hs) (from_zero G K) (array_of R)) ≡ t
+          → asked w i t ≡ 0 → Catenates G K L R hs k
       by false p i u t v e = absurd (omega arith)
       by true p false u t v e = absurd (omega arith)
       by true p true u false v e = absurd (omega arith)
       by true p true u true v e =
           let b = besides high p in
-          let a = both (agree (counted hs) (from_zero G K) (array_of (lent ls l))) _ v in
-          record { left = sided f.left u b.0 a.0; right = sided f.right u b.1 a.1; higher = higher-is high l r; axis-is = q; fine = f; none = z }
+          let a = both (agree (counted hs) (from_zero G K) (array_of L)) _ v in
+          record {
+            left = sided f.left u b.0 a.0;
+            right = sided f.right u b.1 a.1;
+            higher = higher-is high L.buffer R.buffer;
+            axis-is = q;
+            fine = f;
+            none = z;
+          }
 
 -- The same by what `joint` answers of signed numbers read from locals.
-module _ {G K : ℤ} (g : SFits w32 G) (h : SFits w32 K) {ls : Shape} {l : List ℤ} {rs : Shape} {r : List ℤ} (f : FineTwo G ls l rs r)
-    (x : Result (Shape × ℕ) code.Refusal) (is : (xs ys : List ℤ) → answers.asked x
-    ≡ own 22 (catenate (to_z w32 (of_z w32 G)) (to_z w32 (of_z w32 K)) (array_of (lent ls xs)) (array_of (lent rs ys))).refusals) where
-  pub joint-asked : answers.asked x ≡ own 22 (catenate G K (array_of (lent ls l)) (array_of (lent rs r))).refusals
-  joint-asked = is l r ∙ ap₂ (λ y z. own 22 (catenate y z (array_of (lent ls l)) (array_of (lent rs r))).refusals) (read32 G g) (read32 K h)
+module _ {G K : ℤ} (g : SFits w32 G) (h : SFits w32 K) {A : Type 0} (y : Result A code.Refusal) (L R : Operand)
+    (is : answers.asked y ≡ own 22 (catenate (to_z w32 (of_z w32 G)) (to_z w32 (of_z w32 K)) (array_of L) (array_of R)).refusals) where
+  pub joint-asked : answers.asked y ≡ own 22 (catenate G K (array_of L) (array_of R)).refusals
+  joint-asked = is ∙ ap₂ (λ y z. own 22 (catenate y z (array_of L) (array_of R)).refusals) (read32 G g) (read32 K h)
 
-  pub joint-found : {hs : Shape} {k : ℕ} → x ≡ Ok (hs, k)
-      → (hs ≡ higher_shape ls rs) × (k ≡ from_zero (to_z w32 (of_z w32 G)) (to_z w32 (of_z w32 K))) → Catenates G K ls l rs r hs k
-  joint-found e t = catenates K f t.0 (t.1 ∙ read-from-zero K G h g) (sym joint-asked ∙ asked_ok e)
+  -- And by what `early_two` answered before of two operands that are L and R.
+  pub joint-found : {B : Type 0} (x : Result B code.Refusal) {l r : Operand}
+      → answers.asked x ≡ early (good_form l && good_form r) (to_z w32 (of_z w32 G)) → {v : B} → x ≡ Ok v → (L ≡ l) × (R ≡ r)
+      → {w : A} → y ≡ Ok w → {hs : Shape} {k : ℕ} → Joins (to_z w32 (of_z w32 G)) (to_z w32 (of_z w32 K)) L R hs k → Catenates G K L R hs k
+  joint-found x e ok o was j =
+      catenates K (two-fine g x e ok (sym o.0) j.left (sym o.1) j.right) j.higher (j.axis ∙ read-from-zero K G h g) (sym joint-asked ∙ asked_ok was)
 
-module _ {G K : ℤ} {ls : Shape} {l : List ℤ} {rs : Shape} {r : List ℤ} {hs : Shape} {k : ℕ} (c : Catenates G K ls l rs r hs k) where
-  abbrev L : Array
-  L = array_of (lent ls l)
-
-  abbrev R : Array
-  R = array_of (lent rs r)
-
+module _ {G K : ℤ} {L R : Operand} {hs : Shape} {k : ℕ} (c : Catenates G K L R hs k) where
   abbrev lengths : List ℕ → ℕ → List ℕ
-  lengths ns k = set ns k ((side ns k L).extent + (side ns k R).extent)
+  lengths ns k = set ns k ((side ns k (array_of L)).extent + (side ns k (array_of R)).extent)
 
   abbrev element : List ℕ → ℕ → List ℕ → ℤ
   element ns k p =
-      cond (ltb (get_or p k 0) (side ns k L).extent) ((side ns k L).element p) ((side ns k R).element (set p k (get_or p k 0 - (side ns k L).extent)))
+      cond (ltb (get_or p k 0) (side ns k (array_of L)).extent) ((side ns k (array_of L)).element p)
+      ((side ns k (array_of R)).element (set p k (get_or p k 0 - (side ns k (array_of L)).extent)))
 
-  pub lengths-are : set (counted hs) k (extent_of ls hs.rank k + extent_of rs hs.rank k) ≡ (catenate G K L R).lengths
+  abbrev ls : Shape
+  ls = L.shape
+
+  abbrev rs : Shape
+  rs = R.shape
+
+  pub lengths-are : set (counted hs) k (extent_of ls hs.rank k + extent_of rs hs.rank k) ≡ (catenate G K (array_of L) (array_of R)).lengths
   unfolding catenate
   lengths-are =
       ap₂ (λ x y. set (counted hs) k (x + y)) (extent-is c.left) (extent-is c.right) ∙ ap₂ lengths c.higher.counts c.axis-is
 
   abbrev flatly : ℕ → ℤ
-  flatly = joined_along hs k (run_of ls hs.rank k) l (run_of rs hs.rank k) r
+  flatly = joined_along hs k (run_of hs.rank k L) (run_of hs.rank k R)
 
-  elements-are : (build (catenate G K L R).lengths (catenate G K L R).element).elements
+  elements-are : (build (catenate G K (array_of L) (array_of R)).lengths (catenate G K (array_of L) (array_of R)).element).elements
       ≡ tab (count (set (counted hs) k (extent_of ls hs.rank k + extent_of rs hs.rank k))) flatly
   unfolding catenate
   elements-are =
       let n : ℕ = count (drop (suc k) (counted hs)) in
-      let f : ℕ → ℤ = side_at (eqb ls.rank 0) l in
-      let g : ℕ → ℤ = side_at (eqb rs.rank 0) r in
+      let f : ℕ → ℤ = side_at (eqb ls.rank 0) L.buffer in
+      let g : ℕ → ℤ = side_at (eqb rs.rank 0) R.buffer in
       ap₂ (λ ns k. (build (lengths ns k) (element ns k)).elements) (sym c.higher.counts) (sym c.axis-is)
       ∙ joined-flat (counted hs) k _ _ (below c.left) f g (flat c.left) (flat c.right)
       ∙ ap₂ (λ x y. tab (count (set (counted hs) k (x + y))) (joined_at (x * n) (y * n) f g)) (sym (extent-is c.left)) (sym (extent-is c.right))
 
   -- The result's shape, and that nothing is refused but LIMIT and SPACE.
-  module _ {a b : Run} (ea : a ≡ run_of ls hs.rank k) (eb : b ≡ run_of rs hs.rank k) {s : Shape} (e : s ≡ with_length hs k (a.width + b.width)) where
-    pub shape-made : s ≡ shape_of (catenate G K (array_of (lent ls l)) (array_of (lent rs r))).lengths
+  module _ {a b : Given} (ea : a ≡ run_of hs.rank k L) (eb : b ≡ run_of hs.rank k R) {s : Shape} (e : s ≡ with_length hs k (a.width + b.width)) where
+    pub shape-made : s ≡ shape_of (catenate G K (array_of L) (array_of R)).lengths
     shape-made =
         e
-        ∙ ap₂ (λ (x : Run) (y : Run). with_length hs k (x.width + y.width)) ea eb
+        ∙ ap₂ (λ (x : Given) (y : Given). with_length hs k (x.width + y.width)) ea eb
         ∙ with-length-is _ _ _ c.higher.high c.left.has
         ∙ ap shape_of lengths-are
 
-    pub catenate-ready : Ready 22 2 G K (lent ls l) (lent rs r) (catenate G K (array_of (lent ls l)) (array_of (lent rs r))) s
+    pub catenate-ready : Ready 22 2 G K L R (catenate G K (array_of L) (array_of R)) s
     catenate-ready =
-        record { names = catenate-names G K (lent ls l) (lent rs r); fine = (c.fine).none; none = c.none; stands = made-stands _ _ shape-made }
+        record { names = catenate-names G K L R; fine = (c.fine).none; none = c.none; stands = made-stands _ _ shape-made }
 
-    pub catenate-total : {n : ℕ} → good_shape s ≡ true → n ≡ count_of s → n ≡ count (catenate G K (array_of (lent ls l)) (array_of (lent rs r))).lengths
+    pub catenate-total : {n : ℕ} → good_shape s ≡ true → n ≡ count_of s → n ≡ count (catenate G K (array_of L) (array_of R)).lengths
     catenate-total g q = q ∙ stands-count (catenate-ready).stands g
 
   -- With the runs and the count as the program has them.
-  module _ {a b : Run} {total : ℕ} (ea : a ≡ run_of ls hs.rank k) (eb : b ≡ run_of rs hs.rank k) (t : total ≡ count (catenate G K L R).lengths) where
-    pub joinable : {room : ℕ} → total ≤ max_count → total ≤ room → Joinable a l b r hs k total room
+  module _ {a b : Given} {total : ℕ} (ea : a ≡ run_of hs.rank k L) (eb : b ≡ run_of hs.rank k R)
+      (t : total ≡ count (catenate G K (array_of L) (array_of R)).lengths) where
+    pub joinable : {room : ℕ} → total ≤ max_count → total ≤ room → Joinable a b hs k total room
     joinable small space = rw (ea, eb) (record {
-      high = c.higher.high;
-      has = c.left.has;
       count-is = t ∙ sym (ap count lengths-are);
       small = small;
       space = space;
@@ -213,9 +222,11 @@ module _ {G K : ℤ} {ls : Shape} {l : List ℤ} {rs : Shape} {r : List ℤ} {hs
     })
 
     pub catenate-out : (out : List ℤ)
-        → filled (joined_along hs k a l b r) total out
-        ≡ (build (catenate G K L R).lengths (catenate G K L R).element).elements ++ drop (count (catenate G K L R).lengths) out
+        → filled (joined_along hs k a b) total out
+        ≡ (build (catenate G K (array_of L) (array_of R)).lengths (catenate G K (array_of L) (array_of R)).element).elements
+        ++ drop (count (catenate G K (array_of L) (array_of R)).lengths) out
     catenate-out out =
         rw (ea, eb)
         (ap (λ n. filled flatly n out) t
-        ∙ ap (λ z. z ++ drop (count (catenate G K L R).lengths) out) (sym (elements-are ∙ ap (λ ns. tab (count ns) flatly) lengths-are)))
+        ∙ ap (λ z. z ++ drop (count (catenate G K (array_of L) (array_of R)).lengths) out)
+        (sym (elements-are ∙ ap (λ ns. tab (count ns) flatly) lengths-are)))

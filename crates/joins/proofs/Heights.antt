@@ -21,8 +21,8 @@ use Rattle.meaning.specs.Primitives.{higher, ranks_fit, catenate}
 use Rattle.meaning.specs.Reply.{primitives, named}
 use Rattle.meaning.specs.Steps.{Beside, fit}
 use Rattle.meaning.proofs.Sides.{higher-left, higher-right, higher-scalars, ranks-beside, beside-as}
-use Rattle.answer.specs.Answer.{lent, own}
-use Rattle.answer.proofs.Lent.{rank-of}
+use Rattle.answer.specs.Answer.{lent, WellFormed, own}
+use Rattle.answer.proofs.Lent.{rank-of, formed}
 use Rattle.answer.proofs.Order.{Names, own_first}
 use Rattle.joins.specs.Steps.{higher_shape, agree}
 
@@ -31,7 +31,10 @@ pub record Good (s : Shape) : Type 0 where
   pub good : good_shape s ≡ true
   pub long : length s.lens ≡ max_rank
 
-pub low : {s : Shape} → Good s → s.rank ≤ max_rank
+good-of : {s : Shape} {x : List ℤ} → WellFormed s x → Good s
+good-of w = record { good = (formed w).good; long = w.long }
+
+low : {s : Shape} → Good s → s.rank ≤ max_rank
 low {s} g = good-rank s g.good
 
 ranked : {s : Shape} → Good s → (x : List ℤ) → rank (array_of (lent s x)) ≡ s.rank
@@ -48,6 +51,9 @@ pub record Higher (hs : Shape) (L R : Array) : Type 0 where
   pub counts : counted hs ≡ higher L R
   pub high : hs.rank ≤ max_rank
   pub rank_is : length (counted hs) ≡ hs.rank
+
+pub high-of : {ls rs hs : Shape} {x y : List ℤ} → WellFormed ls x → WellFormed rs y → hs ≡ higher_shape ls rs → High ls rs hs
+high-of l r e = record { left = good-of l; right = good-of r; is = e }
 
 module _ {ls rs hs : Shape} (h : High ls rs hs) where
   module _ (x y : List ℤ) where

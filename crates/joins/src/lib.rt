@@ -1,20 +1,20 @@
 // Catenate: two operands joined along an axis.
 #![tactic(auto)]
 
-ghost use Rattle.std.specs.Prelude.{◌≡◌, List, true, ◌+◌, ◌*◌, ◌≤◌, ◌<◌, length, ℤ, pos, IfOk};
-ghost use Rattle.shape.specs.Shape.{max_rank, max_count, counted, good_shape};
+ghost use Rattle.std.specs.Prelude.{◌≡◌, List, ◌+◌, ◌*◌, ◌≤◌, ◌<◌, length, ℤ, pos, IfOk};
+ghost use Rattle.shape.specs.Shape.{max_rank, max_count, counted};
 ghost use Rattle.meaning.specs.Array.{array_of};
-ghost use Rattle.meaning.specs.Terms.{from_zero};
 ghost use Rattle.meaning.specs.Primitives.{catenate};
 ghost use Rattle.meaning.specs.Reply.{reply};
-ghost use Rattle.meaning.specs.Steps.{fit, side_at};
+ghost use Rattle.meaning.specs.Steps.{Beside, fit, side_at};
 ghost use Rattle.copying.specs.Steps.{filled};
 ghost use Rattle.answer.specs.Answer.{lent, own, Replied};
 ghost use Rattle.answer.specs.Refused.{asked, answered};
-ghost use Rattle.joins.specs.Steps.{higher_shape, extent_of, run_of, widened, Compared, agree, RunFits, RunsFit, runs_at, joined_along, Joinable};
+ghost use Rattle.joins.specs.Steps.{Joins, higher_shape, extent_of, run_of, widened, agree, RunFits, RunsFit, runs_at, joined_along, Joinable};
 
-use answer::{Operand, Refusal};
+use answer::{Formed, Operand, Refusal};
 use shape::Shape;
+use std::marker::Model;
 
 // 22, L before R.
 pub fn catenate(
@@ -27,42 +27,53 @@ pub fn catenate(
     ensures { Replied (answered result) out.new (reply (pos 22) g k l.now r.now out.old) }
 {
     let (l, r) = answer::early_two(g, l, r)?;
-    let (hs, axis) = joint(g, k, l.shape, r.shape)?;
-    let left = Run::of(l.shape, hs.rank, axis);
-    let right = Run::of(r.shape, hs.rank, axis);
-    let shape = hs.with_length(axis, left.width + right.width);
+    let along = joint(g, k, &l, &r)?;
+    let left = Run::of(&l, &along);
+    let right = Run::of(&r, &along);
+    let shape = along
+        .shape
+        .with_length(along.axis, left.width + right.width);
     let count = shape.count();
     answer::late(count, out.len())?;
-    join_into(left, l.elements, right, r.elements, hs, axis, count, out);
+    join_into(&left, &right, &along, count, out);
     Ok(shape)
 }
 
-// RANK, AXIS and LENGTH, or else the higher shape and the axis. No element is looked at.
-fn joint(g: i32, k: i32, ls: Shape, rs: Shape) -> Result<(Shape, usize), Refusal>
-    requires { (good_shape ls ≡ true) × (good_shape rs ≡ true) }
-    ensures number { (x y : List ℤ) → asked result ≡ own 22 (catenate g k (array_of (lent ls x)) (array_of (lent rs y))).refusals }
-    ensures found { IfOk result (λ t. (t.0 ≡ higher_shape ls rs) × (t.1 ≡ from_zero g k)) }
+// The shape against which K is read, and the axis of it that K names.
+#[derive(Clone, Copy)]
+struct Along {
+    shape: Shape,
+    axis: usize,
+    ghost high: { shape.rank ≤ max_rank },
+    ghost long: { length shape.lens ≡ max_rank },
+    ghost has: { axis < shape.rank },
+}
+
+// RANK, AXIS and LENGTH, or else what the operands are joined along. No element is looked at.
+fn joint(g: i32, k: i32, l: &Formed<'_>, r: &Formed<'_>) -> Result<Along, Refusal>
+    ensures number { asked result ≡ own 22 (catenate g k (array_of l.now) (array_of r.now)).refusals }
+    ensures found { IfOk result (λ t. Joins g k l.now r.now t.shape t.axis) }
 {
-    if !ranks_fit(ls.rank, rs.rank) {
+    if !ranks_fit(l.shape.rank, r.shape.rank) {
         return Err(Refusal::Rank);
     }
-    let hs = higher(ls, rs);
-    let axis = answer::axis(g, k, hs.rank)?;
-    if agrees(ls, hs, axis) && agrees(rs, hs, axis) {
-        return Ok((hs, axis));
+    let shape = higher(l.shape, r.shape);
+    let axis = answer::axis(g, k, shape.rank)?;
+    let along = Along { shape, axis };
+    if along.agrees(&l.shape) && along.agrees(&r.shape) {
+        return Ok(along);
     }
     Err(Refusal::Length)
 }
 
 // Equal, one apart, or one of them a scalar's.
 fn ranks_fit(a: usize, b: usize) -> bool
-    requires { (a ≤ max_rank) × (b ≤ max_rank) }
     ensures { result ≡ fit a b }
 {
-    a == 0 || b == 0 || a == b || a + 1 == b || b + 1 == a
+    a == 0 || b == 0 || a.abs_diff(b) <= 1
 }
 
-// The shape against which K is read.
+// The shape of the higher rank; two scalars are joined as vectors of one.
 fn higher(ls: Shape, rs: Shape) -> Shape
     ensures { result ≡ higher_shape ls rs }
 {
@@ -75,112 +86,119 @@ fn higher(ls: Shape, rs: Shape) -> Shape
     }
 }
 
-// What an operand gives, along the axis or to each block: so many positions or elements, or a scalar's one so often.
-// A flag and no Option: the width counts for a scalar too.
-#[derive(Clone, Copy)]
-struct Run {
-    scalar: bool,
-    width: usize,
+impl Along {
+    // The length that an operand counts as along the axis: its own, or 1 where its rank is lower.
+    fn extent(&self, s: &Shape) -> usize
+        ensures { result ≡ extent_of s.now self.now.shape.rank self.now.axis }
+    {
+        if s.rank == self.shape.rank {
+            s.lens[self.axis]
+        } else {
+            1
+        }
+    }
+
+    // Whether an operand's lengths agree with the higher ones but for the axis; a scalar's always do.
+    fn agrees(&self, s: &Shape) -> bool
+        requires { Beside s.now.rank self.now.shape.rank }
+        ensures { (x : List ℤ) → result ≡ agree (counted self.now.shape) self.now.axis (array_of (lent s.now x)) }
+    {
+        if s.rank == 0 {
+            return true;
+        }
+        let hs = &self.shape;
+        let after = self.axis + 1;
+        let from = after + s.rank - hs.rank;
+        s.lens[..self.axis] == hs.lens[..self.axis]
+            && s.lens[from..s.rank] == hs.lens[after..hs.rank]
+    }
 }
 
-impl Run {
+// What an operand gives, along the axis or to each block: so many of its positions or elements, or a scalar's one so often.
+// A flag and no Option: the width counts for a scalar too.
+#[derive(Drop)]
+struct Run<'a> {
+    scalar: bool,
+    width: usize,
+    elements: &'a [i32],
+}
+
+impl<'a> Model for Run<'a> {
+    ghost use Rattle.joins.specs.Steps.{Given};
+
+    ghost Value = { Given };
+
+    ghost view = { λ a. record { scalar = a.scalar; width = a.width; elements = a.elements.now } };
+}
+
+impl<'a> Run<'a> {
     // Along an axis.
-    fn of(s: Shape, rank: usize, axis: usize) -> Run
-        requires { axis < max_rank }
-        ensures { result ≡ run_of s rank axis }
+    fn of(o: &Formed<'a>, along: &Along) -> Run<'a>
+        ensures { result ≡ run_of along.now.shape.rank along.now.axis o.now }
     {
-        let width = extent(s, rank, axis);
+        let width = along.extent(&o.shape);
         Run {
-            scalar: s.rank == 0,
+            scalar: o.shape.rank == 0,
             width,
+            elements: o.elements,
         }
     }
 
     // To each block, where so many elements stand after a position.
-    fn widened(self, inner: usize) -> Run
-        requires { self.width * inner ≤ max_count }
-        ensures { result ≡ widened inner self }
+    fn widened(&self, inner: usize) -> Run<'a>
+        requires { self.now.width * inner ≤ max_count }
+        ensures { result ≡ widened inner self.now }
     {
         Run {
             width: self.width * inner,
-            ..self
+            ..*self
         }
     }
 }
 
-// The length that an operand counts as along the axis: its own, or 1 where its rank is lower.
-fn extent(s: Shape, rank: usize, axis: usize) -> usize
-    requires { axis < max_rank }
-    ensures { result ≡ extent_of s rank axis }
-{
-    if s.rank == rank { s.lens[axis] } else { 1 }
-}
-
-// Whether an operand's lengths agree with the higher ones but for the axis; a scalar's always do.
-fn agrees(s: Shape, hs: Shape, axis: usize) -> bool
-    requires { Compared s hs axis }
-    ensures { (x : List ℤ) → result ≡ agree (counted hs) axis (array_of (lent s x)) }
-{
-    let rank = s.rank;
-    if rank == 0 {
-        return true;
-    }
-    let from = axis + 1 + rank - hs.rank;
-    s.lens[..axis] == hs.lens[..axis] && s.lens[from..rank] == hs.lens[axis + 1..hs.rank]
-}
-
-// The result's elements, `total` in number, by what the operands give along an axis of the higher shape. A function of its own: within `catenate` the
-// loops have fewer registers, and runs of 16 elements take a fifth longer.
+// The result's elements, `total` in number, by what the operands give along the axis. A function of its own: within `catenate` the loops have fewer
+// registers, and runs of 16 elements take a fifth longer.
 #[inline(never)]
-fn join_into(
-    left: Run,
-    l: &[i32],
-    right: Run,
-    r: &[i32],
-    hs: Shape,
-    axis: usize,
-    total: usize,
-    out: &mut [i32],
-)
-    requires { Joinable left l.now right r.now hs axis total (length out.old) }
-    ensures { out.new ≡ filled (joined_along hs axis left l.now right r.now) total out.old }
+fn join_into(left: &Run<'_>, right: &Run<'_>, along: &Along, total: usize, out: &mut [i32])
+    requires { Joinable left.now right.now along.now.shape along.now.axis total (length out.old) }
+    ensures { out.new ≡ filled (joined_along along.now.shape along.now.axis left.now right.now) total out.old }
 {
     if total == 0 {
         return;
     }
-    let w = hs.around(axis);
+    let w = along.shape.around(along.axis);
     let x = left.widened(w.inner);
     let y = right.widened(w.inner);
     let first = x.width;
     let size = first + y.width;
-    put_runs(x, l, 0, size, w.outer, out);
-    put_runs(y, r, first, size, w.outer, out);
+    put_runs(&x, 0, size, w.outer, out);
+    put_runs(&y, first, size, w.outer, out);
 }
 
 // Each block of `size` elements has a run of an operand, from `first` on; the block's other elements stay.
-fn put_runs(run: Run, src: &[i32], first: usize, size: usize, outer: usize, out: &mut [i32])
-    requires { RunsFit run first size outer (length src.now) (length out.old) }
-    ensures { out.new ≡ filled (runs_at run src.now first size out.old) (outer * size) out.old }
+fn put_runs(run: &Run<'_>, first: usize, size: usize, outer: usize, out: &mut [i32])
+    requires { RunsFit run.now first size outer (length out.old) }
+    ensures { out.new ≡ filled (runs_at run.now first size out.old) (outer * size) out.old }
 {
     // The place is counted up beside o: computed from it, runs of 16 elements take a tenth longer.
     let mut at = first;
     for o in 0..outer {
         let end = at + run.width;
-        put_run(run, src, o, &mut out[at..end]);
+        put_run(run, o, &mut out[at..end]);
         at += size;
     }
 }
 
 // The run of block o.
-fn put_run(run: Run, src: &[i32], o: usize, out: &mut [i32])
-    requires { (length out.old ≡ run.width) × RunFits run o (length src.now) }
-    ensures { out.new ≡ filled (λ i. side_at run.scalar src.now (o * run.width + i)) run.width out.old }
+fn put_run(run: &Run<'_>, o: usize, out: &mut [i32])
+    requires { (length out.old ≡ run.now.width) × RunFits run.now o }
+    ensures { out.new ≡ filled (λ i. side_at run.now.scalar run.now.elements (o * run.now.width + i)) run.now.width out.old }
 {
     if run.scalar {
-        copying::fill_run(src[0], out);
+        copying::fill_run(run.elements[0], out);
         return;
     }
     let from = o * run.width;
     let to = from + run.width;
-    copying::copy_run(&src[from..to], out);
+    copying::copy_run(&run.elements[from..to], out);
 }

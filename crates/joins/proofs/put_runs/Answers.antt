@@ -1,6 +1,8 @@
-use Rattle.std.proofs.Common.{arith, ◌+◌, ◌≤◌, length}
+use Rattle.std.proofs.Common.{arith, ◌≡◌, ◌+◌, ◌≤◌, length}
+use mathlib.Core.Path.{ap}
 use Rattle.copying.proofs.Parts.{part-long}
 use Rattle.copying.proofs.Blockwise.{blockwise-none, blockwise-at, blockwise-all}
+use Rattle.joins.specs.Steps.{Given}
 use Rattle.joins.proofs.Blocks.{run_room, run_more}
 use Rattle.joins.proofs.put_runs.Goals as goal
 
@@ -11,11 +13,15 @@ pub loop-o-preserved : goal.loop-o-preserved
 loop-o-preserved c =
     let inv = c.loop-o.invariant in
     let more = c.loop-o-test.true in
-    let room : c.loop-o.at + c.args.run.width ≤ length c.loop-o.out =
-    omega (arith, inv.0, inv.1.long, c.requires.within, run_room c.args.run c.args.src.now c.requires inv.1 more) in (
+    let w : c.run.inside.width ≡ c.args.run.now.width = ap (λ (a : Given). a.width) c.run.view_is in
+    let room : c.loop-o.at + c.run.inside.width ≤ length c.loop-o.out =
+    omega (arith, w, inv.0, inv.1.long, c.requires.within, run_room c.args.run.now c.requires inv.1 more) in
+    let put = rw (← c.run.view_is) at c.put_run.ensures in
+    let fits = rw (← c.run.view_is) at c.requires in
+    let held = rw (← c.run.view_is) at inv.1 in (
       omega (arith, inv.0),
-      run_more c.args.run c.args.src.now c.requires inv.1 more c.loop-o.at inv.0 _ _ (part-long c.loop-o.out c.loop-o.at _ room)
-          c.put_run.auto.out c.put_run.ensures,
+      rw (← c.run.view_is)
+          (run_more _ fits held more c.loop-o.at inv.0 _ _ (part-long c.loop-o.out c.loop-o.at _ room) c.put_run.auto.out put),
     )
 
 pub returns : goal.returns
