@@ -16,7 +16,8 @@ use answer::{Formed, Operand, Refusal};
 use shape::Shape;
 use std::marker::Model;
 
-// 22, L before R.
+// 22, L before R. The steps stand written out: each needs what the ones before it found, so a frame that takes them would take three closures. And the
+// arguments stand apart, as in the paper: a struct of them would be made for this call alone, and its promise speaks of each.
 pub fn catenate(
     g: i32,
     k: i32,
@@ -49,7 +50,7 @@ struct Along {
     ghost has: { axis < shape.rank },
 }
 
-// RANK, AXIS and LENGTH, or else what the operands are joined along. No element is looked at.
+// RANK, AXIS and LENGTH, or else what the operands are joined along. No element is looked at. G and K go with each other here alone, to name the axis.
 fn joint(g: i32, k: i32, l: &Formed<'_>, r: &Formed<'_>) -> Result<Along, Refusal>
     ensures number { asked result ≡ own 22 (catenate g k (array_of l.now) (array_of r.now)).refusals }
     ensures found { IfOk result (λ t. Joins g k l.now r.now t.shape t.axis) }
@@ -73,7 +74,7 @@ fn ranks_fit(a: usize, b: usize) -> bool
     a == 0 || b == 0 || a.abs_diff(b) <= 1
 }
 
-// The shape of the higher rank; two scalars are joined as vectors of one.
+// The shape of the higher rank. A scalar is read as a vector here only beside another one, so what reads every scalar so does not serve.
 fn higher(ls: Shape, rs: Shape) -> Shape
     ensures { result ≡ higher_shape ls rs }
 {
@@ -86,6 +87,7 @@ fn higher(ls: Shape, rs: Shape) -> Shape
     }
 }
 
+// Each test of a rank asks something else of it, lower, equal or a scalar's: an enum of the three would be matched once in each place as well.
 impl Along {
     // The length that an operand counts as along the axis: its own, or 1 where its rank is lower.
     fn extent(&self, s: &Shape) -> usize
@@ -144,7 +146,7 @@ impl<'a> Run<'a> {
         }
     }
 
-    // To each block, where so many elements stand after a position.
+    // To each block, where so many elements stand after a position. The product is small for the two together, and no field of either says so.
     fn widened(&self, inner: usize) -> Run<'a>
         requires { self.now.width * inner ≤ max_count }
         ensures { result ≡ widened inner self.now }
@@ -157,7 +159,8 @@ impl<'a> Run<'a> {
 }
 
 // The result's elements, `total` in number, by what the operands give along the axis. A function of its own: within `catenate` the loops have fewer
-// registers, and runs of 16 elements take a fifth longer.
+// registers, and runs of 16 elements take a fifth longer. Where there are none, the counts around the axis are not read: they are held, and need not fit.
+// It is shared with no other primitive: what another crate can call asks nothing, and the blocks of each need something else to fit.
 #[inline(never)]
 fn join_into(left: &Run<'_>, right: &Run<'_>, along: &Along, total: usize, out: &mut [i32])
     requires { Joinable left.now right.now along.now.shape along.now.axis total (length out.old) }
@@ -175,7 +178,8 @@ fn join_into(left: &Run<'_>, right: &Run<'_>, along: &Along, total: usize, out: 
     put_runs(&y, first, size, w.outer, out);
 }
 
-// Each block of `size` elements has a run of an operand, from `first` on; the block's other elements stay.
+// Each block of `size` elements has a run of an operand, from `first` on; the block's other elements stay. Not by `chunks_exact_mut`: std says how long
+// its parts are, and not what the buffer holds after them.
 fn put_runs(run: &Run<'_>, first: usize, size: usize, outer: usize, out: &mut [i32])
     requires { RunsFit run.now first size outer (length out.old) }
     ensures { out.new ≡ filled (runs_at run.now first size out.old) (outer * size) out.old }
@@ -189,7 +193,7 @@ fn put_runs(run: &Run<'_>, first: usize, size: usize, outer: usize, out: &mut [i
     }
 }
 
-// The run of block o.
+// The run of block o. The flag is read here alone: by two types of runs, or a constant, all that a run goes through would stand twice for these two calls.
 fn put_run(run: &Run<'_>, o: usize, out: &mut [i32])
     requires { (length out.old ≡ run.now.width) × RunFits run.now o }
     ensures { out.new ≡ filled (λ i. side_at run.now.scalar run.now.elements (o * run.now.width + i)) run.now.width out.old }
