@@ -46,7 +46,8 @@ beside-le (less h e) = omega arith
 beside-le (equal h e) = omega arith
 
 -- An operand's shape s and the higher shape, of which the program has all lengths.
-module _ (s hs : Shape) (k : ℕ) (beside : Beside s.rank hs.rank) (high : hs.rank ≤ max_rank) (has : k < hs.rank) (sl : length s.lens ≡ max_rank) (hl : length hs.lens ≡ max_rank) where
+module _ (s hs : Shape) (k : ℕ) (beside : Beside s.rank hs.rank) (high : hs.rank ≤ max_rank) (has : k < hs.rank) (sl : length s.lens ≡ max_rank)
+    (hl : length hs.lens ≡ max_rank) where
   -- The lengths after axis k: the operand's start at `from`, the higher ones at k + 1.
   abbrev from : ℕ
   from = k + 1 + s.rank - hs.rank

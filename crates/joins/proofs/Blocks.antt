@@ -22,6 +22,9 @@ use Rattle.copying.proofs.Parts.{part_filled, part-long, filled_on}
 use Rattle.copying.proofs.Blockwise.{Blockwise, blockwise-room}
 use Rattle.joins.specs.Steps.{Given, joined, RunsFit, runs_at}
 
+pub wide : {a b : Given} → a ≡ b → a.width ≡ b.width
+wide e = ap (λ (a : Given). a.width) e
+
 -- Element x of block o: before the run, in it, and after it.
 module _ (a : Given) (first size : ℕ) (out : List ℤ) (fits : first + a.width ≤ size) (o : ℕ) where
   abbrev g : ℕ → ℤ

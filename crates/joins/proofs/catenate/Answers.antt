@@ -1,10 +1,10 @@
-use Rattle.std.proofs.Common.{◌∙◌, sym, ap}
+use Rattle.std.proofs.Common.{◌∙◌, sym}
 use native.Mathlib.Omega.{arith}
 use mathlib.Core.Path.{refl}
 use Rattle.answer.proofs.Early.{early-read}
 use Rattle.answer.proofs.Exits.{exit, asked_ok}
 use Rattle.answer.proofs.Order.{early-replied, own-replied, late-replied, given-replied, Roomy, late-fine}
-use Rattle.joins.specs.Steps.{Given}
+use Rattle.joins.proofs.Blocks.{wide}
 use Rattle.joins.proofs.Heights.{catenate-names}
 use Rattle.joins.proofs.Catenating.{extent-small, joint-asked, joint-found, shape-made, catenate-ready, catenate-total, joinable, catenate-out}
 use Rattle.joins.proofs.catenate.Goals as goal
@@ -27,8 +27,8 @@ overflow_add-left-inside c =
     let k =
     joint-found c.ranges.g c.ranges.k c.joint.result _ _ c.joint.ensures.number c.early_two.result c.early_two.ensures.number c.in_ok-l.was
     c.in_ok-l.ensures.operands c.in_ok-along.was c.in_ok-along.ensures.found in
-    let x = ap (λ (a : Given). a.width) (c.left.view_is ∙ c.of-left.ensures) in
-    let y = ap (λ (a : Given). a.width) (c.right.view_is ∙ c.of-right.ensures) in
+    let x = wide (c.left.view_is ∙ c.of-left.ensures) in
+    let y = wide (c.right.view_is ∙ c.of-right.ensures) in
     omega (arith, x, y, extent-small k.left, extent-small k.right)
 
 pub returns-in_err-late : goal.returns-in_err-late

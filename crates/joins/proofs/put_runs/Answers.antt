@@ -1,9 +1,7 @@
 use Rattle.std.proofs.Common.{arith, ◌≡◌, ◌+◌, ◌≤◌, length}
-use mathlib.Core.Path.{ap}
 use Rattle.copying.proofs.Parts.{part-long}
 use Rattle.copying.proofs.Blockwise.{blockwise-none, blockwise-at, blockwise-all}
-use Rattle.joins.specs.Steps.{Given}
-use Rattle.joins.proofs.Blocks.{run_room, run_more}
+use Rattle.joins.proofs.Blocks.{wide, run_room, run_more}
 use Rattle.joins.proofs.put_runs.Goals as goal
 
 pub loop-o-init : goal.loop-o-init
@@ -13,7 +11,7 @@ pub loop-o-preserved : goal.loop-o-preserved
 loop-o-preserved c =
     let inv = c.loop-o.invariant in
     let more = c.loop-o-test.true in
-    let w : c.run.inside.width ≡ c.args.run.now.width = ap (λ (a : Given). a.width) c.run.view_is in
+    let w : c.run.inside.width ≡ c.args.run.now.width = wide c.run.view_is in
     let room : c.loop-o.at + c.run.inside.width ≤ length c.loop-o.out =
     omega (arith, w, inv.0, inv.1.long, c.requires.within, run_room c.args.run.now c.requires inv.1 more) in
     let put = rw (← c.run.view_is) at c.put_run.ensures in
