@@ -9,7 +9,6 @@ use native.Mathlib.Omega.{arith}
 use lib.ListN.{length, length-append, length-drop, get_or, take, drop, drop_of_length-le}
 use lib.Seq.{drop-cons, drop-drop, drop_at, take_at}
 use lib.IntN.{ℤ, pos}
-use borrow.Rule.Slice.PartMut.{mid_len}
 use mir.Syntax.{w32}
 use mir.Val.{SFits, to_z, of_z}
 use Rattle.meaning.specs.Terms.{int_same, first_at}
@@ -50,6 +49,27 @@ first-least x (y ∷ l) (suc p) h e = by (int_same x y) (first-least x l p (omeg
     by true k = omega arith
     by false k = omega arith
 
+-- It is the first part's where that has one, and else the second part's.
+pub found_front : (x : ℤ) (a b : List ℤ) → first_at x a < length a → first_at x a ≡ first_at x (a ++ b)
+unfolding first_at
+found_front x [] b h = absurd (omega arith)
+found_front x (y ∷ a) b h = by (int_same x y) (found_front x a b) h
+  where
+    by : (t : Bool) → (first_at x a < length a → first_at x a ≡ first_at x (a ++ b)) → cond t 0 (suc (first_at x a)) < suc (length a)
+        → cond t 0 (suc (first_at x a)) ≡ cond t 0 (suc (first_at x (a ++ b)))
+    by true k h = refl
+    by false k h = ap suc (k (omega arith))
+
+pub found-back : (x : ℤ) (a b : List ℤ) → length a ≤ first_at x a → length a + first_at x b ≡ first_at x (a ++ b)
+unfolding first_at
+found-back x [] b h = zero-add (first_at x b)
+found-back x (y ∷ a) b h = by (int_same x y) (found-back x a b) h
+  where
+    by : (t : Bool) → (length a ≤ first_at x a → length a + first_at x b ≡ first_at x (a ++ b)) → suc (length a) ≤ cond t 0 (suc (first_at x a))
+        → suc (length a) + first_at x b ≡ cond t 0 (suc (first_at x (a ++ b)))
+    by true k h = absurd (omega arith)
+    by false k h = omega (arith, k (omega arith))
+
 -- The same of an element that a call has read from a local.
 pub read_first : (x : ℤ) → SFits w32 x → (l : List ℤ) {n : ℕ} → n ≡ first_at (to_z w32 (of_z w32 x)) l → n ≡ first_at x l
 read_first x f l e = e ∙ ap (λ z. first_at z l) (read32 x f)
@@ -57,13 +77,6 @@ read_first x f l e = e ∙ ap (λ z. first_at z l) (read32 x f)
 -- Elements that are passed over: none yet, or those before the first position, or fewer.
 pub passed_none : (x : ℤ) (l : List ℤ) → Passed x l 0
 passed_none x l = record { inside = omega arith; none = λ i h. absurd (omega arith) }
-
-pub passed_first : (x : ℤ) (l : List ℤ) (n : ℕ) → n ≤ first_at x l → Passed x l n
-passed_first x l n h = record { inside = omega (arith, first-le x l); none = λ i k. by i k (int_same x (get_or l i (pos 0))) refl }
-  where
-    by : (i : ℕ) → i < n → (b : Bool) → int_same x (get_or l i (pos 0)) ≡ b → int_same x (get_or l i (pos 0)) ≡ false
-    by i k true e = absurd (omega (arith, first-least x l i (omega (arith, first-le x l)) e))
-    by i k false e = e
 
 -- Then those from n on are searched.
 pub passed-skip : (x : ℤ) (l : List ℤ) (n : ℕ) → Passed x l n → n + first_at x (drop n l) ≡ first_at x l
@@ -106,12 +119,6 @@ module _ {x : ℤ} {l : List ℤ} {n : ℕ} (p : Passed x l n) (e m : ℕ) (lo :
       by : (i : ℕ) → i < m → Dec (i < n) → int_same x (get_or l i (pos 0)) ≡ false
       by i k (yes a) = p.none i a
       by i k (no a) = sym (ap (int_same x) (part_at l n e i (omega arith) (omega arith))) ∙ q.none (i - n) (omega arith)
-
-  pub found_part : m < e → m - n ≡ first_at x part → m ≡ first_at x l
-  found_part h q =
-      let here = first_holds x part (rw (mid_len n e l room) (omega arith)) in
-      let holds = sym (ap (int_same x) (part_at l n e m lo h)) ∙ ap (λ j. int_same x (get_or part j (pos 0))) q ∙ here in
-      passed_here (passed-part (passed_first x part (m - n) (omega arith))) (omega arith) holds
 
 -- A block of elements that are passed over, as the chunks of what is left give it.
 pub passed-block : {x : ℤ} {l block rest : List ℤ} {n : ℕ} → Passed x l n → drop n l ≡ block ++ rest → length block ≡ 16

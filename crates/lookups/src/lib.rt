@@ -7,7 +7,7 @@ ghost use Rattle.meaning.specs.Terms.{first_at};
 ghost use Rattle.meaning.specs.Reply.{reply};
 ghost use Rattle.answer.specs.Answer.{Replied};
 ghost use Rattle.answer.specs.Refused.{answered};
-ghost use Rattle.lookups.specs.Steps.{entry, Looks, Entered, AllEntered, Passed, Table};
+ghost use Rattle.lookups.specs.Steps.{entry, Looks, Entered, AllEntered, Passed};
 
 use answer::{Operand, Refusal};
 use shape::Shape;
@@ -91,28 +91,11 @@ fn put_hashed<const BITS: bool>(first: usize, l: &[i32], r: &[i32], out: &mut [i
     requires { Looks first l.now r.now (length out.old) }
     ensures { AllEntered BITS first l.now r.now out.old out.new }
 {
-    let mut chains = Chains {
-        heads: [table::NONE; table::BUCKETS],
-        links: [table::NONE; Shape::MAX_COUNT],
-    };
-    chains.link(l);
-    put_looked_up::<BITS>(first, l, &chains, r, out);
-}
-
-// A function of its own: as a part of its caller, with fewer registers, it takes 1.07 of the time.
-#[inline(never)]
-fn put_looked_up<const BITS: bool>(
-    first: usize,
-    l: &[i32],
-    chains: &Chains,
-    r: &[i32],
-    out: &mut [i32],
-)
-    requires { Looks first l.now r.now (length out.old) × Table l.now chains.now.heads chains.now.links }
-    ensures { AllEntered BITS first l.now r.now out.old out.new }
-{
+    let mut heads = [table::NONE; table::BUCKETS];
+    let mut links = [table::NONE; Shape::MAX_COUNT];
+    let chains = Chains::link(l, &mut heads, &mut links);
     for (j, x) in r.iter().enumerate() {
-        let at = chains.look(l, *x);
+        let at = chains.look(*x);
         out[j] = entry::<BITS>(first, l.len(), at);
     }
 }
@@ -137,25 +120,22 @@ const BLOCK: usize = 16;
 fn position(l: &[i32], x: i32) -> usize
     ensures { result ≡ first_at x l.now }
 {
-    if l.len() <= NEAR {
+    let Some((near, rest)) = l.split_at_checked(NEAR) else {
         return first_at(l, x);
-    }
-    let near = NEAR;
-    let at = first_at(&l[0..near], x);
-    if at < near {
+    };
+    let at = first_at(near, x);
+    if at < NEAR {
         return at;
     }
-    position_from(l, near, x)
+    NEAR + position_from(rest, x)
 }
 
-// The same where the elements before `from` were passed over.
-fn position_from(l: &[i32], from: usize, x: i32) -> usize
-    requires { Passed x l.now from }
+// The same, from the first block that may have x on.
+fn position_from(l: &[i32], x: i32) -> usize
     ensures { result ≡ first_at x l.now }
 {
-    let n = l.len();
-    let start = passed(l, from, x);
-    start + first_at(&l[start..n], x)
+    let start = passed(l, x);
+    start + first_at(&l[start..], x)
 }
 
 // The first position that holds x, the length where none does, element by element. A `for`, and not `position`: of the items of a chain no proof knows
@@ -171,13 +151,12 @@ fn first_at(l: &[i32], x: i32) -> usize
     l.len()
 }
 
-// Blocks from `from` on that do not have x are passed over.
-fn passed(l: &[i32], from: usize, x: i32) -> usize
-    requires { Passed x l.now from }
+// Blocks that do not have x are passed over.
+fn passed(l: &[i32], x: i32) -> usize
     ensures { Passed x l.now result }
 {
-    let mut start = from;
-    for block in l[from..].chunks_exact(BLOCK) {
+    let mut start = 0;
+    for block in l.chunks_exact(BLOCK) {
         if may_have(block, x) {
             return start;
         }

@@ -1,10 +1,11 @@
 // A hash table with chains of a list's positions, so that an element is looked for among a few. Each value belongs to one bucket, and the
 // positions of a bucket's chain rise: the first that holds a value is the value's first position.
-ghost use Rattle.std.specs.Prelude.{◌≡◌, ◌<◌};
+ghost use Rattle.std.specs.Prelude.{◌≡◌, ◌<◌, List, ℤ};
 ghost use Rattle.meaning.specs.Terms.{first_at};
-ghost use Rattle.lookups.specs.Steps.{buckets, hash_of, Empty, Table, Chained};
+ghost use Rattle.lookups.specs.Steps.{buckets, hash_of, Empty, Table, OnChain};
 
 use shape::Shape;
+use std::marker::Model;
 
 pub const BUCKETS: usize = 65536;
 
@@ -15,42 +16,56 @@ pub const NONE: u16 = 65535;
 const ELEMENTS_TO_A_STEP: usize = 64;
 
 // Multiplicative hashing (Knuth, The Art of Computer Programming, vol. 3, 6.4): 2^32 divided by the golden ratio, rounded to an odd number.
-const FACTOR: usize = 2654435769;
+const FACTOR: u32 = 2654435769;
 
-// The bucket of a value: sixteen bits from the middle of a product.
+// The bucket of a value: the upper sixteen bits of a product of 32.
 fn hash(x: i32) -> usize
     ensures { (result ≡ hash_of x) × (result < buckets) }
 {
-    let key = signed::from_zero(x, -2147483648);
-    key * FACTOR / 65536 % BUCKETS
+    let key = x.abs_diff(i32::MIN);
+    (key.wrapping_mul(FACTOR) >> 16) as usize
 }
 
-// Each bucket's first position, and after each position the next of its chain.
+// A list with each bucket's first position, and after each position the next of its chain.
 #[derive(Drop)]
-pub struct Chains {
-    pub heads: [u16; BUCKETS],
-    pub links: [u16; Shape::MAX_COUNT],
+pub struct Chains<'a> {
+    l: &'a [i32],
+    heads: &'a [u16; BUCKETS],
+    links: &'a [u16; Shape::MAX_COUNT],
 }
 
-impl Chains {
+impl<'a> Model for Chains<'a> {
+    ghost Value = { List ℤ };
+
+    ghost view = { λ c. c.l.now };
+
+    ghost invariant = { λ c. Table c.l.now c.heads.now c.links.now };
+}
+
+impl<'a> Chains<'a> {
     // Every position of l is put in front of its chain, the last position first.
-    pub fn link(&mut self, l: &[i32])
-        requires { Empty l.now self.old.heads self.old.links }
-        ensures { Table l.now self.new.heads self.new.links }
+    pub fn link(
+        l: &'a [i32],
+        heads: &'a mut [u16; BUCKETS],
+        links: &'a mut [u16; Shape::MAX_COUNT],
+    ) -> Chains<'a>
+        requires { Empty l.now heads.old links.old }
+        ensures { result ≡ l.now }
     {
         for i in (0..l.len()).rev() {
             let h = hash(l[i]);
-            self.links[i] = self.heads[h];
-            self.heads[h] = i as u16;
+            links[i] = heads[h];
+            heads[h] = i as u16;
         }
+        Chains { l, heads, links }
     }
 
     // The first position that holds x, the length where none does. The one branch is for a chain with a second position whose first does not hold x:
     // a branch for an empty chain, or for what its first position holds, is guessed wrong for many random values.
-    pub fn look(&self, l: &[i32], x: i32) -> usize
-        requires { Table l.now self.now.heads self.now.links }
-        ensures { result ≡ first_at x l.now }
+    pub fn look(&self, x: i32) -> usize
+        ensures { result ≡ first_at x self.now }
     {
+        let l = self.l;
         let n = l.len();
         if n == 0 {
             return 0;
@@ -62,16 +77,17 @@ impl Chains {
         let skip = if found { n } else { 0 };
         let at = if found { q } else { n };
         if next + skip < n {
-            return self.follow(l, x, p);
+            return self.follow(x, p);
         }
         at
     }
 
     // The same, from the first position of x's chain on. Where the chain is long the list is searched instead.
-    fn follow(&self, l: &[i32], x: i32, first: usize) -> usize
-        requires { Chained l.now self.now.links x first }
-        ensures { result ≡ first_at x l.now }
+    fn follow(&self, x: i32, first: usize) -> usize
+        requires { OnChain self.now x first }
+        ensures { result ≡ first_at x self.now }
     {
+        let l = self.l;
         let n = l.len();
         let mut p = first;
         let mut left = n / ELEMENTS_TO_A_STEP;
@@ -81,7 +97,7 @@ impl Chains {
                 return p;
             }
             if left == 0 {
-                return crate::position_from(l, 0, x);
+                return crate::position_from(l, x);
             }
             left -= 1;
             p = usize::from(self.links[p]);

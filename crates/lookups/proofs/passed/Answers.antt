@@ -1,8 +1,8 @@
-use Rattle.std.proofs.Common.{rules, arith, ◌∙◌, sym, ap, ◌≡◌, ◌≤◌, ◌+◌, ◌-◌, length, length-drop, drop, take_all, ℤ}
+use Rattle.std.proofs.Common.{rules, arith, ◌∙◌, sym, ap, ◌≡◌, ◌≤◌, ◌+◌, length, drop, ℤ}
 use Rattle.std.specs.declared.slice.ChunksExact.{ChunksExact}
 use Rattle.signed.proofs.Reading.{read32}
 use Rattle.lookups.specs.Steps.{Passed}
-use Rattle.lookups.proofs.Finding.{passed-block}
+use Rattle.lookups.proofs.Finding.{passed_none, passed-block}
 use Rattle.lookups.proofs.passed.Goals as goal
 use Rattle.lookups.proofs.passed.Goals.{Else-may_have}
 
@@ -10,10 +10,7 @@ pub loop-block-init : goal.loop-block-init
 loop-block-init c =
     let is = c.into_iter-block-iterator.ensures.into_iter_gives in
     let made = c.chunks_exact-block-items.ensures in
-    let all = sym (take_all (length c.args.l.now - c.args.from) (drop c.args.from c.args.l.now) (rw length-drop (omega arith))) in (
-      rw (read32 _ c.ranges.x) c.requires,
-      (all ∙ sym (ap (λ (i : ChunksExact ℤ). i.rest.now) is ∙ made.rest), ap (λ (i : ChunksExact ℤ). i.size) is ∙ made.size),
-    )
+    (passed_none _ _, (sym (ap (λ (i : ChunksExact ℤ). i.rest.now) is ∙ made.rest), ap (λ (i : ChunksExact ℤ). i.size) is ∙ made.size))
 
 pub returns-then-may_have : goal.returns-then-may_have
 returns-then-may_have c = rw (read32 _ c.ranges.x) at c.loop-block.invariant.0

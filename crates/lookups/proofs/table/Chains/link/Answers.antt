@@ -16,7 +16,7 @@ loop-i-preserved c =
     let h : c.hash-h.result ≡ hash_of (get_or c.args.l.now (c.loop-i.i - 1) (pos 0)) = c.hash-h.ensures.0 ∙ ap hash_of (read32 _ f) in
     rw h (linking-one c.loop-i.invariant c.requires.small (omega arith))
 
-pub returns : goal.returns
-returns c =
+pub invariant_of-result : goal.invariant_of-result
+invariant_of-result c =
     let e : c.loop-i.i ≡ 0 = omega arith in
     record { small = c.requires.small; linked = rw e at c.loop-i.invariant.linked }

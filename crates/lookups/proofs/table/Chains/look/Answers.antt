@@ -32,29 +32,32 @@ module _ {l : List ℤ} {x : ℤ} {p : ℕ} (c : OnChain l x p) (q : ℕ) (near 
       by (no b) = on-past c (omega arith)
 
 pub returns-then-n-eq0 : goal.returns-then-n-eq0
-returns-then-n-eq0 c = omega (arith, first-le c.args.x c.args.l.now)
+returns-then-n-eq0 c = omega (arith, first-le c.args.x c.self.inside.l.now, ap (first_at c.args.x) c.self.view_is)
 
 pub follow-requires : goal.follow-requires
 follow-requires c =
-    let first = c.from-p.ensures ∙ ap (λ h. get_or c.args.self.now.heads h 0) c.hash.ensures.0 in
-    record { small = c.requires.small; link = c.requires.linked.link; on = rw first (head-on c.args.l.now _ c.requires.linked) }
+    let first = c.from-p.ensures ∙ ap (λ h. get_or c.self.inside.heads.now h 0) c.hash.ensures.0 in
+    rw (← c.self.view_is) (rw first (head-on c.self.inside.l.now _ c.self.invariant.linked))
 
 pub returns : goal.returns
 returns c =
+    let l = c.self.inside.l.now in
+    let t = c.self.invariant.linked in
     let hash = c.hash.ensures.0 ∙ ap hash_of (read32 _ c.ranges.x) in
-    let first = c.from-p.ensures ∙ ap (λ h. get_or c.args.self.now.heads h 0) hash in
-    let on : OnChain c.args.l.now c.args.x c.from-p.result = rw first (head-on c.args.l.now c.args.x c.requires.linked) in
-    let f : SFits w32 (get_or c.args.l.now c.min-q.result (pos 0)) = search rules in
+    let first = c.from-p.ensures ∙ ap (λ h. get_or c.self.inside.heads.now h 0) hash in
+    let on : OnChain l c.args.x c.from-p.result = rw first (head-on l c.args.x t) in
+    let f : SFits w32 (get_or l c.min-q.result (pos 0)) = search rules in
     let same = sym (int_same-bits c.args.x _ c.ranges.x f) in
     elim c.if-found-2.branch [
       | then-found-2 w ↦ w.at-is ∙ here on _ c.min-q.ensures (omega arith) (same ∙ eq-eqb _ _ w.if-found-2.true)
       | else-found-2 w ↦
-          let past : length c.args.l.now ≤ c.from-next.result =
+          let past : length l ≤ c.from-next.result =
           elim c.if-found.branch [
             | then-found u ↦ absurd (w.if-found-2.false u.if-found.true)
             | else-found u ↦ omega (arith, u.skip-is)
           ] in
           w.at-is
-          ∙ nowhere on _ c.min-q.ensures (omega arith) c.args.self.now.links c.requires.linked.link (same ∙ ne_eqb _ _ w.if-found-2.false)
+          ∙ nowhere on _ c.min-q.ensures (omega arith) c.self.inside.links.now t.link (same ∙ ne_eqb _ _ w.if-found-2.false)
           (omega (arith, past, c.from-next.ensures))
     ]
+    ∙ ap (first_at c.args.x) c.self.view_is
