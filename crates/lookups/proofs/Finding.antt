@@ -1,4 +1,6 @@
 -- The first position of an element, looked for from the front.
+use Rattle.std.proofs.Common.{Option, Some, None}
+use Rattle.std.specs.Option.{unwrap_or, option_map, IfSome}
 use mathlib.Core.Path.{◌≡◌, refl, sym, ap, ap₂, ◌∙◌}
 use mathlib.Core.List.{List, [], ◌∷◌, ◌++◌}
 use mathlib.Core.Bool.{Bool, true, false, cond}
@@ -9,12 +11,9 @@ use native.Mathlib.Omega.{arith}
 use lib.ListN.{length, length-append, length-drop, get_or, take, drop, drop_of_length-le}
 use lib.Seq.{drop-cons, drop-drop, drop_at, take_at}
 use lib.IntN.{ℤ, pos}
-use mir.Syntax.{w32}
-use mir.Val.{SFits, to_z, of_z}
 use Rattle.meaning.specs.Terms.{int_same, first_at}
 use Rattle.meaning.proofs.Tab.{get_or_part}
-use Rattle.signed.proofs.Reading.{read32}
-use Rattle.lookups.specs.Steps.{Passed}
+use Rattle.lookups.specs.Steps.{Finds, Passed}
 
 pub first-le : (x : ℤ) (l : List ℤ) → first_at x l ≤ length l
 unfolding first_at
@@ -70,9 +69,21 @@ found-back x (y ∷ a) b h = by (int_same x y) (found-back x a b) h
     by true k h = absurd (omega arith)
     by false k h = omega (arith, k (omega arith))
 
--- The same of an element that a call has read from a local.
-pub read_first : (x : ℤ) → SFits w32 x → (l : List ℤ) {n : ℕ} → n ≡ first_at (to_z w32 (of_z w32 x)) l → n ≡ first_at x l
-read_first x f l e = e ∙ ap (λ z. first_at z l) (read32 x f)
+-- The same of what a search found in a part; beside it, what it found or the length.
+pub in-front : (x : ℤ) (a b : List ℤ) (i : ℕ) → Finds x a (Some i) → Finds x (a ++ b) (Some i)
+in-front x a b i f = (f.0 ∙ found_front x a b (omega (arith, f.0, f.1)), omega (arith, length-append a b, f.1))
+
+pub in_back : (x : ℤ) (a b : List ℤ) (r : Option ℕ) → Finds x a None → Finds x b r → Finds x (a ++ b) (option_map (λ i. length a + i) r)
+in_back x a b None n f = omega (arith, length-append a b, f, found-back x a b (omega (arith, n)))
+in_back x a b (Some i) n f = (omega (arith, f.0, found-back x a b (omega (arith, n))), omega (arith, length-append a b, f.1))
+
+pub found_or : (x : ℤ) (l : List ℤ) (r : Option ℕ) → Finds x l r → unwrap_or r (length l) ≡ first_at x l
+found_or x l None h = h
+found_or x l (Some i) h = h.0
+
+pub found-inside : (x : ℤ) (l : List ℤ) (r : Option ℕ) → Finds x l r → IfSome r (λ i. i < length l)
+found-inside x l None h = tt
+found-inside x l (Some i) h = h.1
 
 -- Elements that are passed over: none yet, or those before the first position, or fewer.
 pub passed_none : (x : ℤ) (l : List ℤ) → Passed x l 0
@@ -87,6 +98,11 @@ passed-skip x (y ∷ l) (suc n) p =
     let rest : Passed x l n = record { inside = omega (arith, p.inside); none = λ i h. p.none (suc i) (omega arith) } in
     let e : int_same x y ≡ false = p.none 0 (omega arith) in
     rw e (omega (arith, passed-skip x l n rest))
+
+-- So a search goes on after them.
+pub found-after : (x : ℤ) (l : List ℤ) (n : ℕ) → Passed x l n → (r : Option ℕ) → Finds x (drop n l) r → Finds x l (option_map (λ i. n + i) r)
+found-after x l n p None f = omega (arith, f, length-drop n l, p.inside, passed-skip x l n p)
+found-after x l n p (Some i) f = (omega (arith, f.0, passed-skip x l n p), omega (arith, length-drop n l, f.1))
 
 module _ {x : ℤ} {l : List ℤ} {n : ℕ} (p : Passed x l n) where
   -- The next element is not x, or it is, or there is none.

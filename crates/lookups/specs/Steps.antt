@@ -1,5 +1,5 @@
 -- What the contracts of private functions cite: what is written for an element that is looked for, a search, and a hash table with chains.
-use Rattle.std.specs.Prelude.{ℕ, ◌+◌, ◌*◌, ◌/◌, ◌%◌, ◌≤◌, ◌<◌, ◌≡◌, List, Bool, false, cond, ltb, length, get_or, ℤ, pos, negsuc}
+use Rattle.std.specs.Prelude.{ℕ, ◌+◌, ◌*◌, ◌/◌, ◌%◌, ◌≤◌, ◌<◌, ◌≡◌, List, Bool, false, cond, ltb, length, get_or, ℤ, pos, negsuc, Option, MatchOption}
 use Rattle.shape.specs.Shape.{max_count}
 use Rattle.meaning.specs.Terms.{int_same, from_zero, first_at}
 use Rattle.copying.specs.Steps.{filled}
@@ -26,6 +26,10 @@ pub record Entered (bits : Bool) (first : ℕ) (l r out₀ out : List ℤ) (n : 
 -- All are.
 abbrev pub AllEntered : Bool → ℕ → List ℤ → List ℤ → List ℤ → List ℤ → Type 0
 AllEntered bits first l r out₀ out = out ≡ filled (entries bits first l r) (length r) out₀
+
+-- What a search for x finds: the first position that holds it, or nothing.
+abbrev pub Finds : ℤ → List ℤ → Option ℕ → Type 0
+Finds x l r = MatchOption r (length l ≡ first_at x l) (λ i. (i ≡ first_at x l) × (i < length l))
 
 -- The first n elements were passed over: none of them is x.
 pub record Passed (x : ℤ) (l : List ℤ) (n : ℕ) : Type 0 where

@@ -3,11 +3,10 @@
 
 ghost use Rattle.std.specs.Prelude.{◌≡◌, ◌*◌, ◌≤◌, false, length, ℤ, pos};
 ghost use Rattle.shape.specs.Shape.{max_count};
-ghost use Rattle.meaning.specs.Terms.{first_at};
 ghost use Rattle.meaning.specs.Reply.{reply};
 ghost use Rattle.answer.specs.Answer.{Replied};
 ghost use Rattle.answer.specs.Refused.{answered};
-ghost use Rattle.lookups.specs.Steps.{entry, Looks, Entered, AllEntered, Passed};
+ghost use Rattle.lookups.specs.Steps.{entry, Looks, Entered, AllEntered, Finds, Passed};
 
 use answer::{Operand, Refusal};
 use shape::Shape;
@@ -78,7 +77,7 @@ fn put_searched<const BITS: bool>(first: usize, l: &[i32], r: &[i32], out: &mut 
         if allowed < tests {
             return j;
         }
-        let at = position(l, *x);
+        let at = position(l, *x).unwrap_or(l.len());
         out[j] = entry::<BITS>(first, l.len(), at);
         tests += at;
     }
@@ -116,39 +115,37 @@ const NEAR: usize = 8;
 
 const BLOCK: usize = 16;
 
-// The first position that holds x, the length where none does.
-fn position(l: &[i32], x: i32) -> usize
-    ensures { result ≡ first_at x l.now }
+// The first position that holds x.
+fn position(l: &[i32], x: i32) -> Option<usize>
+    ensures { Finds x l.now result }
 {
     let Some((near, rest)) = l.split_at_checked(NEAR) else {
         return first_at(l, x);
     };
-    let at = first_at(near, x);
-    if at < NEAR {
-        return at;
+    if let Some(at) = first_at(near, x) {
+        return Some(at);
     }
-    NEAR + position_from(rest, x)
+    Some(NEAR + position_from(rest, x)?)
 }
 
 // The same, from the first block that may have x on.
-fn position_from(l: &[i32], x: i32) -> usize
-    ensures { result ≡ first_at x l.now }
+fn position_from(l: &[i32], x: i32) -> Option<usize>
+    ensures { Finds x l.now result }
 {
     let start = passed(l, x);
-    start + first_at(&l[start..], x)
+    Some(start + first_at(&l[start..], x)?)
 }
 
-// The first position that holds x, the length where none does, element by element. A `for`, and not `position`: of the items of a chain no proof knows
-// that they are numbers of 32 bits.
-fn first_at(l: &[i32], x: i32) -> usize
-    ensures { result ≡ first_at x l.now }
+// The same, element by element. A `for`, and not `position`: of the items of a chain no proof knows that they are numbers of 32 bits.
+fn first_at(l: &[i32], x: i32) -> Option<usize>
+    ensures { Finds x l.now result }
 {
     for (i, y) in l.iter().enumerate() {
         if x == *y {
-            return i;
+            return Some(i);
         }
     }
-    l.len()
+    None
 }
 
 // Blocks that do not have x are passed over.

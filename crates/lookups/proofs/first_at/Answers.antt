@@ -5,7 +5,7 @@ use mir.Syntax.{w32}
 use mir.Val.{SFits}
 use Rattle.signed.proofs.Equal.{int_same-bits}
 use Rattle.signed.proofs.Reading.{read32}
-use Rattle.lookups.proofs.Finding.{read_first, passed_none, passed-next, passed_here, passed-all}
+use Rattle.lookups.proofs.Finding.{passed_none, passed-next, passed_here, passed-all}
 use Rattle.lookups.proofs.first_at.Goals as goal
 
 pub loop-i-init : goal.loop-i-init
@@ -13,9 +13,11 @@ loop-i-init c = passed_none _ _
 
 pub returns-then-x-y : goal.returns-then-x-y
 returns-then-x-y c =
-    let f : SFits w32 (get_or c.args.l.now c.loop-i.i (pos 0)) = search rules in
-    passed_here (rw (read32 _ c.ranges.x) at c.loop-i.invariant) c.loop-i-test.true
-    (sym (int_same-bits c.args.x _ c.ranges.x f) ∙ eq-eqb _ _ c.if-x-y.true)
+    let f : SFits w32 (get_or c.args.l.now c.loop-i.i (pos 0)) = search rules in (
+      passed_here (rw (read32 _ c.ranges.x) at c.loop-i.invariant) c.loop-i-test.true
+          (sym (int_same-bits c.args.x _ c.ranges.x f) ∙ eq-eqb _ _ c.if-x-y.true),
+      c.loop-i-test.true,
+    )
 
 pub loop-i-preserved : goal.loop-i-preserved
 loop-i-preserved c =
@@ -24,4 +26,4 @@ loop-i-preserved c =
     (sym (int_same-bits c.args.x _ c.ranges.x f) ∙ ne_eqb _ _ c.if-x-y.false))
 
 pub returns : goal.returns
-returns c = read_first _ c.ranges.x _ (passed-all c.loop-i.invariant (omega arith))
+returns c = passed-all (rw (read32 _ c.ranges.x) at c.loop-i.invariant) (omega arith)

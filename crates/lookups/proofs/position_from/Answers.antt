@@ -1,21 +1,23 @@
-use Rattle.std.proofs.Common.{◌≡◌, ◌+◌, ◌-◌, ◌∙◌, ap, arith, length, length-drop, drop, take_all, ◌≤◌, rules}
-use mir.Syntax.{w32}
-use mir.Val.{to_z, of_z}
-use Rattle.meaning.specs.Terms.{first_at}
-use Rattle.lookups.proofs.Finding.{first-le, read_first, passed-skip}
+use Rattle.std.proofs.Common.{◌-◌, arith, length, length-drop, drop, take_all, None, Some}
+use Rattle.signed.proofs.Reading.{read32}
+use Rattle.lookups.specs.Steps.{Finds}
+use Rattle.lookups.proofs.Finding.{found-after}
 use Rattle.lookups.proofs.position_from.Goals as goal
 use Rattle.lookups.proofs.position_from.Goals.{After-first_at}
 
-sum : (c : After-first_at) → c.passed-start.result + c.first_at.result ≡ first_at c.args.x c.args.l.now
-sum c =
+after : (c : After-first_at) → Finds c.args.x (drop c.passed-start.result c.args.l.now) c.first_at.result
+after c =
     let n = c.passed-start.result in
     let l = c.args.l.now in
     let rest = take_all (length l - n) (drop n l) (rw length-drop (omega arith)) in
-    read_first _ c.ranges.x _ (ap (λ m. n + m) (c.first_at.ensures ∙ ap (first_at (to_z w32 (of_z w32 c.args.x))) rest) ∙ passed-skip _ l n c.passed-start.ensures)
+    rw (read32 _ c.ranges.x, rest) at c.first_at.ensures
 
-pub overflow_add-result : goal.overflow_add-result
-overflow_add-result c =
-    let short : length c.args.l.now ≤ 18446744073709551615 = search rules in omega (arith, sum c, first-le c.args.x c.args.l.now, short)
+pub returns-in_err-first_at : goal.returns-in_err-first_at
+returns-in_err-first_at c =
+    let f = rw c.in_err-first_at.was at (after (goal.at.returns-in_err-first_at c).After-first_at) in
+    rw c.from_residual.ensures (found-after _ _ _ (rw (read32 _ c.ranges.x) at c.passed-start.ensures) None f)
 
 pub returns : goal.returns
-returns c = sum c
+returns c =
+    let f = rw c.in_ok-first_at.was at (after (goal.at.returns c).After-first_at) in
+    found-after _ _ _ (rw (read32 _ c.ranges.x) at c.passed-start.ensures) (Some c.in_ok-first_at.field-0) f

@@ -1,24 +1,23 @@
-use Rattle.std.proofs.Common.{rules, ◌≡◌, ◌∙◌, ◌≤◌, pos, get_or}
+use Rattle.std.proofs.Common.{rules, ◌≡◌, ◌≤◌, ◌∙◌, pos, get_or}
 use native.Mathlib.Omega.{arith}
-use mathlib.Core.Path.{ap}
 use mir.Syntax.{w32}
 use mir.Val.{SFits}
 use Rattle.shape.specs.Shape.{max_count}
 use Rattle.meaning.specs.Terms.{first_at}
 use Rattle.signed.proofs.Reading.{read32}
-use Rattle.lookups.proofs.Finding.{first_small}
+use Rattle.lookups.proofs.Finding.{first_small, found_or}
 use Rattle.lookups.proofs.Entering.{entered-none, entered-next, entered_all}
 use Rattle.lookups.proofs.put_searched.Given as given
 use Rattle.lookups.proofs.put_searched.Goals as goal
-use Rattle.lookups.proofs.put_searched.Goals.{After-position-at}
+use Rattle.lookups.proofs.put_searched.Goals.{After-unwrap_or-at}
 
 -- The position of an element, which is at most the length.
-at-is : (g : given.Over) (c : After-position-at g) → c.position-at.result ≡ first_at (get_or c.args.r.now c.loop-j.j (pos 0)) c.args.l.now
+at-is : (g : given.Over) (c : After-unwrap_or-at g) → c.unwrap_or-at.result ≡ first_at (get_or c.args.r.now c.loop-j.j (pos 0)) c.args.l.now
 at-is g c =
     let f : SFits w32 (get_or c.args.r.now c.loop-j.j (pos 0)) = search rules in
-    c.position-at.ensures ∙ ap (λ z. first_at z c.args.l.now) (read32 _ f)
+    c.unwrap_or-at.ensures ∙ found_or _ _ _ (rw (read32 _ f) at c.position.ensures)
 
-at_small : (g : given.Over) (c : After-position-at g) → c.position-at.result ≤ max_count
+at_small : (g : given.Over) (c : After-unwrap_or-at g) → c.unwrap_or-at.result ≤ max_count
 at_small g c = first_small _ _ (at-is g c) c.requires.small
 
 pub loop-j-init : goal.loop-j-init
