@@ -1,20 +1,20 @@
 -- A chunk cut into lines.
-use Rattle.std.proofs.Common.{ℕ, suc, ◌+◌, ◌-◌, ◌≤◌, ◌<◌, ◌≡◌, List, [], ◌∷◌, ◌++◌, Bool, true, false, cond, refl, sym, ap, ◌∙◌, arith, append_assoc}
-use Rattle.std.proofs.Common.{append-nil, length, get_or, take, drop, take-append-drop, length-take, drop-cons, take_all, le_refl}
-use Rattle.std.specs.Prelude.{eqb, Option}
-use Rattle.std.proofs.Math.Seq.{take-add, get_or-take, get_or-drop}
-use borrow.Author.Tests.{ne_eqb}
-use Rattle.shape.proofs.Bools.{no_way}
+use Rattle.std.proofs.Common.{ℕ, suc, ◌+◌, ◌≤◌, ◌<◌, ◌≡◌, List, [], ◌∷◌, ◌++◌, Bool, true, false, cond, refl, sym, ap, ◌∙◌, arith, append_assoc}
+use Rattle.std.proofs.Common.{append-nil, add-one, length, get_or, take, drop, take-append-drop, length-take, drop-cons}
+use Rattle.std.specs.Prelude.{◌==◌, eqb, nat_lt, Option, Some, None}
+use Rattle.std.specs.List.{position, position_or_len}
+use Rattle.std.proofs.lemmas.List.Sums.{fails_before_first}
+use Rattle.std.proofs.lemmas.List.Quantifiers.{position-Some}
+use Rattle.std.proofs.Math.Seq.{get_or-take}
+use Rattle.std.proofs.lemmas.Bool.Decides.{nat_tests}
+use borrow.Author.Tests.{eqb-true}
 use Rattle.sheet_line.specs.Text.{newline}
 use Rattle.sheet_answer.specs.Sheet.{sheet_answer}
-use Rattle.sheet.specs.declared.Held.{Held}
+use Rattle.sheet.specs.declared.Sheet.{Sheet}
 use Rattle.sheet.specs.Lines.{next, Lines, after, lines_from}
 use Rattle.sheet.specs.Waiting.{Holds, Took}
-use Rattle.sheet.specs.Steps.{Answered}
 use Rattle.sheet.specs.Sent.{Sent, Short}
 use Rattle.sheet.specs.Run.{ShortIn}
-use Rattle.sheet.proofs.Search.{Free}
-use Rattle.sheet.proofs.Waits.{none_written, answer-waits, append-more}
 use Rattle.sheet.proofs.Sent.{sent_none, sent_more, short_later}
 
 -- The lines of some bytes and of those after them.
@@ -41,128 +41,122 @@ lines_append n begun [] ys = refl
 lines_append n begun (b ∷ bs) ys =
     first_case n begun bs ys b (eqb b newline) (lines_append (next n) [] bs ys) (lines_append n (begun ++ b ∷ []) bs ys)
 
--- A run without a newline.
-lines_run : (n : ℕ) (begun run : List ℕ) → Free run 0 (length run) → lines_from n begun run ≡ record { printed = []; line = n; begun = begun ++ run }
+-- No byte of a run is a newline.
+abbrev pub Free : List ℕ → Type 0
+Free run = (k : ℕ) → k < length run → (get_or run k 0 == newline) ≡ false
+
+lines_run : (n : ℕ) (begun run : List ℕ) → Free run → lines_from n begun run ≡ record { printed = []; line = n; begun = begun ++ run }
 unfolding lines_from
 lines_run n begun [] f = rw (append-nil begun)
 lines_run n begun (b ∷ bs) f =
-    rw (ne_eqb b newline (f 0 (omega arith) (omega arith)))
-    (lines_run n (begun ++ b ∷ []) bs (λ k p q. f (suc k) (omega arith) (omega arith))
+    rw (f 0 (omega arith))
+    (lines_run n (begun ++ b ∷ []) bs (λ k p. f (suc k) (omega arith))
     ∙ ap (λ l. record { printed = []; line = n; begun = l }) (append_assoc begun (b ∷ []) bs))
 
 pub lines_end : (n : ℕ) (begun : List ℕ) → lines_from n begun (newline ∷ []) ≡ record { printed = sheet_answer n begun; line = next n; begun = [] }
 unfolding lines_from
 lines_end n begun = ap (λ l. record { printed = l; line = next n; begun = [] }) (append-nil (sheet_answer n begun))
 
--- From a place of a chunk up to another there is no newline.
-module _ (chunk : List ℕ) (at end : ℕ) (p : at ≤ end) (q : end ≤ length chunk) (free : Free chunk at end) where
-  abbrev run : List ℕ
-  run = take (end - at) (drop at chunk)
-
-  run_free : Free run 0 (length run)
-  run_free k h l e =
-      let short = length-take (end - at) (drop at chunk) in
-      free (at + k) (omega arith) (omega arith) (sym (get_or-take (end - at) (drop at chunk) k 0 (omega arith) ∙ get_or-drop at chunk k 0) ∙ e)
-
-  abbrev ends : ℕ → List ℕ → Lines
-  ends n begun = let s : Lines = lines_from n begun (take at chunk) in record { printed = s.printed; line = s.line; begun = s.begun ++ run }
-
-  pub run_on : (n : ℕ) (begun : List ℕ) → lines_from n begun (take end chunk) ≡ ends n begun
-  run_on n begun =
-      let place : end ≡ at + (end - at) = omega arith in
-      let s : Lines = lines_from n begun (take at chunk) in
-      ap (λ k. lines_from n begun (take k chunk)) place
-      ∙ ap (lines_from n begun) (take-add at (end - at) chunk)
-      ∙ lines_append n begun (take at chunk) run
-      ∙ ap (after s.printed) (lines_run s.line s.begun run run_free)
-      ∙ ap (λ l. record { printed = l; line = s.line; begun = s.begun ++ run }) (append-nil s.printed)
-
-  -- And there one ends a line.
-  abbrev ended : Lines → Lines
-  ended s = record { printed = s.printed ++ sheet_answer s.line s.begun; line = next s.line; begun = [] }
-
-  pub run_ended : end < length chunk → get_or chunk end 0 ≡ newline → (n : ℕ) (begun : List ℕ)
-      → lines_from n begun (take (end + 1) chunk) ≡ ended (ends n begun)
-  run_ended l e n begun =
-      let s : Lines = ends n begun in
-      let one : take 1 (drop end chunk) ≡ newline ∷ [] = rw (drop-cons chunk end 0 l, e) in
-      ap (lines_from n begun) (take-add end 1 chunk ∙ ap (λ r. take end chunk ++ r) one)
-      ∙ lines_append n begun (take end chunk) (newline ∷ [])
-      ∙ ap (λ t. on t (newline ∷ [])) (run_on n begun)
-      ∙ ap (after s.printed) (lines_end s.line s.begun)
-
 pub lines_none : (n : ℕ) (begun : List ℕ) → lines_from n begun [] ≡ record { printed = []; line = n; begun = begun }
 unfolding lines_from
 lines_none n begun = refl
 
+-- A whole line.
+lines_one : (n : ℕ) (begun run : List ℕ) → Free run
+    → lines_from n begun (run ++ newline ∷ []) ≡ record { printed = sheet_answer n (begun ++ run); line = next n; begun = [] }
+lines_one n begun run f =
+    lines_append n begun run (newline ∷ []) ∙ ap (λ s. on s (newline ∷ [])) (lines_run n begun run f) ∙ lines_end n (begun ++ run)
+
+-- What the search for a newline finds.
+module _ (bytes : List ℕ) where
+  all_free : position (λ b. b == newline) bytes ≡ None → Free bytes
+  all_free e k h =
+      let none : length bytes ≤ position_or_len (λ b. b == newline) bytes = past _ _ e in
+      fails_before_first (λ b. b == newline) bytes k 0 (omega arith)
+    where
+      past : (n m : ℕ) → cond (nat_lt n m) (Some n) None ≡ None → m ≤ n
+      past n m e = grind (arith, nat_tests)
+
+  module _ (n : ℕ) (e : position (λ b. b == newline) bytes ≡ Some n) where
+    front_free : Free (take n bytes)
+    front_free k h =
+        let found = position-Some (λ b. b == newline) bytes n 0 e in
+        rw (get_or-take n bytes k 0 (omega (arith, length-take n bytes))) (found.2 k (omega (arith, length-take n bytes)))
+
+    cut_here : bytes ≡ take n bytes ++ newline ∷ drop (n + 1) bytes
+    cut_here =
+        let found = position-Some (λ b. b == newline) bytes n 0 e in
+        sym (take-append-drop n bytes)
+        ∙ ap (λ l. take n bytes ++ l) (rw (drop-cons bytes n 0 found.0, eqb-true _ newline found.1, add-one) refl)
+
 -- What was taken of a chunk up to a place.
-pub record Midway (start held : Held) (old new : Option (List ℕ)) (text₀ begun text : List ℕ) (s : Lines) : Type 0 where
-  pub took : Took start held s begun text₀ text
-  pub sent : Sent old new (take start.waiting text₀) s.printed (take held.waiting text)
+pub record Midway (start now : Sheet) (old new : Option (List ℕ)) (s : Lines) : Type 0 where
+  pub took : Took now s
+  pub sent : Sent old new start.answers.text s.printed now.answers.text
 
-pub none_taken : (start : Held) (a : Option (List ℕ)) (begun text bytes : List ℕ) → Holds start begun bytes
-    → Midway start start a a text begun text (lines_from start.line bytes [])
-none_taken start a begun text bytes o =
-    let waits = take start.waiting text in
-    rw (lines_none start.line bytes)
-    (record { took = record { line = refl; begun = o; waits = none_written waits }; sent = sent_none a waits })
+-- The chunk is its front, which was taken, and the rest.
+pub record Going (start now : Sheet) (old new : Option (List ℕ)) (chunk rest : List ℕ) : Type 0 where
+  pub front : List ℕ
+  pub joined : front ++ rest ≡ chunk
+  pub midway : (bytes : List ℕ) → Holds start.begun bytes → Midway start now old new (lines_from start.answers.line bytes front)
 
-module _ (start held : Held) (old new new' : Option (List ℕ)) (text₀ begun text bytes chunk : List ℕ) (at : ℕ)
-    (m : Midway start held old new text₀ begun text (lines_from start.line bytes (take at chunk))) where
-  abbrev so_far : Lines
-  so_far = lines_from start.line bytes (take at chunk)
+pub none_taken : (start : Sheet) (a : Option (List ℕ)) (chunk : List ℕ) → Going start start a a chunk chunk
+none_taken start a chunk = record {
+  front = [];
+  joined = refl;
+  midway = λ bytes o.
+      rw (lines_none start.answers.line bytes)
+      (record { took = record { line = refl; begun = o }; sent = sent_none a start.answers.text });
+}
+
+module _ {start now : Sheet} {old new : Option (List ℕ)} {chunk rest : List ℕ} (g : Going start now old new chunk rest) where
+  abbrev so_far : List ℕ → Lines
+  so_far bytes = lines_from start.answers.line bytes g.front
 
   -- A write fails before the next line is answered.
-  pub chunk_short : {last : ℕ} → Short new new' (take held.waiting text) held.line last
-      → ShortIn old new' start.line bytes (take start.waiting text₀) chunk last
-  chunk_short s = record {
-    taken = take at chunk;
-    later = drop at chunk;
-    split = take-append-drop at chunk;
-    short = short_later m.sent (rw (← m.took.line) s);
-  }
+  pub chunk_short : {new' : Option (List ℕ)} {last : ℕ} → Short new new' now.answers.text now.answers.line last
+      → (bytes : List ℕ) → Holds start.begun bytes → ShortIn old new' start.answers.line bytes start.answers.text chunk last
+  chunk_short s bytes o =
+      let m = g.midway bytes o in
+      record { taken = g.front; later = rest; split = g.joined; short = short_later m.sent (rw (← m.took.line) s) }
 
-  module _ (h : Held) (begun' text' : List ℕ) (end : ℕ) (p : at ≤ end) (q : end ≤ length chunk) (free : Free chunk at end) where
-    abbrev whole : List ℕ
-    whole = so_far.begun ++ take (end - at) (drop at chunk)
-
-    -- A line ends.
-    pub line_taken : end < length chunk → get_or chunk end 0 ≡ newline → length begun' ≡ length begun
-        → Answered held h (sheet_answer held.line whole) text text'
-        → Sent new new' (take held.waiting text) (sheet_answer held.line whole) (take h.waiting text')
-        → Midway start h old new' text₀ begun' text' (lines_from start.line bytes (take (end + 1) chunk))
-    line_taken l e k a s =
-        let none : h.len ≡ 0 = omega (arith, a.none) in
-        let room = m.took.begun.room in
-        rw (run_ended chunk at end p q free l e start.line bytes, ← m.took.line)
+  -- A line ends.
+  pub line_taken : {new' : Option (List ℕ)} (n : ℕ) (run left : List ℕ) (on : Sheet) → position (λ b. b == newline) rest ≡ Some n
+      → run ≡ take n rest → left ≡ drop (n + 1) rest
+      → (on.begun ≡ Some []) × (on.answers.line ≡ next now.answers.line)
+      → ((bytes : List ℕ) → Holds now.begun bytes
+      → Sent new new' now.answers.text (sheet_answer now.answers.line (bytes ++ run)) on.answers.text)
+      → Going start on old new' chunk left
+  line_taken n run left on e is is' taken sent = rw is' (record {
+    front = g.front ++ (take n rest ++ newline ∷ []);
+    joined = append_assoc g.front (take n rest ++ newline ∷ []) (drop (n + 1) rest)
+        ∙ ap (λ l. g.front ++ l) (append_assoc (take n rest) (newline ∷ []) (drop (n + 1) rest) ∙ sym (cut_here rest n e)) ∙ g.joined;
+    midway = λ bytes o.
+        let m = g.midway bytes o in
+        let s : Lines = so_far bytes in
+        rw (lines_append start.answers.line bytes g.front (take n rest ++ newline ∷ []), lines_one s.line s.begun (take n rest) (front_free rest n e),
+        ← m.took.line)
         (record {
-          took = record {
-            line = a.line;
-            begun = record { room = k ∙ room; whole = λ f. ap (λ n. take n begun') none; long = λ f. no_way (sym a.over ∙ f) };
-            waits =
-                append-more (take start.waiting text₀) (take held.waiting text) (take h.waiting text') so_far.printed
-                (sheet_answer held.line whole) m.took.waits (answer-waits a);
-          };
-          sent = sent_more m.sent s;
-        })
+          took = record { line = taken.1; begun = rw taken.0 refl };
+          sent = sent_more m.sent (rw is at (sent s.begun m.took.begun));
+        });
+  })
 
-    -- The chunk ends, and with it what is known of the last line.
-    pub chunk_taken : end ≡ length chunk → h.line ≡ held.line → h.waiting ≡ held.waiting → Holds h begun' whole
-        → Midway start h old new text₀ begun' text (lines_from start.line bytes chunk)
-    chunk_taken e n w o =
-        let all : take end chunk ≡ chunk = ap (λ k. take k chunk) e ∙ take_all (length chunk) chunk (le_refl (length chunk)) in
-        rw (← all, run_on chunk at end p q free start.line bytes)
-        (record {
-          took = record { line = n ∙ m.took.line; begun = o; waits = rw w m.took.waits };
-          sent = rw w m.sent;
-        })
+  -- The chunk ends, and the last line is held.
+  module _ (held : Option (List ℕ)) (e : position (λ b. b == newline) rest ≡ None)
+      (holds : (bytes : List ℕ) → Holds now.begun bytes → Holds held (bytes ++ rest)) (bytes : List ℕ) (o : Holds start.begun bytes) where
+    pub chunk_taken : Midway start (record { begun = held; answers = now.answers }) old new (lines_from start.answers.line bytes chunk)
+    chunk_taken =
+        let m = g.midway bytes o in
+        let s : Lines = so_far bytes in
+        rw (← g.joined, lines_append start.answers.line bytes g.front rest, lines_run s.line s.begun rest (all_free rest e), append-nil s.printed)
+        (record { took = record { line = m.took.line; begun = holds s.begun m.took.begun }; sent = m.sent })
 
--- What holds at each turn.
-pub record Going (start : Held) (chunk begun₀ text₀ : List ℕ) (old new : Option (List ℕ)) (held : Held) (begun text : List ℕ) (at end : ℕ) : Type 0 where
-  pub ordered : at ≤ end
-  pub within : end ≤ length chunk
-  pub held_len : held.len ≤ length begun₀
-  pub held_waiting : held.waiting ≤ length text₀
-  pub free : Free chunk at end
-  pub found : end < length chunk → get_or chunk end 0 ≡ newline
-  pub midway : (bytes : List ℕ) → Holds start begun₀ bytes → Midway start held old new text₀ begun text (lines_from start.line bytes (take at chunk))
+-- The sheet ends, and a write fails before the last line is answered, or when its answer is written.
+module _ {old new : Option (List ℕ)} {line last : ℕ} (bytes : List ℕ) where
+  pub cut_before : Short old new [] line last → ShortIn old new line bytes [] (newline ∷ []) last
+  cut_before s = record { taken = []; later = newline ∷ []; split = refl; short = rw (lines_none line bytes) s }
+
+  pub cut_at_end : {mid : Option (List ℕ)} {text : List ℕ} → Sent old mid [] (sheet_answer line bytes) text → Short mid new text (next line) last
+      → ShortIn old new line bytes [] (newline ∷ []) last
+  cut_at_end sent s = record { taken = newline ∷ []; later = []; split = refl; short = rw (lines_end line bytes) (short_later sent s) }

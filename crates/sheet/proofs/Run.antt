@@ -1,57 +1,44 @@
 -- The program's run, chunk by chunk.
-use Rattle.std.proofs.Common.{ℕ, ◌+◌, ◌-◌, ◌≤◌, ◌<◌, ◌≡◌, List, [], ◌∷◌, ◌++◌, Bool, true, false, refl, sym, ap, ◌∙◌, arith, append_assoc, append-nil}
-use Rattle.std.proofs.Common.{length, take, length-append, length-take-le}
-use Rattle.std.specs.Prelude.{Option, Result}
+use Rattle.std.proofs.Common.{ℕ, ◌+◌, ◌-◌, ◌≤◌, ◌<◌, ◌≡◌, List, [], ◌∷◌, ◌++◌, refl, sym, ap, ◌∙◌, arith, append_assoc, append-nil}
+use Rattle.std.proofs.Common.{length, length-append}
+use Rattle.std.specs.Prelude.{Option, Some, Result}
 use Rattle.std.specs.Result.{IsErrAnd}
 use Rattle.std.specs.Io.KnownBytes.{Appends, Consumes}
 use Rattle.std.proofs.KnownBytes.{Appends-nil, Appends-trans, Consumes-nil, Consumes-trans}
 use Rattle.std.proofs.lemmas.Result.{err_from_is_err_and}
-use Rattle.shape.proofs.Bools.{no_way}
 use Rattle.sheet_line.specs.Text.{newline}
-use Rattle.sheet_line.specs.Call.{max_line}
-use Rattle.sheet_answer.specs.Sheet.{sheet_answer}
-use Rattle.sheet.specs.declared.Held.{Held}
+use Rattle.sheet.specs.declared.Sheet.{Sheet}
 use Rattle.sheet.specs.declared.Stopped.{Stopped}
 use Rattle.sheet.specs.declared.Failure.{Failure}
 use Rattle.sheet.specs.declared.Failure.TheVariants.{Unwritten}
-use Rattle.sheet.specs.Lines.{next, Lines, after, lines_from}
+use Rattle.sheet.specs.Lines.{Lines, after, lines_from}
 use Rattle.sheet.specs.Waiting.{Holds, Took}
-use Rattle.sheet.specs.Steps.{newlines, SameLine}
+use Rattle.sheet.specs.Steps.{newlines}
 use Rattle.sheet.specs.Sent.{Sent, Short}
 use Rattle.sheet.specs.Run.{last_answer, sheet_text, ShortIn, Ends}
 use Rattle.sheet.proofs.Search.{newlines-none}
 use Rattle.sheet.proofs.Sent.{short_later}
-use Rattle.sheet.proofs.Cut.{lines_append, lines_end, lines_none}
+use Rattle.sheet.proofs.Cut.{lines_append, lines_none}
 
 -- What is known between chunks: beside the lines of the bytes that were read.
-pub record Kept (c₀ c : Option (List ℕ)) (held : Held) (begun : List ℕ) (s : Lines) : Type 0 where
-  pub none : held.waiting ≡ 0
-  pub room : held.len ≤ length begun
-  pub line : held.line ≡ s.line
-  pub holds : Holds held begun s.begun
+pub record Kept (c₀ c : Option (List ℕ)) (sheet : Sheet) (s : Lines) : Type 0 where
+  pub none : sheet.answers.text ≡ []
+  pub took : Took sheet s
   pub sent : Appends c₀ c s.printed
 
-pub record Running (r₀ r c₀ c : Option (List ℕ)) (held : Held) (begun : List ℕ) (turns : ℕ) : Type 0 where
+pub record Running (r₀ r c₀ c : Option (List ℕ)) (sheet : Sheet) (turns : ℕ) : Type 0 where
   pub bytes : List ℕ
   pub read : Consumes r₀ r bytes
   pub many : turns ≤ length bytes
-  pub kept : Kept c₀ c held begun (lines_from 1 [] bytes)
+  pub kept : Kept c₀ c sheet (lines_from 1 [] bytes)
 
-pub first : (r c : Option (List ℕ)) (held : Held) (begun : List ℕ) → length begun ≡ max_line
-    → (held.len ≡ 0) × ((held.over ≡ false) × ((held.line ≡ 1) × (held.waiting ≡ 0))) → Running r r c c held begun 0
-first r c held begun l e = record {
+pub first : (r c : Option (List ℕ)) (sheet : Sheet) → (sheet.begun ≡ Some []) × (sheet.answers.line ≡ 1) × (sheet.answers.text ≡ [])
+    → Running r r c c sheet 0
+first r c sheet e = record {
   bytes = [];
   read = Consumes-nil r;
   many = omega arith;
-  kept =
-      rw (lines_none 1 [])
-      (record {
-        none = e.1.1.1;
-        room = omega (arith, e.0);
-        line = e.1.1.0;
-        holds = record { room = l; whole = λ f. ap (λ n. take n begun) e.0; long = λ f. no_way (sym e.1.0 ∙ f) };
-        sent = Appends-nil c;
-      });
+  kept = rw (lines_none 1 []) (record { none = e.2; took = record { line = e.1; begun = rw e.0 refl }; sent = Appends-nil c });
 }
 
 module _ (a b c : Option (List ℕ)) where
@@ -73,116 +60,90 @@ module _ (a b c : Option (List ℕ)) where
 pub none_read : (a b c : Option (List ℕ)) (bytes more : List ℕ) → Consumes a b bytes → Consumes b c more → more ≡ [] → Consumes a c bytes
 none_read a b c bytes more p q e = rw (e, append-nil bytes) at (Consumes-trans a b c bytes more p q)
 
-module _ {r₀ r c₀ c : Option (List ℕ)} {held : Held} {begun : List ℕ} {turns : ℕ} (i : Running r₀ r c₀ c held begun turns) where
+module _ {r₀ r c₀ c : Option (List ℕ)} {sheet : Sheet} {turns : ℕ} (i : Running r₀ r c₀ c sheet turns) where
   abbrev so_far : Lines
   so_far = lines_from 1 [] i.bytes
 
-  -- Nothing waits.
-  waits_none : (text : List ℕ) → take held.waiting text ≡ []
-  waits_none text = ap (λ n. take n text) i.kept.none
-
-  pub whole_line : (last : ℕ) → last ≡ held.line - 1 - newlines [] → last ≡ so_far.line - 1
-  whole_line last e = omega (arith, e, newlines-none, i.kept.line)
+  pub whole_line : (last : ℕ) → last ≡ sheet.answers.line - 1 - newlines [] → last ≡ so_far.line - 1
+  whole_line last e = omega (arith, e, newlines-none, i.kept.took.line)
 
   -- More bytes are read.
   module _ (more : List ℕ) where
     abbrev later : Lines
-    later = lines_from held.line so_far.begun more
+    later = lines_from sheet.answers.line so_far.begun more
 
     lines_more : lines_from 1 [] (i.bytes ++ more) ≡ after so_far.printed later
-    lines_more = lines_append 1 [] i.bytes more ∙ ap (λ n. after so_far.printed (lines_from n so_far.begun more)) (sym i.kept.line)
+    lines_more = lines_append 1 [] i.bytes more ∙ ap (λ n. after so_far.printed (lines_from n so_far.begun more)) (sym i.kept.took.line)
 
-  pub cut_among : (more text : List ℕ) {c' : Option (List ℕ)} {last : ℕ} → ShortIn c c' held.line so_far.begun (take held.waiting text) more last
+  -- A write fails among them.
+  cut_in : (more others text : List ℕ) {c' : Option (List ℕ)} {last : ℕ} → text ≡ []
+      → ((bytes : List ℕ) → Holds sheet.begun bytes → ShortIn c c' sheet.answers.line bytes text more last)
+      → ShortIn c₀ c' 1 [] [] ((i.bytes ++ more) ++ others) last
+  cut_in more others text none cut =
+      let x = cut so_far.begun i.kept.took.begun in
+      record {
+        taken = i.bytes ++ x.taken;
+        later = x.later ++ others;
+        split =
+            append_assoc i.bytes x.taken (x.later ++ others)
+            ∙ ap (λ l. i.bytes ++ l) (sym (append_assoc x.taken x.later others) ∙ ap (λ l. l ++ others) x.split)
+            ∙ sym (append_assoc i.bytes more others);
+        short = rw (lines_more x.taken) (short_further c₀ c _ so_far.printed _ i.kept.sent (rw none at x.short));
+      }
+
+  pub cut_among : (more : List ℕ) {c' : Option (List ℕ)} {last : ℕ}
+      → ((bytes : List ℕ) → Holds sheet.begun bytes → ShortIn c c' sheet.answers.line bytes sheet.answers.text more last)
       → ShortIn c₀ c' 1 [] [] ((i.bytes ++ more) ++ newline ∷ []) last
-  cut_among more text x = record {
-    taken = i.bytes ++ x.taken;
-    later = x.later ++ newline ∷ [];
-    split =
-        append_assoc i.bytes x.taken (x.later ++ newline ∷ [])
-        ∙ ap (λ l. i.bytes ++ l) (sym (append_assoc x.taken x.later (newline ∷ [])) ∙ ap (λ l. l ++ newline ∷ []) x.split)
-        ∙ sym (append_assoc i.bytes more (newline ∷ []));
-    short = rw (lines_more x.taken) (short_further c₀ c _ so_far.printed _ i.kept.sent (rw (waits_none text) at x.short));
-  }
+  cut_among more cut = cut_in more (newline ∷ []) sheet.answers.text i.kept.none cut
 
-  pub cut_after : (more text : List ℕ) (h : Held) {c' c'' : Option (List ℕ)} {waits : List ℕ} {last : ℕ} → h.line ≡ (later more).line
-      → Sent c c' (take held.waiting text) (later more).printed waits → Short c' c'' waits h.line last
-      → ShortIn c₀ c'' 1 [] [] ((i.bytes ++ more) ++ newline ∷ []) last
-  cut_after more text h e s x = record {
-    taken = i.bytes ++ more;
-    later = newline ∷ [];
-    split = refl;
-    short = rw (lines_more more, ← e) (short_further c₀ c _ so_far.printed _ i.kept.sent (short_later (rw (waits_none text) at s) x));
-  }
+  pub cut_after : (more : List ℕ) {c' c'' : Option (List ℕ)} (now : Sheet) {last : ℕ}
+      → ((bytes : List ℕ) → Holds sheet.begun bytes → Took now (lines_from sheet.answers.line bytes more))
+      → ((bytes : List ℕ) → Holds sheet.begun bytes
+      → Sent c c' sheet.answers.text (lines_from sheet.answers.line bytes more).printed now.answers.text)
+      → Short c' c'' now.answers.text now.answers.line last → ShortIn c₀ c'' 1 [] [] ((i.bytes ++ more) ++ newline ∷ []) last
+  cut_after more now took sent x =
+      let o = i.kept.took.begun in
+      record {
+        taken = i.bytes ++ more;
+        later = newline ∷ [];
+        split = refl;
+        short =
+            rw (lines_more more, ← (took so_far.begun o).line)
+            (short_further c₀ c _ so_far.printed _ i.kept.sent (short_later (rw i.kept.none at (sent so_far.begun o)) x));
+      }
 
-  pub goes_on : (more text text' : List ℕ) (h k : Held) (begun' : List ℕ) (r' c' c'' : Option (List ℕ)) → Consumes r r' more → 0 < length more
-      → Took held h (later more) begun' text text' → Sent c c' (take held.waiting text) (later more).printed (take h.waiting text')
-      → Appends c' c'' (take h.waiting text') → SameLine h k → k.waiting ≡ 0 → h.len ≤ length begun'
-      → Running r₀ r' c₀ c'' k begun' (turns + 1)
-  goes_on more text text' h k begun' r' c' c'' p few t s q same none room = record {
-    bytes = i.bytes ++ more;
-    read = Consumes-trans r₀ r _ i.bytes more i.read p;
-    many = omega (arith, i.many, few, length-append i.bytes more);
-    kept =
-        rw (lines_more more)
-        (record {
-          none = none;
-          room = omega (arith, same.0, room);
-          line = same.1.1 ∙ t.line;
-          holds = record {
-            room = t.begun.room;
-            whole = λ f. ap (λ n. take n begun') same.0 ∙ t.begun.whole (sym same.1.0 ∙ f);
-            long = λ f. t.begun.long (sym same.1.0 ∙ f);
-          };
-          sent = Appends-trans c₀ c _ so_far.printed _ i.kept.sent (all_sent c c' c'' (later more).printed _ (rw (waits_none text) at s) q);
-        });
-  }
+  pub goes_on : (more : List ℕ) {c' c'' r' : Option (List ℕ)} (now end : Sheet) → Consumes r r' more → 0 < length more
+      → ((bytes : List ℕ) → Holds sheet.begun bytes → Took now (lines_from sheet.answers.line bytes more))
+      → ((bytes : List ℕ) → Holds sheet.begun bytes
+      → Sent c c' sheet.answers.text (lines_from sheet.answers.line bytes more).printed now.answers.text)
+      → Appends c' c'' now.answers.text → end.answers.text ≡ [] → end.answers.line ≡ now.answers.line → end.begun ≡ now.begun
+      → Running r₀ r' c₀ c'' end (turns + 1)
+  goes_on more {c'} {c''} now end p few took sent q none line begun =
+      let o = i.kept.took.begun in
+      let t = took so_far.begun o in
+      record {
+        bytes = i.bytes ++ more;
+        read = Consumes-trans r₀ r _ i.bytes more i.read p;
+        many = omega (arith, i.many, few, length-append i.bytes more);
+        kept =
+            rw (lines_more more)
+            (record {
+              none = none;
+              took = record { line = line ∙ t.line; begun = rw begun t.begun };
+              sent =
+                  Appends-trans c₀ c _ so_far.printed _ i.kept.sent (all_sent c c' c'' (later more).printed _ (rw i.kept.none at (sent so_far.begun o)) q);
+            });
+      }
 
-  -- The end of the bytes. A line has begun or none has.
-  pub none_begun : held.len ≡ 0 → held.over ≡ false → Appends c₀ c (sheet_text i.bytes)
-  none_begun z f =
-      let empty : so_far.begun ≡ [] = sym (i.kept.holds.whole f) ∙ ap (λ n. take n begun) z in
-      rw (empty, append-nil so_far.printed) i.kept.sent
+  -- The end of the bytes.
+  pub all_answered : (c' : Option (List ℕ)) → ((bytes : List ℕ) → Holds sheet.begun bytes → Appends c c' (last_answer sheet.answers.line bytes)) → Appends c₀ c' (sheet_text i.bytes)
+  all_answered c' sent =
+      rw (← i.kept.took.line) (Appends-trans c₀ c _ so_far.printed _ i.kept.sent (sent so_far.begun i.kept.took.begun))
 
-  begun_long : (held.len ≡ 0 → held.over ≡ false → ⊥) → 0 < length so_far.begun
-  begun_long n = by_case held.over refl
-    where
-      by_case : (t : Bool) → held.over ≡ t → 0 < length so_far.begun
-      by_case true e = omega (arith, i.kept.holds.long e)
-      by_case false e =
-          let some : held.len ≡ 0 → ⊥ = λ z. n z e in
-          omega (arith, some, i.kept.room, ap length (i.kept.holds.whole e), length-take-le held.len begun i.kept.room)
-
-  answered_last : (bytes : List ℕ) (line : ℕ) → 0 < length bytes → last_answer line bytes ≡ sheet_answer line bytes
-  answered_last [] line h = absurd (omega arith)
-  answered_last (b ∷ bs) line h = refl
-
-  pub last_answered : (text : List ℕ) (c' c'' : Option (List ℕ)) (waits : List ℕ) → (held.len ≡ 0 → held.over ≡ false → ⊥)
-      → Sent c c' (take held.waiting text) (sheet_answer held.line so_far.begun) waits → Appends c' c'' waits → Appends c₀ c'' (sheet_text i.bytes)
-  last_answered text c' c'' waits n s q =
-      let answer = all_sent c c' c'' (sheet_answer held.line so_far.begun) waits (rw (waits_none text) at s) q in
-      rw (answered_last so_far.begun so_far.line (begun_long n), ← i.kept.line)
-      (Appends-trans c₀ c c'' so_far.printed (sheet_answer held.line so_far.begun) i.kept.sent answer)
-
-  pub cut_before_last : (text : List ℕ) {c' : Option (List ℕ)} {last : ℕ} → Short c c' (take held.waiting text) held.line last
+  pub cut_last : {c' : Option (List ℕ)} {last : ℕ}
+      → ((bytes : List ℕ) → Holds sheet.begun bytes → ShortIn c c' sheet.answers.line bytes [] (newline ∷ []) last)
       → ShortIn c₀ c' 1 [] [] (i.bytes ++ newline ∷ []) last
-  cut_before_last text x = record {
-    taken = i.bytes;
-    later = newline ∷ [];
-    split = refl;
-    short = rw (append-nil so_far.printed, i.kept.line) at (short_further c₀ c _ so_far.printed [] i.kept.sent (rw (waits_none text) at x));
-  }
-
-  pub cut_last : (text : List ℕ) (h : Held) {c' c'' : Option (List ℕ)} {waits : List ℕ} {last : ℕ} → h.line ≡ next held.line
-      → Sent c c' (take held.waiting text) (sheet_answer held.line so_far.begun) waits → Short c' c'' waits h.line last
-      → ShortIn c₀ c'' 1 [] [] (i.bytes ++ newline ∷ []) last
-  cut_last text h e s x = record {
-    taken = i.bytes ++ newline ∷ [];
-    later = [];
-    split = append-nil (i.bytes ++ newline ∷ []);
-    short =
-        rw (lines_more (newline ∷ []), lines_end held.line so_far.begun, ← e)
-        (short_further c₀ c _ so_far.printed _ i.kept.sent (short_later (rw (waits_none text) at s) x));
-  }
+  cut_last cut = rw (append-nil (i.bytes ++ newline ∷ [])) at (cut_in (newline ∷ []) [] [] refl cut)
 
 -- A write failed, which `?` hands on.
 pub ended_on : {A : Type 0} {old new : Option (List ℕ)} (bytes : List ℕ) (left : Option (List ℕ)) (r : Result A Failure) (s : Stopped)

@@ -55,6 +55,29 @@ module _ {a b c : Option (List ℕ)} {xs ys more : List ℕ} (s : Sent a b xs mo
     whole = t.whole;
   }
 
+-- A text that is handed over: the writer took the front, and the rest is left.
+pub record Handing (old new : Option (List ℕ)) (text rest : List ℕ) : Type 0 where
+  pub front : List ℕ
+  pub joined : front ++ rest ≡ text
+  pub taken : Appends old new front
+
+pub none_handed : (a : Option (List ℕ)) (text : List ℕ) → Handing a a text text
+none_handed a text = record { front = []; joined = refl; taken = Appends-nil a }
+
+module _ {a b : Option (List ℕ)} {text rest : List ℕ} (h : Handing a b text rest) where
+  pub more_handed : {c : Option (List ℕ)} {left : List ℕ} (n : ℕ) → Appends b c (take n rest) → left ≡ drop n rest → Handing a c text left
+  more_handed {c} n p e = rw e (record {
+    front = h.front ++ take n rest;
+    joined = append_assoc h.front (take n rest) (drop n rest) ∙ ap (λ l. h.front ++ l) (take-append-drop n rest) ∙ h.joined;
+    taken = Appends-trans a b c h.front (take n rest) h.taken p;
+  })
+
+  pub all_handed : rest ≡ [] → Appends a b text
+  all_handed e = rw (← h.joined, e, append-nil h.front) h.taken
+
+  pub rest_unsent : {line last : ℕ} → last ≡ line - 1 - newlines rest → Short a b text line last
+  rest_unsent e = record { front = h.front; unsent = rest; taken = h.taken; rest = h.joined; whole = e }
+
 -- What `?` hands on.
 pub handed_on : {A E : Type 0} {d : E} (P : E → Type 0) (r : Result A E) → IsErrAnd r (λ y. y ≡ d) → P d → IfErr r P
 handed_on P r h q = let e = err_from_is_err_and r h in rw (e.1, e.2) q

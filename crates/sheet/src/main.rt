@@ -1,47 +1,25 @@
 // The sheet program: reads lines from standard input and answers each on standard output.
 #![tactic(auto)]
 
-ghost use Rattle.std.specs.Prelude.{◌≡◌, true, false, List, [], ◌++◌, ℕ, ◌+◌, ◌-◌, ◌≤◌, ◌<◌, length, take, get_or, OnOk, IfOk, IfErr};
+ghost use Rattle.std.specs.Prelude.{◌≡◌, ◌==◌, List, [], ◌∷◌, ◌++◌, ℕ, Some, ◌+◌, ◌-◌, ◌≤◌, length, option_map, MatchOption, IsTrue, ◌↔◌, OnOk, IfErr};
+ghost use Rattle.std.specs.List.{position};
 ghost use Rattle.std.specs.Io.KnownBytes.{Appends, Consumes};
 ghost use Rattle.sheet_line.specs.Text.{newline};
-ghost use Rattle.sheet_line.specs.Call.{max_line, front};
+ghost use Rattle.sheet_line.specs.Call.{max_line, max_held};
+ghost use Rattle.sheet_answer.specs.Answer.{bad_line, reply_line, result_in};
 ghost use Rattle.sheet_answer.specs.Sheet.{sheet_answer};
-ghost use Rattle.sheet_answer.specs.Steps.{held_answer, Buffers};
-ghost use Rattle.sheet.specs.Lines.{lines_from};
-ghost use Rattle.sheet.specs.Waiting.{Appended, Holds, Took};
-ghost use Rattle.sheet.specs.Steps.{newlines, SameLine, Answered};
+ghost use Rattle.sheet.specs.Lines.{next, lines_from};
+ghost use Rattle.sheet.specs.Waiting.{Holds, Took};
+ghost use Rattle.sheet.specs.Steps.{newlines};
 ghost use Rattle.sheet.specs.Sent.{Sent, Short};
-ghost use Rattle.sheet.specs.Run.{ShortIn, Ends};
+ghost use Rattle.sheet.specs.Run.{last_answer, ShortIn, Ends};
 ghost use Rattle.sheet.specs.declared.Failure.TheVariants.{Unwritten};
 
 use answer::{Answer, Operand};
 use sheet_line::{MAX_HELD, MAX_LINE};
 use std::io::{ErrorKind, Read, Write};
+use std::marker::Model;
 use std::process::ExitCode;
-
-// What is held between chunks: of the line that has begun the length so far, whether it was too long, and its number; and how much text waits to be
-// written.
-#[derive(Clone, Copy)]
-struct Held {
-    len: usize,
-    over: bool,
-    line: u64,
-    waiting: usize,
-}
-
-impl Held {
-    // Before the first line.
-    fn none() -> Held
-        ensures { (result.len ≡ 0) × ((result.over ≡ false) × ((result.line ≡ 1) × (result.waiting ≡ 0))) }
-    {
-        Held {
-            len: 0,
-            over: false,
-            line: 1,
-            waiting: 0,
-        }
-    }
-}
 
 // A write failed, after which nothing is answered or written: the last line whose answer was handed over whole, and whether the reader of the answers
 // went away.
@@ -66,311 +44,326 @@ impl From<Stopped> for Failure {
     }
 }
 
-// How many bytes were handed over, and whether the reader then went away.
-#[derive(Clone, Copy)]
-struct Handed {
-    count: usize,
-    gone: bool,
-}
-
-// The answer to a line, at the front of `text`; its length. A line that was too long is bad.
-fn answer_line(
-    bytes: &[u8],
-    over: bool,
-    line: u64,
-    l: &mut [i32],
-    r: &mut [i32],
-    out: &mut [i32],
-    text: &mut [u8],
-) -> usize
-    requires { Buffers l.old r.old out.old text.old }
-    ensures count { result ≡ length (held_answer line over bytes.now) }
-    ensures text { text.new ≡ front (held_answer line over bytes.now) text.old }
-{
-    if over {
-        return sheet_answer::print_bad(line, text).unwrap_or(0);
-    }
-    let Some(read) = sheet_line::read_line(bytes, l, r) else {
-        return sheet_answer::print_bad(line, text).unwrap_or(0);
-    };
-    let left = Operand {
-        shape: read.left,
-        elements: l,
-    };
-    let right = Operand {
-        shape: read.right,
-        elements: r,
-    };
-    let reply = kernel::call(read.primitive, read.origin, read.k, &left, &right, out);
-    let a = Answer::from(reply);
-    let shape = a.shape;
-    sheet_answer::print_reply(line, a.number, shape, out, text).unwrap_or(0)
-}
-
-// Where the text ends after n bytes more.
-fn text_end(start: usize, n: usize, room: usize) -> usize
-    requires { start ≤ room }
-    ensures bound { result ≤ room }
-    ensures sum { start + n ≤ room → result ≡ start + n }
-{
-    if n <= room - start { start + n } else { start }
-}
-
-// How many of the bytes the sink took: all of them, unless a write fails.
-fn handed_over<W: Write>(sink: &mut W, text: &[u8]) -> Handed
-    ensures bound { result.count ≤ length text.now }
-    ensures handed { Appends (W.contents sink.old) (W.contents sink.new) (take result.count text.now) }
-{
-    // A while: each write takes as many bytes as it will.
-    let len = text.len();
-    let mut done = 0;
-    while done < len {
-        match sink.write(&text[done..len]) {
-            Ok(n) if 0 < n => done += n,
-            Ok(_) => {
-                return Handed {
-                    count: done,
-                    gone: false,
-                };
-            }
-            Err(e) => {
-                return Handed {
-                    count: done,
-                    gone: e.kind() == ErrorKind::BrokenPipe,
-                };
-            }
-        }
-    }
-    Handed {
-        count: done,
-        gone: false,
-    }
-}
-
 fn count_newlines(text: &[u8]) -> u64
     ensures { result ≡ newlines text.now }
 {
-    text.iter().filter(|b| **b == b'\n').count() as u64
+    text.iter().filter(|b| **b == b'\n').count() as u64 // u64 has no From<usize>.
 }
 
 // The last line whose answer was handed over whole, where line `line` is not yet answered and `unsent` is what was not handed over of the
-// answers before it: each ends in a newline and has no other.
+// answers before it: each ends in a newline and has no other. 0 before the first line, as the message says it.
 fn last_whole(line: u64, unsent: &[u8]) -> u64
     ensures { result ≡ line - 1 - newlines unsent.now }
 {
-    let missing = count_newlines(unsent);
-    if line == 0 {
-        return 0;
-    }
-    let answered = line - 1;
-    if answered < missing {
-        0
-    } else {
-        answered - missing
-    }
+    let answered = line.saturating_sub(1);
+    answered.saturating_sub(count_newlines(unsent))
 }
 
-// One line on standard error; where that fails too there is nobody left to tell.
-fn tell(rt: &impl Eprint, failure: &str, last: u64) {
-    let _ = eprintln!(rt; "sheet: {failure}; answered whole up to line {last}");
-}
-
-// Writes what waits. Where a write fails the rest is given up, and it is noted up to which line the answers were handed over whole.
-fn written<W: Write>(sink: &mut W, text: &[u8], held: Held) -> Result<Held, Stopped>
-    requires { held.waiting ≤ length text.now }
-    ensures same { IfOk result (λ h. SameLine held h × (h.waiting ≡ 0)) }
-    ensures sent { OnOk result (Appends (W.contents sink.old) (W.contents sink.new) (take held.waiting text.now)) }
-    ensures short { IfErr result (λ s. Short (W.contents sink.old) (W.contents sink.new) (take held.waiting text.now) held.line s.whole) }
+// Hands over a text that ends with the answer to the line before `line`. Where a write fails the rest is given up.
+fn handed_over<W: Write>(sink: &mut W, text: &[u8], line: u64) -> Result<(), Stopped>
+    ensures all { OnOk result (Appends (W.contents sink.old) (W.contents sink.new) text.now) }
+    ensures short { IfErr result (λ s. Short (W.contents sink.old) (W.contents sink.new) text.now line s.whole) }
 {
-    let waiting = held.waiting;
-    let handed = handed_over(sink, &text[..waiting]);
-    let n = handed.count;
-    let cut = n < waiting;
-    if cut {
-        let whole = last_whole(held.line, &text[n..waiting]);
-        return Err(Stopped {
-            whole,
-            gone: handed.gone,
-        });
-    }
-    Ok(Held { waiting: 0, ..held })
-}
-
-// Writes what waits, unless there is still room for the longest answer, which is no longer than the longest line.
-fn flushed<W: Write>(sink: &mut W, text: &[u8], held: Held) -> Result<Held, Stopped>
-    requires { (held.waiting ≤ length text.now) × (max_line ≤ length text.now) }
-    ensures same { IfOk result (SameLine held) }
-    ensures room { IfOk result (λ h. h.waiting + max_line ≤ length text.now) }
-    ensures text { IfOk result (λ h. Appended (take held.waiting text.now) [] (take h.waiting text.now)) }
-    ensures sent { IfOk result
-        (λ h. Sent (W.contents sink.old) (W.contents sink.new) (take held.waiting text.now) [] (take h.waiting text.now)) }
-    ensures short { IfErr result (λ s. Short (W.contents sink.old) (W.contents sink.new) (take held.waiting text.now) held.line s.whole) }
-{
-    if MAX_LINE <= text.len() - held.waiting {
-        return Ok(held);
-    }
-    written(sink, text, held)
-}
-
-// A line is at its end: its answer follows the text that waits.
-fn end_line<W: Write>(
-    sink: &mut W,
-    bytes: &[u8],
-    held: Held,
-    l: &mut [i32],
-    r: &mut [i32],
-    out: &mut [i32],
-    text: &mut [u8],
-) -> Result<Held, Stopped>
-    requires { (held.waiting ≤ length text.old) × Buffers l.old r.old out.old text.old }
-    ensures bound { IfOk result (λ h. (h.len ≤ held.len) × (h.waiting ≤ length text.old)) }
-    ensures answer { IfOk result (λ h. Answered held h (held_answer held.line held.over bytes.now) text.old text.new) }
-    ensures sent { IfOk result (λ h. Sent (W.contents sink.old) (W.contents sink.new)
-        (take held.waiting text.old) (held_answer held.line held.over bytes.now) (take h.waiting text.new)) }
-    ensures short { IfErr result (λ s. Short (W.contents sink.old) (W.contents sink.new) (take held.waiting text.old) held.line s.whole) }
-{
-    let kept = flushed(sink, text, held)?;
-    let start = kept.waiting;
-    let room = text.len();
-    let n = answer_line(
-        bytes,
-        held.over,
-        held.line,
-        l,
-        r,
-        out,
-        &mut text[start..room],
-    );
-    let end = text_end(start, n, room);
-    Ok(Held {
-        len: 0,
-        over: false,
-        line: held.line % 1000000000000000000 + 1,
-        waiting: end,
-    })
-}
-
-// The line so far with a run of bytes more, or too long.
-fn hold_run(run: &[u8], held: Held, begun: &mut [u8]) -> Held
-    requires { held.len ≤ length begun.old }
-    ensures bound { result.len ≤ length begun.old }
-    ensures same { (result.line ≡ held.line) × (result.waiting ≡ held.waiting) }
-    ensures begun { (bytes : List ℕ) → Holds held begun.old bytes → Holds result begun.new (bytes ++ run.now) }
-{
-    let len = held.len;
-    let room = begun.len();
-    if room - len < run.len() {
-        return Held {
-            len: room,
-            over: true,
-            ..held
+    // A while: each write takes as many bytes as it will.
+    let mut rest = text;
+    while !rest.is_empty() {
+        let gone = match sink.write(rest) {
+            Ok(n) if 0 < n => {
+                rest = &rest[n..];
+                continue;
+            }
+            Ok(_) => false,
+            Err(e) => e.kind() == ErrorKind::BrokenPipe,
         };
+        let whole = last_whole(line, rest);
+        return Err(Stopped { whole, gone });
     }
-    begun[len..len + run.len()].copy_from_slice(run);
-    Held {
-        len: len + run.len(),
-        ..held
-    }
+    Ok(())
 }
 
-// The last run of a line. Where nothing is held of the line, it is answered where it lies.
-fn take_line<W: Write>(
-    sink: &mut W,
-    run: &[u8],
-    held: Held,
-    begun: &mut [u8],
-    l: &mut [i32],
-    r: &mut [i32],
-    out: &mut [i32],
-    text: &mut [u8],
-) -> Result<Held, Stopped>
-    requires { (held.len ≤ length begun.old) × ((held.waiting ≤ length text.old) × Buffers l.old r.old out.old text.old) }
-    ensures bound { IfOk result (λ h. (h.len ≤ length begun.old) × (h.waiting ≤ length text.old)) }
-    ensures answer { IfOk result (λ h. (bytes : List ℕ) → Holds held begun.old bytes
-        → Answered held h (sheet_answer held.line (bytes ++ run.now)) text.old text.new) }
-    ensures sent { IfOk result (λ h. (bytes : List ℕ) → Holds held begun.old bytes → Sent (W.contents sink.old) (W.contents sink.new)
-        (take held.waiting text.old) (sheet_answer held.line (bytes ++ run.now)) (take h.waiting text.new)) }
-    ensures short { IfErr result (λ s. Short (W.contents sink.old) (W.contents sink.new) (take held.waiting text.old) held.line s.whole) }
-{
-    if held.len == 0 {
-        return end_line(sink, run, held, l, r, out, text);
-    }
-    let whole = hold_run(run, held, begun);
-    let len = whole.len;
-    end_line(sink, &begun[..len], whole, l, r, out, text)
+// So many bytes of answers wait at most.
+const ROOM: usize = 65536;
+
+// The text that waits to be written.
+#[derive(Drop)]
+struct Text {
+    bytes: [u8; ROOM],
+    len: usize,
 }
 
-// Whether there is a newline among the bytes. The library tests many at a time.
-fn has_newline(bytes: &[u8]) -> bool
-    ensures { result ≡ false → (k : ℕ) → k < length bytes.now → get_or bytes.now k 0 ≡ newline → ⊥ }
-{
-    bytes.contains(&b'\n')
+impl Model for Text {
+    ghost use Rattle.std.specs.Prelude.{List, ℕ, ◌≤◌, take};
+
+    ghost Value = { List ℕ };
+
+    ghost view = { λ t. take t.len t.bytes };
+
+    ghost invariant = { λ t. t.len ≤ 65536 };
 }
 
-// The block with the first newline from `at` on, or the last bytes, of which there are fewer than a block.
-fn block_from(chunk: &[u8], at: usize) -> usize
-    requires { at ≤ length chunk.now }
-    ensures within { (at ≤ result) × (result ≤ length chunk.now) }
-    ensures before { (k : ℕ) → at ≤ k → k < result → get_or chunk.now k 0 ≡ newline → ⊥ }
-{
-    // A while: the block's place is wanted, which an iterator over blocks would count beside.
-    let mut i = at;
-    while 64 <= chunk.len() - i {
-        let end = i + 64;
-        if has_newline(&chunk[i..end]) {
-            return i;
-        }
-        i = end;
-    }
-    i
-}
-
-// The place of the first newline from `at` on, or the chunk's end.
-fn newline_from(chunk: &[u8], at: usize) -> usize
-    requires { at ≤ length chunk.now }
-    ensures within { (at ≤ result) × (result ≤ length chunk.now) }
-    ensures before { (k : ℕ) → at ≤ k → k < result → get_or chunk.now k 0 ≡ newline → ⊥ }
-    ensures found { result < length chunk.now → get_or chunk.now result 0 ≡ newline }
-{
-    let len = chunk.len();
-    for i in block_from(chunk, at)..len {
-        if chunk[i] == b'\n' {
-            return i;
+impl Text {
+    fn none() -> Text
+        ensures { result ≡ [] }
+    {
+        Text {
+            bytes: [0; ROOM],
+            len: 0,
         }
     }
-    len
+
+    // Writes what waits, up to the answer to the line before `line`.
+    fn written<W: Write>(&mut self, sink: &mut W, line: u64) -> Result<(), Stopped>
+        ensures none { OnOk result (self.new ≡ []) }
+        ensures sent { OnOk result (Appends (W.contents sink.old) (W.contents sink.new) self.old) }
+        ensures short { IfErr result (λ s. Short (W.contents sink.old) (W.contents sink.new) self.old line s.whole) }
+    {
+        handed_over(sink, &self.bytes[..self.len], line)?;
+        self.len = 0;
+        Ok(())
+    }
+
+    // Writes what waits, unless there is still room for the longest answer, which is no longer than the longest line.
+    fn flushed<W: Write>(&mut self, sink: &mut W, line: u64) -> Result<(), Stopped>
+        ensures room { OnOk result (length self.new + max_line ≤ ROOM) }
+        ensures sent { OnOk result (Sent (W.contents sink.old) (W.contents sink.new) self.old [] self.new) }
+        ensures short { IfErr result (λ s. Short (W.contents sink.old) (W.contents sink.new) self.old line s.whole) }
+    {
+        if MAX_LINE <= ROOM - self.len {
+            return Ok(());
+        }
+        self.written(sink, line)
+    }
+
+    // The answer to a bad line.
+    fn put_bad(&mut self, line: u64)
+        requires { length self.old + max_line ≤ ROOM }
+        ensures { self.new ≡ self.old ++ bad_line line }
+    {
+        let start = self.len;
+        let n = sheet_answer::print_bad(line, &mut self.bytes[start..ROOM]).unwrap();
+        self.len += n;
+    }
+
+    // The answer to a call's reply.
+    fn put_reply(&mut self, line: u64, reply: Answer, out: &[i32; MAX_HELD])
+        requires { length self.old + max_line ≤ ROOM }
+        ensures { self.new ≡ self.old ++ reply_line line reply.number (result_in reply.shape out.now) }
+    {
+        let start = self.len;
+        let n = sheet_answer::print_reply(line, reply.number, reply.shape, out, &mut self.bytes[start..ROOM]).unwrap();
+        self.len += n;
+    }
 }
 
-// Answers each line that ends in the chunk, and holds the bytes after the last newline; stops where a write fails.
-fn take_chunk<W: Write>(
-    sink: &mut W,
-    chunk: &[u8],
-    start: Held,
-    begun: &mut [u8],
-    l: &mut [i32],
-    r: &mut [i32],
-    out: &mut [i32],
-    text: &mut [u8],
-) -> Result<Held, Stopped>
-    requires { (start.len ≤ length begun.old) × ((start.waiting ≤ length text.old) × Buffers l.old r.old out.old text.old) }
-    ensures bound { IfOk result (λ h. (h.len ≤ length begun.old) × (h.waiting ≤ length text.old)) }
-    ensures lines { IfOk result (λ h. (bytes : List ℕ) → Holds start begun.old bytes
-        → Took start h (lines_from start.line bytes chunk.now) begun.new text.old text.new) }
-    ensures sent { IfOk result (λ h. (bytes : List ℕ) → Holds start begun.old bytes → Sent (W.contents sink.old) (W.contents sink.new)
-        (take start.waiting text.old) (lines_from start.line bytes chunk.now).printed (take h.waiting text.new)) }
-    ensures short { IfErr result (λ s. (bytes : List ℕ) → Holds start begun.old bytes
-        → ShortIn (W.contents sink.old) (W.contents sink.new) start.line bytes (take start.waiting text.old) chunk.now s.whole) }
-{
-    let mut held = start;
-    let mut at = 0;
-    // A while: a line is as long as it is, and the last, which has only begun, is held.
-    let mut end = newline_from(chunk, at);
-    while end < chunk.len() {
-        held = take_line(sink, &chunk[at..end], held, begun, l, r, out, text)?;
-        at = end + 1;
-        end = newline_from(chunk, at);
+// The bytes so far of the line that has begun; no length where they are too many for a line.
+#[derive(Drop)]
+struct Begun {
+    bytes: [u8; MAX_LINE],
+    len: Option<usize>,
+}
+
+impl Model for Begun {
+    ghost use Rattle.std.specs.Prelude.{List, ℕ, ◌≤◌, take, Option, option_map, IfSome};
+
+    ghost Value = { Option (List ℕ) };
+
+    ghost view = { λ b. option_map (λ n. take n b.bytes) b.len };
+
+    ghost invariant = { λ b. IfSome b.len (λ n. n ≤ 16384) };
+}
+
+impl Begun {
+    fn none() -> Begun
+        ensures { result ≡ Some [] }
+    {
+        Begun {
+            bytes: [0; MAX_LINE],
+            len: Some(0),
+        }
     }
-    Ok(hold_run(&chunk[at..end], held, begun))
+
+    fn is_none(&self) -> bool
+        ensures { IsTrue result ↔ (self.now ≡ Some []) }
+    {
+        matches!(self.len, Some(0))
+    }
+
+    fn bytes(&self) -> Option<&[u8]>
+        ensures { option_map (λ bytes. bytes.now) result ≡ self.now }
+    {
+        let len = self.len?;
+        Some(&self.bytes[..len])
+    }
+
+    // A run of bytes more.
+    fn hold_run(&mut self, run: &[u8])
+        ensures { (bytes : List ℕ) → Holds self.old bytes → Holds self.new (bytes ++ run.now) }
+    {
+        let Some(len) = self.len else {
+            return;
+        };
+        if MAX_LINE - len < run.len() {
+            self.len = None;
+            return;
+        }
+        self.bytes[len..len + run.len()].copy_from_slice(run);
+        self.len = Some(len + run.len());
+    }
+
+    fn clear(&mut self)
+        ensures { self.new ≡ Some [] }
+    {
+        self.len = Some(0);
+    }
+}
+
+// The next line's number, the answers that wait, and the buffers for a call's operands and its result.
+#[derive(Drop)]
+struct Answers {
+    line: u64,
+    text: Text,
+    l: [i32; MAX_HELD],
+    r: [i32; MAX_HELD],
+    out: [i32; MAX_HELD],
+}
+
+impl Answers {
+    // Writes what waits.
+    fn write<W: Write>(&mut self, sink: &mut W) -> Result<(), Stopped>
+        ensures none { OnOk result ((self.new.text ≡ []) × (self.new.line ≡ self.old.line)) }
+        ensures sent { OnOk result (Appends (W.contents sink.old) (W.contents sink.new) self.old.text) }
+        ensures short { IfErr result (λ s. Short (W.contents sink.old) (W.contents sink.new) self.old.text self.old.line s.whole) }
+    {
+        self.text.written(sink, self.line)
+    }
+
+    // The answer to a line follows the text that waits. A line that was too long to be held is bad.
+    fn answer_line(&mut self, bytes: Option<&[u8]>)
+        requires { length self.old.text + max_line ≤ ROOM }
+        ensures line { self.new.line ≡ self.old.line }
+        ensures text { (whole : List ℕ) → Holds (option_map (λ b. b.now) bytes.entry) whole
+            → self.new.text ≡ self.old.text ++ sheet_answer self.old.line whole }
+    {
+        let Some(held) = bytes else {
+            return self.text.put_bad(self.line);
+        };
+        let Some(read) = sheet_line::read_line(held, &mut self.l, &mut self.r) else {
+            return self.text.put_bad(self.line);
+        };
+        let left = Operand {
+            shape: read.left,
+            elements: &self.l,
+        };
+        let right = Operand {
+            shape: read.right,
+            elements: &self.r,
+        };
+        let reply = kernel::call(
+            read.primitive,
+            read.origin,
+            read.k,
+            &left,
+            &right,
+            &mut self.out,
+        );
+        self.text.put_reply(self.line, Answer::from(reply), &self.out);
+    }
+
+    // A line is at its end, and the next one starts.
+    fn end_line<W: Write>(&mut self, sink: &mut W, bytes: Option<&[u8]>) -> Result<(), Stopped>
+        ensures line { OnOk result (self.new.line ≡ next self.old.line) }
+        ensures sent { OnOk result ((whole : List ℕ) → Holds (option_map (λ b. b.now) bytes.entry) whole
+            → Sent (W.contents sink.old) (W.contents sink.new) self.old.text (sheet_answer self.old.line whole) self.new.text) }
+        ensures short { IfErr result (λ s. Short (W.contents sink.old) (W.contents sink.new) self.old.text self.old.line s.whole) }
+    {
+        self.text.flushed(sink, self.line)?;
+        self.answer_line(bytes);
+        self.line = self.line % 1000000000000000000 + 1;
+        Ok(())
+    }
+}
+
+// The place of the first newline.
+fn newline_in(bytes: &[u8]) -> Option<usize>
+    ensures { result ≡ position (λ b. b == newline) bytes.now }
+{
+    bytes.iter().position(|b| *b == b'\n')
+}
+
+// A sheet that is read: the line that has begun, and the answers to those before it.
+#[derive(Drop)]
+struct Sheet {
+    begun: Begun,
+    answers: Answers,
+}
+
+impl Sheet {
+    // Before the first line.
+    fn new() -> Sheet
+        ensures { (result.begun ≡ Some []) × (result.answers.line ≡ 1) × (result.answers.text ≡ []) }
+    {
+        Sheet {
+            begun: Begun::none(),
+            answers: Answers {
+                line: 1,
+                text: Text::none(),
+                l: [0; MAX_HELD],
+                r: [0; MAX_HELD],
+                out: [0; MAX_HELD],
+            },
+        }
+    }
+
+    // The last run of a line. Where nothing is held of the line, it is answered where it lies.
+    fn take_line<W: Write>(&mut self, sink: &mut W, run: &[u8]) -> Result<(), Stopped>
+        ensures taken { OnOk result ((self.new.begun ≡ Some []) × (self.new.answers.line ≡ next self.old.answers.line)) }
+        ensures sent { OnOk result ((bytes : List ℕ) → Holds self.old.begun bytes → Sent (W.contents sink.old) (W.contents sink.new)
+            self.old.answers.text (sheet_answer self.old.answers.line (bytes ++ run.now)) self.new.answers.text) }
+        ensures short { IfErr result
+            (λ s. Short (W.contents sink.old) (W.contents sink.new) self.old.answers.text self.old.answers.line s.whole) }
+    {
+        if self.begun.is_none() {
+            return self.answers.end_line(sink, Some(run));
+        }
+        self.begun.hold_run(run);
+        self.answers.end_line(sink, self.begun.bytes())?;
+        self.begun.clear();
+        Ok(())
+    }
+
+    // Answers each line that ends in the chunk, and holds the bytes after the last newline; stops where a write fails.
+    fn take_chunk<W: Write>(&mut self, sink: &mut W, chunk: &[u8]) -> Result<(), Stopped>
+        ensures taken { OnOk result ((bytes : List ℕ) → Holds self.old.begun bytes
+            → Took self.new (lines_from self.old.answers.line bytes chunk.now)) }
+        ensures sent { OnOk result ((bytes : List ℕ) → Holds self.old.begun bytes → Sent (W.contents sink.old) (W.contents sink.new)
+            self.old.answers.text (lines_from self.old.answers.line bytes chunk.now).printed self.new.answers.text) }
+        ensures short { IfErr result (λ s. (bytes : List ℕ) → Holds self.old.begun bytes
+            → ShortIn (W.contents sink.old) (W.contents sink.new) self.old.answers.line bytes self.old.answers.text chunk.now s.whole) }
+    {
+        let mut rest = chunk;
+        // A while: a line is as long as it is, and the last, which has only begun, is held.
+        while let Some(end) = newline_in(rest) {
+            self.take_line(sink, &rest[..end])?;
+            rest = &rest[end + 1..];
+        }
+        self.begun.hold_run(rest);
+        Ok(())
+    }
+
+    // The sheet ends; its last line may lack its newline.
+    fn end<W: Write>(&mut self, sink: &mut W) -> Result<(), Stopped>
+        requires { self.old.answers.text ≡ [] }
+        ensures sent { OnOk result ((bytes : List ℕ) → Holds self.old.begun bytes
+            → Appends (W.contents sink.old) (W.contents sink.new) (last_answer self.old.answers.line bytes)) }
+        ensures short { IfErr result (λ s. (bytes : List ℕ) → Holds self.old.begun bytes
+            → ShortIn (W.contents sink.old) (W.contents sink.new) self.old.answers.line bytes [] (newline ∷ []) s.whole) }
+    {
+        if self.begun.is_none() {
+            return Ok(());
+        }
+        self.answers.end_line(sink, self.begun.bytes())?;
+        self.answers.write(sink)
+    }
 }
 
 // Answers each line that is read. What waits is written after each chunk, so that a person at a terminal sees each answer at once. The input's last
@@ -380,46 +373,25 @@ fn answer_all<R: Read, W: Write>(source: &mut R, sink: &mut W) -> Result<(), Fai
         × Ends result bytes (R.remaining source.new) (W.contents sink.old) (W.contents sink.new) }
 {
     let mut chunk = [0u8; 65536];
-    let mut begun = [0u8; MAX_LINE];
-    let mut l = [0i32; MAX_HELD];
-    let mut r = [0i32; MAX_HELD];
-    let mut out = [0i32; MAX_HELD];
-    let mut text = [0u8; 65536];
-    let mut held = Held::none();
+    let mut sheet = Sheet::new();
     for _ in 0..u64::MAX {
         let n = match source.read(&mut chunk) {
             Ok(n) => n,
-            Err(_) => return Err(Failure::Unread(last_whole(held.line, &text[..0]))),
+            Err(_) => return Err(Failure::Unread(last_whole(sheet.answers.line, &[]))),
         };
         if n == 0 {
             break;
         }
-        let taken = take_chunk(
-            sink,
-            &chunk[..n],
-            held,
-            &mut begun,
-            &mut l,
-            &mut r,
-            &mut out,
-            &mut text,
-        )?;
-        held = written(sink, &text, taken)?;
+        sheet.take_chunk(sink, &chunk[..n])?;
+        sheet.answers.write(sink)?;
     }
-    let len = held.len;
-    if 0 < len || held.over {
-        let ended = end_line(
-            sink,
-            &begun[..len],
-            held,
-            &mut l,
-            &mut r,
-            &mut out,
-            &mut text,
-        )?;
-        written(sink, &text, ended)?;
-    }
+    sheet.end(sink)?;
     Ok(())
+}
+
+// One line on standard error; where that fails too there is nobody left to tell.
+fn tell(rt: &impl Eprint, failure: &str, last: u64) {
+    let _ = eprintln!(rt; "sheet: {failure}; answered whole up to line {last}");
 }
 
 // The status of a program that SIGPIPE ends.

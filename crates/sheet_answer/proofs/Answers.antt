@@ -8,8 +8,6 @@ use borrow.Author.Tests.{le-leb, lt-leb}
 use lib.IntN.{ℤ}
 use mathlib.Core.Logic.{◌⊎◌, inl, inr}
 use Rattle.std.proofs.Common.{Option, Some, None}
-use Rattle.std.specs.Option.{unwrap_or}
-use Rattle.std.specs.Option.{unwrap_or}
 use Rattle.shape.specs.declared.Shape.{Shape}
 use Rattle.shape.specs.Shape.{max_count, count, counted, count_of}
 use Rattle.shape.proofs.Counts.{good-count, bad-count, count-of}
@@ -39,13 +37,13 @@ all-printed {bytes} {before = before} {w} {w'} p e t q =
     rw (le-leb (length bytes) (length before) (omega (arith, put.inside))) (put.text ∙ rw (first, e, ← p))
 
 -- A line that fits the text is printed whole.
-pub printed-whole : (bytes line before after : List ℕ) (r : Option ℕ) → bytes ≡ line → length bytes ≤ max_line → max_line ≤ length before
-    → Print bytes before after r → (unwrap_or r 0 ≡ length line) × (after ≡ front line before)
+pub printed-whole : (bytes before after : List ℕ) (r : Option ℕ) → length bytes ≤ max_line → max_line ≤ length before → Print bytes before after r
+    → (r ≡ Some (length bytes)) × (after ≡ front bytes before)
 unfolding fitted
-printed-whole bytes line before after None e h k p = absurd (omega (arith, p.0))
-printed-whole bytes line before after (Some n) e h k p =
+printed-whole bytes before after None h k p = absurd (omega (arith, p.0))
+printed-whole bytes before after (Some n) h k p =
     let all : fitted bytes before ≡ bytes = rw (le-leb (length bytes) (length before) (omega arith)) in
-    (rw (← e) p.0.0, rw (all, e) at p.1)
+    (ap Some p.0.0, rw all at p.1)
 
 -- Nothing always fits.
 pub nothing-to-print : (before : List ℕ) → before ≡ printed_to [] before
