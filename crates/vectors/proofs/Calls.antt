@@ -1,17 +1,16 @@
 -- 11, 12, 13 and 21: what they ask, and what they give.
 use mathlib.Core.Path.{◌≡◌, refl, sym, ap, ◌∙◌}
 use mathlib.Core.List.{List, [], ◌∷◌, ◌++◌, map}
-use mathlib.Core.Bool.{Bool, true, not, cond, ◌&&◌}
-use Prim.Native.Nat.{ℕ, ◌+◌, ◌≤◌}
+use mathlib.Core.Bool.{Bool, not, cond, ◌&&◌}
+use Prim.Native.Nat.{ℕ, ◌≤◌}
 use native.Mathlib.Omega.{arith}
 use lib.Dec.{eqb}
 use lib.ListN.{length, drop, get_or}
 use lib.IntN.{ℤ, pos, nat_abs, ◌+ℤ◌}
 use Rattle.std.specs.List.{list_all}
 use Rattle.shape.specs.declared.Shape.{Shape}
-use Rattle.shape.specs.Shape.{counted, count, count_of, good_shape, shape_of}
-use Rattle.shape.proofs.Counts.{good-rank, count-of, count-good}
-use Rattle.shape.proofs.Made.{Stands, made_counted}
+use Rattle.shape.specs.Shape.{count, count_of, shape_of}
+use Rattle.shape.proofs.Counts.{count-of, count-good}
 use Rattle.shape.proofs.Places.{index-place}
 use Rattle.meaning.specs.Array.{Operand, Array, array_of, good_form, build}
 use Rattle.meaning.specs.Refusal.{number, precedence}
@@ -21,14 +20,13 @@ use Rattle.meaning.specs.Primitives.{lengths_of, ravel, interval, reshape}
 use Rattle.meaning.specs.Reply.{primitives, named}
 use Rattle.meaning.proofs.Arrays.{form-shape, form-whole}
 use Rattle.meaning.proofs.Tab.{tab-ext, tab-get_or}
-use Rattle.signed.proofs.Equal.{origin-is}
 use Rattle.copying.specs.Steps.{filled}
 use Rattle.copying.specs.Runs.{copied}
 use Rattle.copying.proofs.Runs.{copied-fits}
 use Rattle.answer.specs.Answer.{lent, early, own}
 use Rattle.answer.proofs.Lent.{Lent, axis-is, FineOne, early-fine}
 use Rattle.answer.proofs.Order.{Names, own_first, Ready}
-use Rattle.vectors.specs.Steps.{cycled, Made}
+use Rattle.vectors.specs.Steps.{cycled}
 use Rattle.vectors.proofs.Vector.{Vector, vector-stands, vector-counted}
 
 module _ (G K : ℤ) (L R : Operand) where
@@ -116,24 +114,19 @@ module _ (R : Operand) {n : ℕ} (e : n ≡ length (array_of R).elements) where
 
 -- 13: n is the number whose interval it gives.
 module _ (R : Operand) {n : ℕ} (e : n ≡ nat_abs (ends (array_of R))) (G : ℤ) (z : early (good_form R) G ≡ 0) where
-  pub interval-vector : Vector (interval G (array_of R)) n (λ i. pos (nat_abs G + i))
+  pub interval-vector : Vector (interval G (array_of R)) n (λ i. G +ℤ pos i)
   unfolding interval
   interval-vector =
-      record { lengths = ap (λ k. k ∷ []) (sym e); element = λ i l. ap (λ z. z +ℤ pos i) (origin-is G (early-fine G (good_form R) z).origin).0 }
+      record { lengths = ap (λ k. k ∷ []) (sym e); element = λ i l. refl }
 
   pub interval-ready : own 13 (interval G (array_of R)).refusals ≡ 0 → {s : Shape} → s ≡ shape_of (n ∷ []) → (K : ℤ) (L : Operand)
       → Ready 13 1 G K L R (interval G (array_of R)) s
   interval-ready o q K L = record { names = interval-names G K L R; fine = z; none = o; stands = vector-stands interval-vector q }
 
--- The shape and the elements that 21 gives.
-module _ (l r : Array) {s : Shape} (m : Made s (map nat_abs l.elements)) where
-  pub reshape-stands : Stands s (reshape l r).lengths
-  unfolding reshape
-  reshape-stands = record { rank = m.rank; lengths = λ h. ap counted (m.shape h) ∙ made_counted (map nat_abs l.elements) }
-
-  pub reshape-given : good_shape s ≡ true → s ≡ shape_of (reshape l r).lengths
-  unfolding reshape
-  reshape-given g = m.shape (good-rank s g)
+-- The lengths and the elements that 21 gives.
+pub reshape-lengths : (l r : Array) → (reshape l r).lengths ≡ map nat_abs l.elements
+unfolding reshape
+reshape-lengths l r = refl
 
 pub reshape-out : (l r : Array) (out : List ℤ) {n : ℕ} → n ≡ count (reshape l r).lengths → filled (cycled r.elements) n out
     ≡ (build (reshape l r).lengths (reshape l r).element).elements ++ drop (count (reshape l r).lengths) out

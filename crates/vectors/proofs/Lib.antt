@@ -1,3 +1,4 @@
 pub mod Vector
 pub mod Calls
 pub mod Cycling
+pub mod Over

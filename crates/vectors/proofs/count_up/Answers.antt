@@ -1,25 +1,34 @@
-use Rattle.std.proofs.Common.{arith, ◌≡◌, ◌∙◌, ap, ◌+◌, pos, ◌+ℤ◌, to_z, of_z, w32, slice_set}
-use Rattle.signed.proofs.Reading.{read_pos}
-use Rattle.copying.specs.Steps.{filled}
-use Rattle.copying.proofs.Runs.{filled_none, filled-one}
+use Rattle.std.proofs.Common.{arith, ◌≡◌, ◌∙◌, ap, sym, ◌+◌, pos, nat_abs, ◌+ℤ◌, to_z, of_z, w32, slice_set, ◌≤◌, length}
+use Rattle.signed.proofs.Reading.{read32, read_pos}
+use Rattle.signed.proofs.Equal.{origin-is}
+use Rattle.meaning.specs.Array.{tab}
+use Rattle.copying.proofs.Runs.{filled_none, filled-one, filled-whole}
 use Rattle.vectors.proofs.count_up.Goals as goal
 
-pub loop-i-init : goal.loop-i-init
-loop-i-init c = (read_pos c.args.first (omega (arith, c.requires.0)) ∙ ap pos (omega arith), filled_none _ _)
+pub loop-o-init : goal.loop-o-init
+loop-o-init c = rw (read32 _ c.ranges.first) ((origin-is c.args.first c.requires.0).0 ∙ ap pos (omega arith), filled_none _ _)
 
 pub overflow_add-x : goal.overflow_add-x
-overflow_add-x c = rw (c.loop-i.invariant.0) (record { sfits = omega (arith, c.requires, c.loop-i-test.true) })
+overflow_add-x c =
+    let o = origin-is c.args.first c.requires.0 in
+    rw (c.loop-o.invariant.0, read32 _ c.ranges.first) (record { sfits = omega (arith, o.1, c.requires.1, c.loop-o-test.true) })
 
-pub loop-i-preserved : goal.loop-i-preserved
-loop-i-preserved c =
-    let n = c.args.first + (c.loop-i.i + 1) in
-    let next : of_z w32 (to_z w32 c.loop-i.x-bits +ℤ pos 1) ≡ n = rw (c.loop-i.invariant.0) (omega (arith, c.requires, c.loop-i-test.true)) in
-    let done : slice_set c.loop-i.out c.loop-i.i (to_z w32 c.loop-i.x-bits) ≡ filled (λ j. pos (c.args.first + j)) (c.loop-i.i + 1) c.args.out.now =
-    rw (c.loop-i.invariant.1)
-    (filled-one _ (pos 0) _ c.loop-i.i _ (omega (arith, c.requires, c.loop-i-test.true)) (c.loop-i.invariant.0)) in
-    (ap (to_z w32) next ∙ read_pos n (omega (arith, c.requires, c.loop-i-test.true)), done)
+pub loop-o-preserved : goal.loop-o-preserved
+loop-o-preserved c =
+    let o = origin-is c.args.first c.requires.0 in
+    let n = nat_abs c.args.first + (c.loop-o.o-index + 1) in
+    let x : to_z w32 c.loop-o.x-bits ≡ pos (nat_abs c.args.first + c.loop-o.o-index) =
+    c.loop-o.invariant.0 ∙ ap (λ z. pos (nat_abs z + c.loop-o.o-index)) (read32 _ c.ranges.first) in
+    let next : of_z w32 (to_z w32 c.loop-o.x-bits +ℤ pos 1) ≡ n = rw x (omega (arith, c.requires, c.loop-o-test.true)) in
+    let first : to_z w32 c.loop-o.x-bits ≡ c.args.first +ℤ pos c.loop-o.o-index = x ∙ ap (λ z. z +ℤ pos c.loop-o.o-index) (sym o.0) in
+    rw (read32 _ c.ranges.first) (
+      ap (to_z w32) next ∙ read_pos n (omega (arith, o.1, c.requires.1, c.loop-o-test.true)),
+      ap (λ l. slice_set l c.loop-o.o-index (to_z w32 c.loop-o.x-bits)) (rw (read32 _ c.ranges.first) at c.loop-o.invariant.1)
+          ∙ filled-one _ (pos 0) _ c.loop-o.o-index _ (omega (arith, c.loop-o-test.true)) first,
+    )
 
 pub returns : goal.returns
 returns c =
-    c.loop-i.invariant.1
-    ∙ ap (λ k. filled (λ j. pos (c.args.first + j)) k c.args.out.now) (omega (arith, c.loop-i-test.false, c.loop-i.auto.i-end))
+    let all : length c.args.out.now ≤ c.loop-o.o-index = c.loop-o-test.false in
+    (rw (read32 _ c.ranges.first) at c.loop-o.invariant.1) ∙ filled-whole _ c.loop-o.o-index c.args.out.now all
+    ∙ ap (λ k. tab k (λ i. c.args.first +ℤ pos i)) (omega (arith, c.loop-o-test.false, c.loop-o.auto.o-index-end))

@@ -4,8 +4,8 @@ use Rattle.shape.specs.Shape.{max_rank}
 use Rattle.shape.proofs.Counts.{good-rank}
 use Rattle.shape.proofs.Rule.{rule-length}
 use Rattle.signed.proofs.Reading.{read_pos, element-is}
-use Rattle.copying.specs.Steps.{filled}
-use Rattle.copying.proofs.Runs.{filled_none, filled-one}
+use Rattle.meaning.specs.Array.{tab}
+use Rattle.copying.proofs.Runs.{filled_none, filled-one, filled-whole}
 use Rattle.vectors.proofs.put_lengths.Goals as goal
 
 pub loop-i-init : goal.loop-i-init
@@ -29,4 +29,5 @@ loop-i-preserved c =
 pub returns : goal.returns
 returns c =
     c.loop-i.invariant
-    ∙ ap (λ k. filled (λ j. pos (get_or c.args.s.lens j 0)) k c.args.out.now) (omega (arith, c.loop-i-test.false, c.loop-i.auto.i-end))
+    ∙ filled-whole _ c.loop-i.i c.args.out.now (omega (arith, c.requires.1, c.loop-i-test.false))
+    ∙ ap (λ k. tab k (λ j. pos (get_or c.args.s.lens j 0))) (omega (arith, c.requires.1, c.loop-i-test.false, c.loop-i.auto.i-end))

@@ -29,4 +29,4 @@ returns-then-not-none_negative-clause-number c R = sym (rest c.before R ∙ rw c
 
 pub returns-clause-number : goal.returns-clause-number
 unfolding asked
-returns-clause-number c R = sym (rest c.before.before R ∙ rw c.if-not-none_negative.false)
+returns-clause-number c R = sym (rest c.before R ∙ rw c.if-not-none_negative.false)

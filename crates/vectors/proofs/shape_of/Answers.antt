@@ -1,12 +1,12 @@
-use Rattle.std.proofs.Common.{◌≡◌, ◌∙◌, sym}
+use Rattle.std.proofs.Common.{◌≡◌, ◌∙◌, sym, length-take-le}
 use native.Mathlib.Omega.{arith}
 use mathlib.Core.Path.{refl}
 use Rattle.answer.specs.Answer.{lent}
 use Rattle.answer.proofs.Early.{early-read, one-fine}
 use Rattle.answer.proofs.Exits.{exit, asked_ok}
-use Rattle.answer.proofs.Order.{early-replied, late-replied, given-replied, late-fine}
+use Rattle.answer.proofs.Order.{early-replied, late-replied, given-replied}
 use Rattle.answer.proofs.Lent.{formed}
-use Rattle.vectors.proofs.Vector.{vector-counted, vector-shape, vector-out}
+use Rattle.vectors.proofs.Vector.{vector-counted, vector-room, vector-shape, vector-put}
 use Rattle.vectors.proofs.Calls.{shape-names, shape-vector, shape-ready}
 use Rattle.vectors.proofs.shape_of.Goals as goal
 
@@ -23,12 +23,17 @@ returns-in_err-late c K L =
     (late-replied (shape-ready f K L) _ c.late.ensures (vector-counted _ (omega (arith, f.operand.high)))
     (exit c.in_err-late.was c.from_residual-in_err-late.result c.from_residual-in_err-late.ensures.1))
 
+pub slice_bounds-put_lengths-end : goal.slice_bounds-put_lengths-end
+slice_bounds-put_lengths-end c = (vector-room _ _ c.late.ensures (asked_ok c.in_ok-late.was)).1
+
+pub slice_bounds-put_lengths-end-2 : goal.slice_bounds-put_lengths-end-2
+slice_bounds-put_lengths-end-2 c =
+    let room = vector-room _ _ c.late.ensures (asked_ok c.in_ok-late.was) in sym (length-take-le _ c.args.out.now room.1)
+
 pub put_lengths-requires : goal.put_lengths-requires
 put_lengths-requires c =
-    let g = formed c.r.invariant in
-    let n = vector-counted c.r.inside.shape.rank (omega (arith, g.high)) in
-    let roomy = late-fine _ (sym (asked_ok c.in_ok-late.was) ∙ c.late.ensures) n refl in
-    (g.good, omega (arith, roomy.space, n))
+    let room = vector-room _ _ c.late.ensures (asked_ok c.in_ok-late.was) in
+    ((formed c.r.invariant).good, length-take-le _ c.args.out.now room.1)
 
 pub returns : goal.returns
 returns c K L =
@@ -37,4 +42,4 @@ returns c K L =
     let v = shape-vector f.operand in
     rw e
     (given-replied (shape-ready f K L) _ (sym (asked_ok c.in_ok-late.was) ∙ c.late.ensures) (vector-counted _ (omega (arith, f.operand.high))) refl
-    (vector-shape v c.vector.ensures) (c.put_lengths.ensures ∙ vector-out v _))
+    (vector-shape v c.vector.ensures) (vector-put v c.args.out.now (vector-room _ _ c.late.ensures (asked_ok c.in_ok-late.was)).1 c.put_lengths.ensures))
