@@ -1,4 +1,5 @@
-// The leading item: one item of R's first axis, and its sister call.
+// The leading item: one item of R's first axis, and its sister call. Both take an origin, a number and R: a struct of the three would be made at each call
+// and taken apart in `found` alone.
 #![tactic(auto)]
 
 ghost use Rattle.std.specs.Prelude.{◌≡◌, IfOk};
@@ -12,23 +13,21 @@ ghost use Rattle.items.specs.Sister.{item_answer};
 use answer::{Formed, Operand, Refusal};
 use shape::Shape;
 
-// A part of a buffer: where it starts, and how many elements it has.
+// A part of a buffer: where it starts, and how many elements it has. C reads both, and 0 and 0 for a refusal, so no Option or slice stands for it.
 #[repr(C)]
-#[derive(Clone, Copy)]
+#[derive(Clone, Copy, Default)]
 pub struct Part {
     pub start: usize,
     pub length: usize,
 }
 
-// The item's elements where they stand in R. A refusal gives an empty part, as an item without elements does: the sister call tells them apart.
+// The item's elements where they stand in R. A refusal gives an empty part, as it does to C, and as an item without elements does: the sister call
+// tells them apart, so no Option does.
 pub fn leading_item<'a>(g: i32, i: i32, r: &Operand<'a>) -> &'a [i32]
     ensures { result.now ≡ (leading_item r.now g i).part }
 {
-    let elements = r.elements;
     let part = leading_part(g, i, r);
-    let start = part.start;
-    let end = start + part.length;
-    &elements[start..end]
+    &r.elements[part.start..part.start + part.length]
 }
 
 // Where the item's elements stand in R; 0 and 0 for a refusal.
@@ -36,10 +35,7 @@ pub fn leading_part(g: i32, i: i32, r: &Operand<'_>) -> Part
     ensures { result ≡ item_part r.now g i }
 {
     let Ok((r, at)) = found(g, i, r) else {
-        return Part {
-            start: 0,
-            length: 0,
-        };
+        return Part::default();
     };
     let length = r.shape.around(0).inner;
     let start = at * length;

@@ -1,4 +1,4 @@
-use Rattle.std.proofs.Common.{arith, ◌≡◌, ◌∙◌, sym, ◌*◌}
+use Rattle.std.proofs.Common.{arith, ◌≡◌, ◌∙◌, sym, ◌*◌, ℕ}
 use mathlib.Core.Path.{ap, ap₂}
 use Rattle.shape.specs.declared.Around.{Around}
 use Rattle.signed.proofs.Finding.{read-from-zero}
@@ -8,15 +8,21 @@ use Rattle.meaning.specs.Terms.{from_zero}
 use Rattle.meaning.specs.Item.{item_refusal, item_lengths}
 use Rattle.answer.specs.Answer.{lent}
 use Rattle.answer.proofs.Exits.{asked_ok, asked_err, number-some}
+use Rattle.items.specs.declared.Part.{Part}
 use Rattle.items.specs.Part.{item_part}
 use Rattle.items.proofs.Given.{Given, given, part-refused, part-given}
 use Rattle.items.proofs.leading_part.Goals as goal
 use Rattle.items.proofs.leading_part.Goals.{After-around-length}
 
+-- What the default is.
+empty-part : {a n : ℕ} → a ≡ 0 → n ≡ 0 → ◌≡◌ {A = Part} (record { start = a; length = n }) (record { start = 0; length = 0 })
+empty-part e f = rw (e, f)
+
 pub returns-in_default : goal.returns-in_default
 returns-in_default c =
     let n = c.found.ensures.number ∙ ap₂ (item_refusal _) (read32 _ c.ranges.g) (read32 _ c.ranges.i) in
-    part-refused c.args.r.now c.args.g c.args.i (λ z. number-some _ (sym (asked_err c.in_default.is) ∙ n ∙ z))
+    empty-part c.default.ensures.0 c.default.ensures.1
+    ∙ part-refused c.args.r.now c.args.g c.args.i (λ z. number-some _ (sym (asked_err c.in_default.is) ∙ n ∙ z))
 
 -- R as it was read, where nothing is refused, and where its item starts and how long it is.
 same : (c : After-around-length) → lent c.r.inside.shape c.r.inside.elements.now ≡ c.args.r.now
