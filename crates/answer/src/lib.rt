@@ -1,4 +1,6 @@
-// What the calls share: the operands, the answer, the refusals, and the tests before a primitive's own and after them.
+// What the calls share: the operands, the answer, the refusals, and the tests before a primitive's own and after them. Each primitive writes their order
+// out, in four lines or so with `?`: one function of it would take closures for its refusals, its shape and its elements, and a type for what the first
+// finds and the others need.
 #![tactic(auto)]
 
 mod refusal;

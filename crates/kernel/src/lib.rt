@@ -1,17 +1,16 @@
 // The numbered entry point.
 #![tactic(auto)]
 
-ghost use Rattle.meaning.specs.Array.{Operand};
 ghost use Rattle.meaning.specs.Reply.{reply};
 ghost use Rattle.answer.specs.Answer.{Replied};
 ghost use Rattle.answer.specs.Refused.{answered};
-ghost use Rattle.kernel.specs.Steps.{OneOperand, TwoOperands};
 
 use answer::{Operand, Refusal};
 use shape::Shape;
 
 // A call by its primitive's number: 11 to 15 take one operand, 21 to 31 take two, and every other number is refused. The paper and C name a primitive
-// by its number, so the choice is a match on it and no enum.
+// by its number, so the choice is a match on it and no enum. A primitive takes only what it looks at of a call, and promises `Replied` whatever the rest is:
+// of a struct of the whole call it would promise less.
 pub fn call(
     primitive: i32,
     g: i32,
@@ -23,44 +22,11 @@ pub fn call(
     ensures { Replied (answered result) out.new (reply primitive g k l.now r.now out.old) }
 {
     match primitive {
-        11..=15 => call_one(primitive, g, k, r, out),
-        21..=31 => call_two(primitive, g, k, l, r, out),
-        _ => Err(Refusal::Number),
-    }
-}
-
-fn call_one(
-    primitive: i32,
-    g: i32,
-    k: i32,
-    r: &Operand<'_>,
-    out: &mut [i32],
-) -> Result<Shape, Refusal>
-    requires { OneOperand primitive }
-    ensures { (L : Operand) → Replied (answered result) out.new (reply primitive g k L r.now out.old) }
-{
-    match primitive {
         11 => vectors::shape_of(g, r, out),
         12 => vectors::ravel(g, r, out),
         13 => vectors::interval(g, r, out),
         14 => turns::reverse(g, k, r, out),
         15 => transposes::transpose(g, r, out),
-        _ => Err(Refusal::Number),
-    }
-}
-
-fn call_two(
-    primitive: i32,
-    g: i32,
-    k: i32,
-    l: &Operand<'_>,
-    r: &Operand<'_>,
-    out: &mut [i32],
-) -> Result<Shape, Refusal>
-    requires { TwoOperands primitive }
-    ensures { Replied (answered result) out.new (reply primitive g k l.now r.now out.old) }
-{
-    match primitive {
         21 => vectors::reshape(g, l, r, out),
         22 => joins::catenate(g, k, l, r, out),
         23 => cuts::take(g, l, r, out),
