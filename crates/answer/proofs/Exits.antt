@@ -1,6 +1,5 @@
 -- What leaves a call by `?`, and what goes on.
 use mathlib.Core.Path.{◌≡◌, refl, sym, ap, ◌∙◌}
-use mathlib.Core.Bool.{Bool, true, false, cond}
 use Prim.Native.Nat.{ℕ}
 use native.Mathlib.Omega.{arith}
 use Rattle.std.specs.Prelude.{Result, Ok, Err}
@@ -8,7 +7,6 @@ use Rattle.std.specs.Result.{IsErrAnd}
 use Rattle.std.proofs.lemmas.Result.{err_from_is_err_and}
 use Rattle.shape.specs.declared.Shape.{Shape}
 use Rattle.meaning.specs.Refusal.{number}
-use Rattle.meaning.specs.Refusal.Refusal.{FORM}
 use Rattle.answer.specs.Answer.{refused}
 use Rattle.answer.specs.Refused.{meant, asked, answered}
 use Rattle.answer.specs.declared.Answer.{Answer}
@@ -61,13 +59,3 @@ refuses d = record { some = number-some d; is = refl }
 pub asked_ok : {A : Type 0} {x : Result A code.Refusal} {v : A} → x ≡ Ok v → asked x ≡ 0
 unfolding asked
 asked_ok e = ap asked e
-
--- What an operand's form was, by the exit that it took.
-module _ {A : Type 0} {x : Result A code.Refusal} where
-  pub form-refused : {d : code.Refusal} (b : Bool) → asked x ≡ cond b 0 (number FORM) → x ≡ Err d → (b ≡ false) × (asked x ≡ number FORM)
-  form-refused {d} true e w = absurd (number-some d (sym (asked_err w) ∙ e))
-  form-refused false e w = (refl, e)
-
-  pub form-kept : {v : A} (b : Bool) → asked x ≡ cond b 0 (number FORM) → x ≡ Ok v → b ≡ true
-  form-kept true e w = refl
-  form-kept false e w = absurd (let z : number FORM ≡ 0 = sym e ∙ asked_ok w in omega arith)
