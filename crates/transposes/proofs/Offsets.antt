@@ -1,12 +1,11 @@
 -- The place that a place of the result names stands in R where its positions times the strides add up to.
-use mathlib.Core.Path.{◌≡◌, refl, sym, ap, ap₂, ◌∙◌}
-use mathlib.Core.List.{List, [], ◌∷◌, ◌++◌}
+use mathlib.Core.Path.{◌≡◌, refl, sym, ap, ap₂, subst, ◌∙◌}
+use mathlib.Core.List.{List, [], ◌∷◌}
 use Prim.Native.Nat.{ℕ, zero, suc, ◌+◌, ◌*◌, ◌-◌, ◌≤◌, ◌<◌}
 use native.Mathlib.Nat.{sub-zero, mul-add, mul-zero}
 use native.Mathlib.Omega.{arith}
-use borrow.Rule.Slice.PartMut.{put_mid}
-use lib.ListN.{length, get_or, set, take, drop, replicate}
-use lib.Seq.{get_or-take, length-take-le, take_at}
+use lib.ListN.{length, get_or, set, take, replicate}
+use lib.Seq.{get_or-take, length-take-le, take_at, take_all}
 use lib.IntN.{ℤ, pos}
 use Rattle.shape.specs.declared.Shape.{Shape}
 use Rattle.shape.specs.Shape.{max_rank, counted, count}
@@ -17,12 +16,11 @@ use Rattle.meaning.specs.Array.{array_of, at, build}
 use Rattle.meaning.specs.Primitives.{axes_to, sent_lengths, brought_back}
 use Rattle.meaning.proofs.Tab.{tab-ext}
 use Rattle.meaning.proofs.Sent.{length_back, length-shape, brought_back-in}
-use Rattle.meaning.proofs.Arrays.{form-room, none_made}
+use Rattle.meaning.proofs.Arrays.{form-room, build-none}
 use Rattle.answer.specs.Answer.{lent}
-use Rattle.transposes.specs.declared.Sent.{Sent}
 use Rattle.transposes.specs.Steps.Strides.{dot, strides, sent_strides, walked, Walk}
-use Rattle.transposes.specs.Steps.Sent.{sent_axes, sent_elements, Moves}
-use Rattle.transposes.proofs.Passing.{AxesPassed, length-sent}
+use Rattle.transposes.specs.Steps.Sent.{Route, route, sent_elements, Moves}
+use Rattle.transposes.proofs.Passing.{Opened, length-sent}
 
 index-dot : (ns p : List ℕ) → length p ≡ length ns → index ns p ≡ dot p (strides ns)
 unfolding index dot strides
@@ -109,16 +107,22 @@ module _ (ts ns : List ℕ) (e : length ts ≡ length ns) where
     }
 
 -- What `transpose_into` gives.
-module _ {s : Sent} {shape : Shape} {total : ℕ} {rs : Shape} {r : List ℤ} {room : ℕ} (p : AxesPassed s.to rs)
-    (m : Moves s shape total (lent rs r) room) where
+pub into-none : {s : Route} {shape : Shape} (out : List ℤ) → Moves s shape (length out) → length out ≡ 0 → out ≡ sent_elements s.to (array_of s.operand)
+into-none {s} out m z =
+    sym (take_all 0 out (omega arith)) ∙ sym (build-none (sent_lengths s.to (array_of s.operand).lengths) _ (sym m.room_is ∙ z))
+
+module _ {s : Route} {rs : Shape} {r : List ℤ} {axes : ℕ} {to : List ℕ} {shape : Shape} {room : ℕ} (o : Opened s rs r axes to) (n : Moves s shape room) where
   abbrev ts : List ℕ
-  ts = sent_axes s rs
+  ts = take rs.rank to
+
+  m : Moves (route (lent rs r) ts) shape room
+  m = subst (λ (s : Route). Moves s shape room) o.is n
 
   same_rank : length ts ≡ length (counted rs)
-  same_rank = p.axes ∙ sym p.rank_is
+  same_rank = o.passed.axes ∙ sym o.passed.rank_is
 
   few : axes_to ts ≤ max_rank
-  few = omega (arith, m.sends.few, p.high)
+  few = omega (arith, o.sends.few, o.passed.high)
 
   rank_is : shape.rank ≡ axes_to ts
   rank_is = ap (λ x. x.rank) m.shape_is ∙ length-shape ts (counted rs)
@@ -126,27 +130,24 @@ module _ {s : Sent} {shape : Shape} {total : ℕ} {rs : Shape} {r : List ℤ} {r
   pub axes-high : shape.rank ≤ max_rank
   axes-high = omega (arith, rank_is, few)
 
-  pub into-some : 0 < total → 0 < count (counted rs)
-  into-some h = some-sent ts (counted rs) same_rank (omega (arith, m.total-is))
+  pub into-some : 0 < room → 0 < count (array_of s.operand).lengths
+  into-some h = rw o.is (some-sent ts (counted rs) same_rank (omega (arith, m.room_is)))
 
   lens-is : take (shape.rank - 0) shape.lens ≡ sent_lengths ts (counted rs)
   lens-is =
       ap (λ x. take (x.rank - 0) x.lens) m.shape_is ∙ rw sub-zero (take_at (sent_lengths ts (counted rs)) _ (length (sent_lengths ts (counted rs))) refl)
 
-  -- Nothing is written where there are no elements.
-  pub into-none : (out : List ℤ) → total ≡ 0 → out ≡ sent_elements ts (array_of (lent rs r)) ++ drop total out
-  into-none out z = none_made (sent_lengths ts (counted rs)) _ total out (sym m.total-is ∙ z) z
-
-  module _ (ws : List ℕ) (q : ws ≡ sent_strides max_rank ts (strides (counted rs))) where
+  module _ (ws : List ℕ) (q : ws ≡ sent_strides max_rank s.to (strides (array_of s.operand).lengths)) where
     steps-is : take (shape.rank - 0) ws ≡ steps ts (counted rs) same_rank few
-    steps-is = ap₂ take (sub-zero shape.rank ∙ rank_is) q
+    steps-is =
+        ap₂ take (sub-zero shape.rank ∙ rank_is)
+        (q ∙ ap (λ t. sent_strides max_rank t.to (strides (array_of t.operand).lengths)) o.is)
 
-    pub into-walk : (part : ℕ) → 0 < total → part ≡ total → Walk (take (shape.rank - 0) shape.lens) (take (shape.rank - 0) ws) (length r) part
-    into-walk part h e =
-        rw (lens-is, steps-is) (walk_is ts (counted rs) same_rank few (length r) part (form-room (lent rs r) m.form) (omega arith) (e ∙ m.total-is))
+    pub into-walk : 0 < room → Walk (take (shape.rank - 0) shape.lens) (take (shape.rank - 0) ws) (length r) room
+    into-walk h = rw (lens-is, steps-is) (walk_is ts (counted rs) same_rank few (length r) room (form-room (lent rs r) o.operand.form) h m.room_is)
 
-    pub into-all : (out last : List ℤ) → last ≡ walked (take (shape.rank - 0) shape.lens) (take (shape.rank - 0) ws) r
-        → put_mid 0 (total - 0) out last ≡ sent_elements ts (array_of (lent rs r)) ++ drop total out
-    into-all out last w =
-        ap₂ (λ x k. x ++ drop k out)
-        (w ∙ ap₂ (λ x y. walked x y r) lens-is steps-is ∙ walked-is ts (counted rs) same_rank few r) (sub-zero total)
+    pub into-all : {last : List ℤ} → last ≡ walked (take (shape.rank - 0) shape.lens) (take (shape.rank - 0) ws) r
+        → last ≡ sent_elements s.to (array_of s.operand)
+    into-all w =
+        w ∙ ap₂ (λ x y. walked x y r) lens-is steps-is ∙ walked-is ts (counted rs) same_rank few r
+        ∙ ap (λ t. sent_elements t.to (array_of t.operand)) (sym o.is)

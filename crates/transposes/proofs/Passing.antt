@@ -1,5 +1,5 @@
 -- The two passes over R's axes, from the last to the first: the lengths and the strides that go to each axis of the result.
-use mathlib.Core.Path.{◌≡◌, refl, sym, ap, ap₂, ◌∙◌}
+use mathlib.Core.Path.{◌≡◌, refl, sym, ap, ap₂, subst, ◌∙◌}
 use mathlib.Core.List.{List, [], ◌∷◌}
 use mathlib.Core.Bool.{Bool, true, false, cond}
 use Prim.Native.Nat.{ℕ, zero, suc, ◌+◌, ◌*◌, ◌-◌, ◌≤◌, ◌<◌, min}
@@ -9,16 +9,19 @@ use borrow.Author.Tests.{eqb-true, eqb-false, leb-true}
 use lib.Dec.{eqb, leb}
 use lib.ListN.{length, get_or, set, take, drop, replicate, length-set, length-replicate, length-drop, get_or-replicate}
 use lib.Seq.{slice_empty, slice-cons, get_or-take, length-take-le, get_or-set_same, get_or-set_other, ext_get_or}
+use lib.IntN.{ℤ}
 use Rattle.shape.specs.declared.Shape.{Shape}
 use Rattle.shape.specs.Shape.{max_rank, max_count, counted, count, small, good_shape, shape_of, made_of}
 use Rattle.shape.proofs.Bools.{both}
 use Rattle.shape.proofs.Rule.{small_at, small-from, rule-small, rule-count}
-use Rattle.shape.proofs.Counts.{factor, count-drop, good-rank}
+use Rattle.shape.proofs.Counts.{factor, count-drop}
 use Rattle.shape.proofs.Made.{made-is}
 use Rattle.meaning.specs.Primitives.{sent_to, smallest, axes_to, sent_lengths}
 use Rattle.meaning.proofs.Sent.{sent-has, sent-from, axes-lt, length-shape, get_d_shape, Occur, occur-all}
-use Rattle.transposes.specs.declared.Sent.{Sent}
-use Rattle.transposes.specs.Steps.Sent.{sent_axes, Transposes}
+use Rattle.meaning.specs.Array.{Operand, array_of}
+use Rattle.answer.specs.Answer.{lent, WellFormed}
+use Rattle.answer.proofs.Lent.{Lent, formed}
+use Rattle.transposes.specs.Steps.Sent.{Route, route, sent_axes, Transposes}
 use Rattle.transposes.specs.Steps.Strides.{strides, sent_strides}
 use Rattle.transposes.proofs.Choosing.{replicate-at}
 
@@ -31,18 +34,31 @@ pub record AxesPassed (to : List ℕ) (rs : Shape) : Type 0 where
   pub rank_is : length (counted rs) ≡ rs.rank
   pub below : (j : ℕ) → j < rs.rank → get_or to j 0 < max_rank
 
-pub passed : {s : Sent} {rs : Shape} → length s.to ≡ max_rank → length rs.lens ≡ max_rank → Transposes s rs → AxesPassed s.to rs
-passed {s} {rs} a b k =
-    let h : rs.rank ≤ max_rank = good-rank rs k.good in
-    let n : length (sent_axes s rs) ≡ rs.rank = length-take-le rs.rank s.to (omega arith) in
+-- What is known of axes that are sent, where the code has opened them.
+pub record Opened (s : Route) (rs : Shape) (b : List ℤ) (axes : ℕ) (to : List ℕ) : Type 0 where
+  pub is : s ≡ route (lent rs b) (take rs.rank to)
+  pub operand : Lent rs b
+  pub sends : Transposes (lent rs b) axes to
+  pub passed : AxesPassed to rs
+
+passes : {rs : Shape} {b : List ℤ} {axes : ℕ} {to : List ℕ} → Lent rs b → Transposes (lent rs b) axes to → AxesPassed to rs
+passes {rs} {b} {axes} {to} g k =
+    let n : length (take rs.rank to) ≡ rs.rank = length-take-le rs.rank to (omega (arith, g.high, k.long)) in
     record {
-      high = h;
-      to-long = omega arith;
-      lens-long = omega arith;
+      high = g.high;
+      to-long = omega (arith, g.high, k.long);
+      lens-long = omega (arith, g.high, g.long);
       axes = n;
-      rank_is = length-take-le rs.rank rs.lens (omega arith);
-      below = λ j l. omega (arith, k.few, get_or-take rs.rank s.to j 0 l, axes-lt (sent_axes s rs) j (omega arith));
+      rank_is = g.rank_is;
+      below = λ j l. omega (arith, k.few, g.high, get_or-take rs.rank to j 0 l, axes-lt (take rs.rank to) j (omega arith));
     }
+
+pub opened : {s : Route} {R : Operand} {rs : Shape} {b : List ℤ} {axes : ℕ} {to : List ℕ}
+    → route R (sent_axes R to) ≡ s → Transposes R axes to → lent rs b ≡ R → WellFormed rs b → Opened s rs b axes to
+opened {axes = axes} {to = to} e k f w =
+    let g = formed w in
+    let t = subst (λ (R : Operand). Transposes R axes to) (sym f) k in
+    record { is = sym e ∙ ap (λ R. route R (sent_axes R to)) (sym f); operand = g; sends = t; passed = passes g t }
 
 -- The axis before axis i.
 before : (l : List ℕ) (rank i : ℕ) → 0 < i → i ≤ rank → rank ≤ length l → drop (i - 1) (take rank l) ≡ get_or l (i - 1) 0 ∷ drop i (take rank l)
@@ -142,13 +158,16 @@ module _ (ts ns : List ℕ) (e : length ts ≡ length ns) (s : small ns ≡ true
       ∙ least-smallest (sent_to j ts ns) (sent-some j l') (sent-small j)
       ∙ sym (get_d_shape ts ns j l'))
 
-pub shape-made : {s : Sent} {rs : Shape} {lens : List ℕ} → AxesPassed s.to rs → Transposes s rs → Shortest (sent_axes s rs) (counted rs) lens 0
-    → made_of s.axes lens ≡ shape_of (sent_lengths (sent_axes s rs) (counted rs))
-shape-made {s} {rs} {lens} p k f =
-    let few : axes_to (sent_axes s rs) ≤ max_rank = omega (arith, k.few, p.high) in
-    made-is _ s.axes lens (omega (arith, k.axes))
-    (ap (λ n. take n lens) k.axes
-    ∙ shortest-all (sent_axes s rs) (counted rs) (p.axes ∙ sym p.rank_is) (rule-small rs.rank (counted rs) k.good) (occur-all _ k.each) f few)
+pub shape-made : {s : Route} {rs : Shape} {b : List ℤ} {axes : ℕ} {to lens : List ℕ} → Opened s rs b axes to
+    → Shortest (take rs.rank to) (counted rs) lens 0 → made_of axes lens ≡ shape_of (sent_lengths s.to (array_of s.operand).lengths)
+shape-made {s} {rs} {b} {axes} {to} {lens} o f =
+    let k = o.sends in
+    let p = o.passed in
+    let few : axes_to (take rs.rank to) ≤ max_rank = omega (arith, k.few, p.high) in
+    made-is _ axes lens (omega (arith, k.axes-are))
+    (ap (λ n. take n lens) k.axes-are
+    ∙ shortest-all (take rs.rank to) (counted rs) (p.axes ∙ sym p.rank_is) (rule-small rs.rank (counted rs) o.operand.good) (occur-all _ k.each) f few)
+    ∙ ap (λ t. shape_of (sent_lengths t.to (array_of t.operand).lengths)) (sym o.is)
 
 -- Strides that are sent, added up.
 pub length-sent : (r : ℕ) (ts ws : List ℕ) → length (sent_strides r ts ws) ≡ r
@@ -222,3 +241,13 @@ module _ {to : List ℕ} {rs : Shape} (p : AxesPassed to rs) {sums : List ℕ} {
           ap (λ l. get_or l t 0) f.sums-is,
           sums-le max_rank (drop i (take rs.rank to)) (drop i (counted rs)) t max_count (count-le i).0 (count-le i).1,
         )
+
+pub opened-some : {s : Route} {rs : Shape} {b : List ℤ} {axes : ℕ} {to : List ℕ} → Opened s rs b axes to
+    → 0 < count (array_of s.operand).lengths → 0 < count (counted rs)
+opened-some o h = rw o.is at h
+
+pub summed-all : {s : Route} {rs : Shape} {b : List ℤ} {axes step i : ℕ} {to sums : List ℕ} → Opened s rs b axes to → Summed to rs sums step i
+    → i ≡ 0 → sums ≡ sent_strides max_rank s.to (strides (array_of s.operand).lengths)
+summed-all {rs = rs} {to = to} o f z =
+    f.sums-is ∙ ap (λ i. sent_strides max_rank (drop i (take rs.rank to)) (strides (drop i (counted rs)))) z
+    ∙ ap (λ t. sent_strides max_rank t.to (strides (array_of t.operand).lengths)) (sym o.is)

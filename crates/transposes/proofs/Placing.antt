@@ -163,7 +163,8 @@ placed_rest {axes} {r} {out} {part} at to h p = record {
     kept T x q k false b =
         let l : to ≤ q = ltb-false q to b in
         let z : to + (q - to) ≡ q = omega arith in
-        rw z at (put-after to out part h (q - to) ∙ x (q - to) (rest-at out to (q - to) ∙ rw z k ∙ sym (rw z at (rest-at T to (q - to)))) ∙ rest-at T to (q - to))
+        let there : get_or (rest_of T to) (q - to) (pos 0) ≡ get_or T q (pos 0) = rw z at (rest-at T to (q - to)) in
+        rw z at (put-after to out part h (q - to)) ∙ x (q - to) (rw z at (rest-at out to (q - to)) ∙ k ∙ sym there) ∙ there
 
 -- No position, one more, and a strip of them from l on.
 module _ {w o : ℕ} {rest : List Axis} {r : List ℤ} where

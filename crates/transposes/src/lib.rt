@@ -1,30 +1,33 @@
 // Transpositions: 15 and 26. R's axis i goes to result axis t, and axes sent together give the diagonal.
 #![tactic(auto)]
 
-ghost use Rattle.std.specs.Prelude.{◌≡◌, [], ◌∷◌, ◌++◌, map, true, not, cond, ◌≤◌, ◌<◌, length, take, drop, ℤ, pos};
-ghost use Rattle.std.specs.List.{list_all};
-ghost use Rattle.shape.specs.Shape.{max_rank, counted, count, shape_of};
-ghost use Rattle.meaning.specs.Array.{Operand, array_of, good_form};
+ghost use Rattle.std.specs.Prelude.{◌≡◌, [], ◌∷◌, map, not, cond, ◌≤◌, ◌<◌, length, ℤ, pos};
+ghost use Rattle.shape.specs.Shape.{max_rank, count, shape_of};
+ghost use Rattle.meaning.specs.Array.{Operand, array_of, tab};
 ghost use Rattle.meaning.specs.Refusal.{number};
 ghost use Rattle.meaning.specs.Refusal.Refusal.{DOMAIN};
-ghost use Rattle.meaning.specs.Terms.{from_zero};
-ghost use Rattle.meaning.specs.Primitives.{backwards, sent_lengths, transpose_by};
+ghost use Rattle.meaning.specs.Terms.{rank, from_zero, every};
+ghost use Rattle.meaning.specs.Primitives.{backwards, sent_lengths, occurs_in, transpose_by};
 ghost use Rattle.meaning.specs.Reply.{reply};
-ghost use Rattle.answer.specs.Answer.{lent, own, Replied};
+ghost use Rattle.answer.specs.Answer.{own, Replied};
 ghost use Rattle.answer.specs.Refused.{answered};
 ghost use Rattle.transposes.specs.Steps.Strides.{strides, sent_strides, LineIn, strided, walked, Walk};
 ghost use Rattle.transposes.specs.Steps.Placed.{Reach, Placed, row_axes, Blocked};
-ghost use Rattle.transposes.specs.Steps.Sent.{Sending, SentBy, in_domain, sent_axes, sent_elements, Transposes, Moves, Moved};
+ghost use Rattle.transposes.specs.Steps.Sent.{route, in_domain, sent_elements, Moves};
+ghost use Rattle.transposes.specs.Steps.Outcome.{Sending, Moved};
 
 use answer::{Formed, Operand, Refusal};
 use shape::Shape;
+use std::marker::Model;
 
-// 15: axes in reverse order, whatever K and L are.
+// 15: axes in reverse order, whatever K and L are. Neither is handed over, nor K to 26: a struct of a whole call would have both, and what is promised
+// would still be said for every one.
 pub fn transpose(g: i32, r: &Operand<'_>, out: &mut [i32]) -> Result<Shape, Refusal>
     ensures { (K : ℤ) (L : Operand) → Replied (answered result) out.new (reply (pos 15) g K L r.now out.old) }
 {
     let r = answer::early_one(g, r)?;
-    transposed(backwards(r.shape.rank), r.shape, r.elements, out)
+    let sent = backwards(&r);
+    transposed(&sent, out)
 }
 
 // 26: axis i goes to L's element i less G, whatever K is.
@@ -38,43 +41,54 @@ pub fn transpose_by(
 {
     let (l, r) = answer::early_two(g, l, r)?;
     let sent = sent_by(g, &l, &r)?;
-    transposed(sent, r.shape, r.elements, out)
+    transposed(&sent, out)
 }
 
-// Where R's axes are sent: axis i to axis `to[i]`, of `axes` axes in all.
-#[derive(Clone, Copy)]
-struct Sent {
+// R, and where its axes are sent: axis i to axis `to[i]`, of `axes` axes in all. There is no heap, so `to` is an array as R's lengths are, and R's rank
+// says how many count.
+#[derive(Drop)]
+struct Sent<'r, 'a> {
+    r: &'r Formed<'a>,
     axes: usize,
     to: [usize; Shape::MAX_RANK],
 }
 
-// LIMIT and SPACE, or else the elements and the shape.
-fn transposed(sent: Sent, rs: Shape, r: &[i32], out: &mut [i32]) -> Result<Shape, Refusal>
-    requires { Transposes sent rs × (good_form (lent rs r.now) ≡ true) }
-    ensures { Moved sent rs r.now out.old out.new result }
+impl<'r, 'a> Model for Sent<'r, 'a> {
+    ghost use Rattle.transposes.specs.Steps.Sent.{Route, route, sent_axes, Transposes};
+
+    ghost Value = { Route };
+
+    ghost view = { λ s. route s.r.now (sent_axes s.r.now s.to) };
+
+    ghost invariant = { λ s. Transposes s.r.now s.axes s.to };
+}
+
+// What 15 and 26 have alike: LIMIT and SPACE, or else the elements and the shape.
+fn transposed(sent: &Sent<'_, '_>, out: &mut [i32]) -> Result<Shape, Refusal>
+    ensures { Moved sent.now out.old out.new result }
 {
-    let shape = sent_shape(sent, rs);
+    let shape = sent_shape(sent);
     let count = shape.count();
     answer::late(count, out.len())?;
-    transpose_into(sent, shape, count, rs, r, out);
+    transpose_into(sent, shape, &mut out[0..count]);
     Ok(shape)
 }
 
 // 15 sends axis i to rank - 1 - i.
-fn backwards(rank: usize) -> Sent
-    requires { rank ≤ max_rank }
-    ensures { SentBy result (backwards rank) }
+fn backwards<'r, 'a>(r: &'r Formed<'a>) -> Sent<'r, 'a>
+    ensures { result ≡ route r.now (backwards (rank (array_of r.now))) }
 {
+    let axes = r.shape.rank;
     let mut to = [0; Shape::MAX_RANK];
-    for i in 0..rank {
-        to[i] = rank - 1 - i;
+    for i in 0..axes {
+        to[i] = axes - 1 - i;
     }
-    Sent { axes: rank, to }
+    Sent { r, axes, to }
 }
 
 // 26 sends axis i to L's element i less G: RANK, LENGTH and DOMAIN.
-fn sent_by(g: i32, l: &Formed<'_>, r: &Formed<'_>) -> Result<Sent, Refusal>
-    ensures { Sending result (own 26 (transpose_by g (array_of l.now) (array_of r.now)).refusals) (map (from_zero g) (array_of l.now).elements) }
+fn sent_by<'r, 'a>(g: i32, l: &Formed<'_>, r: &'r Formed<'a>) -> Result<Sent<'r, 'a>, Refusal>
+    ensures { Sending result (own 26 (transpose_by g (array_of l.now) (array_of r.now)).refusals) (route r.now (map (from_zero g) (array_of l.now).elements)) }
 {
     if !l.is_list() {
         return Err(Refusal::Rank);
@@ -84,84 +98,90 @@ fn sent_by(g: i32, l: &Formed<'_>, r: &Formed<'_>) -> Result<Sent, Refusal>
     if count != r.shape.rank {
         return Err(Refusal::Length);
     }
-    chosen(g, elements)
+    chosen(g, elements, r)
 }
 
-// DOMAIN: each element names an axis, and all of 0 to the largest occur.
-fn chosen(g: i32, l: &[i32]) -> Result<Sent, Refusal>
-    requires { length l.now ≤ max_rank }
-    ensures { Sending result (cond (not (in_domain g (length l.now) l.now)) (number DOMAIN) 0) (map (from_zero g) l.now) }
+// DOMAIN: each element names an axis, and all of 0 to the largest occur. The origin and the list are together in this one call: a struct of both would
+// be made for it and taken apart in it.
+fn chosen<'r, 'a>(g: i32, l: &[i32], r: &'r Formed<'a>) -> Result<Sent<'r, 'a>, Refusal>
+    requires { length l.now ≡ r.now.shape.rank }
+    ensures { Sending result (cond (not (in_domain g (length l.now) l.now)) (number DOMAIN) 0) (route r.now (map (from_zero g) l.now)) }
 {
-    let mut used = [false; Shape::MAX_RANK];
+    let rank = r.shape.rank;
     let mut to = [0; Shape::MAX_RANK];
     let mut axes: usize = 0;
     for (i, z) in l.iter().enumerate() {
-        let Some(axis) = signed::position(*z, g, l.len()) else {
+        let Some(axis) = signed::position(*z, g, rank) else {
             return Err(Refusal::Domain);
         };
         to[i] = axis;
-        used[axis] = true;
         axes = axes.max(axis + 1);
     }
-    if all_used(used, axes) {
-        Ok(Sent { axes, to })
+    if all_used(&to[0..rank], axes) {
+        Ok(Sent { r, axes, to })
     } else {
         Err(Refusal::Domain)
     }
 }
 
-// Whether each of so many axes is used.
-fn all_used(used: [bool; Shape::MAX_RANK], axes: usize) -> bool
-    requires { axes ≤ max_rank }
-    ensures { result ≡ list_all (λ used. used) (take axes used) }
+// Whether some axis is sent to each of so many.
+fn all_used(to: &[usize], axes: usize) -> bool
+    ensures { result ≡ every (occurs_in to.now) (tab axes (λ j. j)) }
 {
-    used[..axes].iter().all(|used| *used)
+    (0..axes).all(|axis| to.contains(&axis))
 }
 
-// The result's shape: of the lengths sent to each axis the smallest. None is above the limit.
-fn sent_shape(sent: Sent, rs: Shape) -> Shape
-    requires { Transposes sent rs }
-    ensures { result ≡ shape_of (sent_lengths (sent_axes sent rs) (counted rs)) }
+// The result's shape: of the lengths sent to each axis the smallest. None is above the limit. The loops here, in `backwards` and in `strides` write other
+// numbers at other places: one function for them would take both as closures, and each is two or three lines.
+fn sent_shape(sent: &Sent<'_, '_>) -> Shape
+    ensures { result ≡ shape_of (sent_lengths sent.now.to (array_of sent.now.operand).lengths) }
 {
-    let to = sent.to;
+    let r = sent.r;
     let mut lens = [Shape::MAX_COUNT; Shape::MAX_RANK];
-    for i in (0..rs.rank).rev() {
-        let t = to[i];
-        lens[t] = lens[t].min(rs.lens[i]);
+    for i in (0..r.shape.rank).rev() {
+        let t = sent.to[i];
+        lens[t] = lens[t].min(r.shape.lens[i]);
     }
     Shape::of_lengths(sent.axes, lens)
 }
 
-// The elements of the result, `total` in all.
-fn transpose_into(sent: Sent, shape: Shape, total: usize, rs: Shape, r: &[i32], out: &mut [i32])
-    requires { Moves sent shape total (lent rs r.now) (length out.old) }
-    ensures { out.new ≡ sent_elements (sent_axes sent rs) (array_of (lent rs r.now)) ++ drop total out.old }
+// The elements of the result, of that shape. Where there are none R may have none, and then its strides need not fit.
+fn transpose_into(sent: &Sent<'_, '_>, shape: Shape, out: &mut [i32])
+    requires { Moves sent.now shape (length out.old) }
+    ensures { out.new ≡ sent_elements sent.now.to (array_of sent.now.operand) }
 {
-    if total == 0 {
+    if out.is_empty() {
         return;
     }
+    let r = sent.r;
+    let elements = r.elements;
     let axes = shape.rank;
-    let lens = shape.lens;
-    let steps = strides(sent, rs);
-    walk(&lens[0..axes], &steps[0..axes], r, &mut out[0..total]);
+    let steps = strides(sent);
+    walk(&shape.lens[0..axes], &steps[0..axes], elements, out);
 }
 
-// The strides in R of the axes sent to each axis, added up. No length of R is 0, so that no product is above R's count.
-fn strides(sent: Sent, rs: Shape) -> [usize; Shape::MAX_RANK]
-    requires { Transposes sent rs × (0 < count (counted rs)) }
-    ensures { result ≡ sent_strides max_rank (sent_axes sent rs) (strides (counted rs)) }
+// The strides in R of the axes sent to each axis, added up. No length of R is 0, so that no product is above R's count. The table of cuts has a stride for
+// each axis of its own, and another product beside it: the two passes share the line of the product alone.
+fn strides(sent: &Sent<'_, '_>) -> [usize; Shape::MAX_RANK]
+    requires { 0 < count (array_of sent.now.operand).lengths }
+    ensures { result ≡ sent_strides max_rank sent.now.to (strides (array_of sent.now.operand).lengths) }
 {
+    let r = sent.r;
     let mut sums = [0; Shape::MAX_RANK];
     let mut step = 1;
-    for i in (0..rs.rank).rev() {
+    for i in (0..r.shape.rank).rev() {
         let t = sent.to[i];
         sums[t] += step;
-        step *= rs.lens[i];
+        step *= r.shape.lens[i];
     }
     sums
 }
 
-// Elements of r that stand `stride` apart, from the first on.
+// From here on each function takes the lengths and strides of some axes, R from some element on, and the part of the result to be written. What it needs of
+// them (LineIn, Reach, Blocked, Walk) joins all three, which are others at each call: a type that held it would be made anew at each, for one use.
+
+// Elements of r that stand `stride` apart, from the first on. `put_line` with a step of 1 writes them too, but promises places: that these are the whole
+// buffer is no shorter to show than this loop is.
 fn spread(stride: usize, r: &[i32], out: &mut [i32])
     requires { LineIn (length out.old) stride (length r.now) }
     ensures { out.new ≡ strided (length out.old) stride r.now }
@@ -172,7 +192,7 @@ fn spread(stride: usize, r: &[i32], out: &mut [i32])
     }
 }
 
-// The same, by a run where they are neighbours.
+// The same, by a run where they are neighbours, which shows only from the operand.
 fn line(stride: usize, r: &[i32], out: &mut [i32])
     requires { (0 < length out.old) × LineIn (length out.old) stride (length r.now) }
     ensures { out.new ≡ strided (length out.old) stride r.now }
@@ -180,9 +200,9 @@ fn line(stride: usize, r: &[i32], out: &mut [i32])
     if stride == 1 {
         let end = out.len();
         copying::copy_run(&r[0..end], out);
-        return;
+    } else {
+        spread(stride, r, out);
     }
-    spread(stride, r, out);
 }
 
 // A strip's width: as many lines of R are read side by side. They are few enough to stay in the cache until they are read to their end.
@@ -208,7 +228,8 @@ fn put_line(axis: Axis, r: &[i32], out: &mut [i32])
     }
 }
 
-// The same along two axes, line by line.
+// The same along two axes, line by line. One loop for elements, lines, planes and parts would take its body as a closure, and say of it what Reach and
+// Placed say of the axes that are left: more than the five lines that it saves.
 fn put_plane(axis: Axis, line: Axis, r: &[i32], out: &mut [i32])
     requires { Reach (axis ∷ (line ∷ [])) (length r.now) (length out.old) }
     ensures { Placed (axis ∷ (line ∷ [])) r.now out.old out.new }
@@ -240,23 +261,23 @@ fn put_strips(last: Axis, near: Axis, r: &[i32], out: &mut [i32])
     put_plane(near, strip, &r[from..], &mut out[place..]);
 }
 
-// The same, however long the last axis is. A short one is done line by line of the other. One with a short stride in R needs no strips.
+// The same, however long the last axis is: which way to go depends on its numbers alone. A short one is done line by line of the other. One with a short
+// stride in R needs no strips.
 fn put_block(near: Axis, last: Axis, r: &[i32], out: &mut [i32])
     requires { Reach (near ∷ (last ∷ [])) (length r.now) (length out.old) }
     ensures { Placed (near ∷ (last ∷ [])) r.now out.old out.new }
 {
     if last.length < TILE {
         put_plane(last, near, r, out);
-        return;
-    }
-    if last.stride < TILE {
+    } else if last.stride < TILE {
         put_plane(near, last, r, out);
-        return;
+    } else {
+        put_strips(last, near, r, out);
     }
-    put_strips(last, near, r, out);
 }
 
-// The same along an axis and those in `lens`, which have `size` places and stand row by row in the result.
+// The same along an axis and those in `lens`, which have `size` places and stand row by row in the result. Unlike the parts of `walk`, which are runs of the
+// result, those here lie among each other, so that each recursion has its own slices and its own promise.
 fn put_blocks(
     near: Axis,
     lens: &[usize],
@@ -319,8 +340,8 @@ fn walk_blocks(lens: &[usize], strides: &[usize], r: &[i32], out: &mut [i32])
     put_blocks(near, &lens[1..rank], &strides[1..rank], step, r, out);
 }
 
-// The part of the result for the axes in `lens`, whose first element is r's first. The lengths are a part of the shape, whose form the C
-// interface fixes: pairs of a length and a stride would be a third array, and a loop that fills it.
+// The part of the result for the axes in `lens`, whose first element is r's first: a line, blocks, or part by part, as the axes are. The lengths are a part of
+// the shape, whose form the C interface fixes: pairs of a length and a stride would be a third array, and a loop that fills it.
 fn walk(lens: &[usize], strides: &[usize], r: &[i32], out: &mut [i32])
     requires { Walk lens.now strides.now (length r.now) (length out.old) }
     ensures { out.new ≡ walked lens.now strides.now r.now }

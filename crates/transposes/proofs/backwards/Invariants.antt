@@ -3,4 +3,4 @@ use Rattle.transposes.proofs.Choosing.{SentSoFar}
 use Rattle.transposes.proofs.backwards.Given as goal
 
 abbrev pub invariant-loop-i : goal.invariant-loop-i
-invariant-loop-i l = SentSoFar (backwards l.rank) l.to l.i
+invariant-loop-i l = SentSoFar (backwards l.axes) l.to l.i

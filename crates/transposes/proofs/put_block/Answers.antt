@@ -11,5 +11,5 @@ returns-then-last-lt-TILE c = placed-swap c.put_plane.ensures
 pub put_strips-requires : goal.put_strips-requires
 put_strips-requires c = (omega arith, reach-swap c.requires)
 
-pub returns : goal.returns
-returns c = placed-swap c.put_strips.ensures
+pub returns-else-last-lt-TILE-2 : goal.returns-else-last-lt-TILE-2
+returns-else-last-lt-TILE-2 c = placed-swap c.put_strips.ensures

@@ -1,4 +1,4 @@
-use Rattle.std.proofs.Common.{arith, ◌≡◌, ◌∙◌, sym}
+use Rattle.std.proofs.Common.{◌≡◌, ◌∙◌, sym}
 use mathlib.Core.Path.{refl, ap, subst}
 use mathlib.Core.List.{List, map}
 use mathlib.Core.Bool.{true, not, cond}
@@ -11,7 +11,8 @@ use Rattle.meaning.specs.Array.{array_of}
 use Rattle.meaning.specs.Terms.{rank, is_list, from_zero}
 use Rattle.answer.specs.Refused.{asked}
 use Rattle.answer.proofs.Lent.{formed}
-use Rattle.transposes.specs.Steps.Sent.{Sending, in_domain}
+use Rattle.transposes.specs.Steps.Sent.{route, in_domain}
+use Rattle.transposes.specs.Steps.Outcome.{Sending}
 use Rattle.transposes.proofs.Calls.{by-own, by-domain}
 use Rattle.transposes.proofs.sent_by.Goals as goal
 
@@ -38,7 +39,7 @@ returns-then-count-r c =
     }
 
 pub chosen-requires : goal.chosen-requires
-chosen-requires c = omega (arith, c.if-count-r.false, (formed c.r.invariant).high)
+chosen-requires c = c.if-count-r.false ∙ ap (λ o. o.shape.rank) c.r.view_is
 
 pub returns : goal.returns
 returns c =
@@ -46,5 +47,6 @@ returns c =
     let n : rank (array_of c.args.r.now) ≡ c.r.inside.shape.rank = ap (λ o. rank (array_of o)) (sym c.r.view_is) ∙ (formed c.r.invariant).rank_is in
     let e = sym (ap length c.elements-elements.ensures) ∙ c.if-count-r.false ∙ sym n in
     rw (by-domain c.args.g (array_of c.args.l.now) (array_of c.args.r.now) l e)
-    (subst (λ (p : List ℤ). Sending c.chosen.result (cond {A = ℕ} (not (in_domain c.args.g (length p) p)) 7 0) (map (from_zero c.args.g) p))
+    (subst
+    (λ (p : List ℤ). Sending c.chosen.result (cond {A = ℕ} (not (in_domain c.args.g (length p) p)) 7 0) (route c.args.r.now (map (from_zero c.args.g) p)))
     c.elements-elements.ensures (rw (read32 c.args.g c.ranges.g) at c.chosen.ensures))

@@ -1,7 +1,10 @@
-use Rattle.shape.specs.Shape.{counted}
-use Rattle.transposes.specs.Steps.Sent.{sent_axes}
+use Rattle.std.proofs.Common.{ℕ, ◌<◌, take, get_or}
+use Rattle.shape.specs.Shape.{max_rank, counted}
 use Rattle.transposes.proofs.Passing.{Shortest}
 use Rattle.transposes.proofs.sent_shape.Given as goal
 
 abbrev pub invariant-loop-i : goal.invariant-loop-i
-invariant-loop-i l = Shortest (sent_axes l.sent l.rs) (counted l.rs) l.lens l.i
+invariant-loop-i l = record {
+  shortest : Shortest (take l.r-inside.shape.rank l.sent-inside.to) (counted l.r-inside.shape) l.lens l.i;
+  below : (j : ℕ) → j < l.r-inside.shape.rank → get_or l.sent-inside.to j 0 < max_rank;
+}

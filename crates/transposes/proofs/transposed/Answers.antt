@@ -1,16 +1,16 @@
-use Rattle.std.proofs.Common.{arith, ◌∙◌, sym}
-use mathlib.Core.Path.{refl, ap}
+use Rattle.std.proofs.Common.{arith, ◌∙◌, ◌-◌, sym, length}
+use mathlib.Core.Path.{refl, ap, ap₂}
+use native.Mathlib.Nat.{sub-zero}
 use Rattle.std.proofs.lemmas.Result.{err_from_is_err_and}
-use lib.ListN.{length, drop}
+use lib.ListN.{drop}
+use lib.Seq.{length-take-le}
 use mathlib.Core.List.{◌++◌}
 use Rattle.shape.specs.Shape.{count_of}
 use Rattle.shape.proofs.Made.{made-stands, stands-count}
-use Rattle.meaning.specs.Array.{array_of}
-use Rattle.answer.specs.Answer.{lent, late}
+use Rattle.answer.specs.Answer.{late}
 use Rattle.answer.specs.Refused.{asked}
 use Rattle.answer.proofs.Exits.{asked_on, asked_ok}
 use Rattle.answer.proofs.Order.{Roomy, late-fine}
-use Rattle.transposes.specs.Steps.Sent.{sent_axes, sent_elements}
 use Rattle.transposes.proofs.transposed.Goals as goal
 
 pub returns-in_err-late : goal.returns-in_err-late
@@ -26,16 +26,21 @@ returns-in_err-late c =
       kept = refl;
     })
 
+pub slice_bounds-transpose_into-end : goal.slice_bounds-transpose_into-end
+slice_bounds-transpose_into-end c =
+    let f : Roomy c.sent_shape-shape.result (length c.args.out.now) =
+    late-fine _ (sym (asked_ok c.in_ok-late.was) ∙ c.late.ensures) c.count-count.ensures refl in
+    omega (arith, f.space, c.count-count.ensures)
+
 pub transpose_into-requires : goal.transpose_into-requires
 transpose_into-requires c =
     let f : Roomy c.sent_shape-shape.result (length c.args.out.now) =
     late-fine _ (sym (asked_ok c.in_ok-late.was) ∙ c.late.ensures) c.count-count.ensures refl in
     record {
-      form = c.requires.1;
-      sends = c.requires.0;
       shape_is = c.sent_shape-shape.ensures;
-      total-is = c.count-count.ensures ∙ stands-count (made-stands c.sent_shape-shape.result _ c.sent_shape-shape.ensures) f.good;
-      space = omega (arith, f.space, c.count-count.ensures);
+      room_is = length-take-le (c.count-count.result - 0) c.args.out.now (omega (arith, f.space, c.count-count.ensures))
+          ∙ sub-zero c.count-count.result ∙ c.count-count.ensures
+          ∙ stands-count (made-stands c.sent_shape-shape.result _ c.sent_shape-shape.ensures) f.good;
     }
 
 pub returns : goal.returns
@@ -44,7 +49,6 @@ returns c =
     record {
       asks = asked_ok refl ∙ sym (asked_ok c.in_ok-late.was) ∙ c.late.ensures ∙ ap (λ x. late x (length c.args.out.now)) n;
       shape_is = c.sent_shape-shape.ensures;
-      elements = c.transpose_into.ensures
-          ∙ ap (λ x. sent_elements (sent_axes c.args.sent c.args.rs) (array_of (lent c.args.rs c.args.r.now)) ++ drop x c.args.out.now) n;
+      elements = ap₂ (λ x k. x ++ drop k c.args.out.now) c.transpose_into.ensures (sub-zero c.count-count.result ∙ n);
       kept = tt;
     }
