@@ -10,6 +10,7 @@ use lib.ListN.{length, get_or, set, take, drop, replicate, length-map, length-se
 use lib.Seq.{take_all, take-suc, take-suc-set}
 use lib.IntN.{ℤ, pos, ◌-ℤ◌}
 use Rattle.shape.specs.Shape.{max_rank}
+use Rattle.std.proofs.lemmas.List.{get_or-map}
 use Rattle.std.specs.List.{list_all, list_any, range_with_len}
 use native.Mathlib.Nat.{sub-zero}
 use Rattle.shape.specs.declared.Shape.{Shape}
@@ -80,6 +81,10 @@ backwards-occur r j h =
     let w = sent-has (backwards r) (backwards r) i refl (omega (arith, length-backwards r)) in
     omega (arith, w.1, ap (λ k. length (sent_to k (backwards r) (backwards r))) e)
 
+-- R has as many axes as L has elements.
+pub as-many : {R : Operand} {rs : Shape} {b : List ℤ} {n : ℕ} → lent rs b ≡ R → n ≡ R.shape.rank → rs.rank ≡ n
+as-many e h = ap (λ o. o.shape.rank) e ∙ sym h
+
 -- So R's axes go there.
 module _ {R : Operand} {rs : Shape} {b : List ℤ} {to : List ℕ} {i : ℕ} (e : lent rs b ≡ R) (g : Lent rs b) (f : SentSoFar (backwards rs.rank) to i)
     (end : rs.rank ≤ i) where
@@ -98,32 +103,11 @@ module _ {R : Operand} {rs : Shape} {b : List ℤ} {to : List ℕ} {i : ℕ} (e 
     each = rw backwards-axes-are (all-occur _ (backwards-occur rs.rank));
   }
 
--- An element of equal elements.
-pub replicate-at : {A : Type 0} (x : A) (n j : ℕ) → get_or (replicate n x) j x ≡ x
-replicate-at x zero j = refl
-replicate-at x (suc n) zero = refl
-replicate-at x (suc n) (suc j) = replicate-at x n j
-
--- One axis more: it occurs, and the largest may be it.
-occurs-snoc : (xs : List ℕ) (t j : ℕ) → occurs_in (xs ++ (t ∷ [])) j ≡ (eqb t j || occurs_in xs j)
-unfolding occurs_in
-occurs-snoc [] t j = refl
-occurs-snoc (x ∷ xs) t j = ap (λ b. eqb x j || b) (occurs-snoc xs t j) ∙ either (eqb x j) (eqb t j) (occurs_in xs j)
-  where
-    either : (a b c : Bool) → (a || (b || c)) ≡ (b || (a || c))
-    either true true c = refl
-    either true false c = refl
-    either false b c = refl
-
+-- One axis more: the largest may be it.
 axes-snoc : (xs : List ℕ) (t : ℕ) → axes_to (xs ++ (t ∷ [])) ≡ max (suc t) (axes_to xs)
 unfolding axes_to
 axes-snoc [] t = refl
 axes-snoc (x ∷ xs) t = rw (axes-snoc xs t) (omega arith)
-
-map_at : (f : ℤ → ℕ) (xs : List ℤ) (i : ℕ) → i < length xs → get_or (map f xs) i 0 ≡ f (get_or xs i (pos 0))
-map_at f [] i h = absurd (omega arith)
-map_at f (x ∷ xs) zero h = refl
-map_at f (x ∷ xs) (suc i) h = map_at f xs i (omega arith)
 
 -- What 26 has found in the first i elements of L: each names an axis.
 module _ (G : ℤ) (l : List ℤ) where
@@ -158,7 +142,7 @@ named-few G n (x ∷ xs) h =
 module _ {G : ℤ} {l : List ℤ} {to : List ℕ} {axes i : ℕ} (f : Choosing G l to axes i) where
   module _ (t : ℕ) (a : IsAt (get_or l i (pos 0)) G (length l) t) (h : i < length l) (high : length l ≤ max_rank) where
     named-at : get_or (named-axes G l) i 0 ≡ t
-    named-at = map_at (from_zero G) l i h ∙ sym a.is
+    named-at = get_or-map (from_zero G) l i (pos 0) 0 h ∙ sym a.is
 
     one_more : take (i + 1) (named-axes G l) ≡ take i (named-axes G l) ++ (t ∷ [])
     one_more = rw (add-one, take-suc (named-axes G l) i 0 (rw length-map h), named-at)

@@ -127,9 +127,6 @@ module _ {s : Route} {rs : Shape} {r : List ℤ} {axes : ℕ} {to : List ℕ} {s
   rank_is : shape.rank ≡ axes_to ts
   rank_is = ap (λ x. x.rank) m.shape_is ∙ length-shape ts (counted rs)
 
-  pub axes-high : shape.rank ≤ max_rank
-  axes-high = omega (arith, rank_is, few)
-
   pub into-some : 0 < room → 0 < count (array_of s.operand).lengths
   into-some h = rw o.is (some-sent ts (counted rs) same_rank (omega (arith, m.room_is)))
 

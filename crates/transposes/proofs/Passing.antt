@@ -23,7 +23,6 @@ use Rattle.answer.specs.Answer.{lent, WellFormed}
 use Rattle.answer.proofs.Lent.{Lent, formed}
 use Rattle.transposes.specs.Steps.Sent.{Route, route, sent_axes, Transposes}
 use Rattle.transposes.specs.Steps.Strides.{strides, sent_strides}
-use Rattle.transposes.proofs.Choosing.{replicate-at}
 
 -- What both passes know: R's axes as the code holds them.
 pub record AxesPassed (to : List ℕ) (rs : Shape) : Type 0 where
@@ -183,11 +182,16 @@ set-le (x ∷ l) zero v (suc j) b p q = q
 set-le (x ∷ l) (suc t) v zero b p q = q
 set-le (x ∷ l) (suc t) v (suc j) b p q = set-le l t v j b p q
 
+zero-at : (n j : ℕ) → get_or {A = ℕ} (replicate n 0) j 0 ≡ 0
+zero-at zero j = refl
+zero-at (suc n) zero = refl
+zero-at (suc n) (suc j) = zero-at n j
+
 -- No sum is above as many counts as there are axes.
 sums-le : (r : ℕ) (ts ns : List ℕ) (j c : ℕ) → 0 < count ns → count ns ≤ c → get_or (sent_strides r ts (strides ns)) j 0 ≤ length ts * c
 unfolding sent_strides strides count
-sums-le r [] ns j c h b = omega (arith, replicate-at {A = ℕ} 0 r j)
-sums-le r (t ∷ ts) [] j c h b = omega (arith, replicate-at {A = ℕ} 0 r j)
+sums-le r [] ns j c h b = omega (arith, zero-at r j)
+sums-le r (t ∷ ts) [] j c h b = omega (arith, zero-at r j)
 sums-le r (t ∷ ts) (n ∷ ns) j c h b =
     let f = factor n (count ns) _ refl h in
     let b' : count ns ≤ c = omega (arith, f.3) in
