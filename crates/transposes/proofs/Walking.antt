@@ -25,10 +25,29 @@ use Rattle.transposes.specs.Steps.Placed.Spot.{here, further}
 use Rattle.transposes.specs.declared.Axis.{Axis}
 use Rattle.transposes.proofs.Placing.{axis_by, StartsIn, rest_of, rest-at, reach-some, reach-inner, reach_from, reach-swap}
 
-pub strided-filled : (n w : ℕ) (r : List ℤ) (out out₀ : List ℤ) → n ≡ length out₀
-    → out ≡ filled (λ i. get_or r (i * w) (pos 0)) n out₀ → out ≡ strided (length out₀) w r
+-- A line along an axis whose neighbours are neighbours in the buffer too.
+pub line-reach : {n w m : ℕ} → 0 < n → LineIn n w m → Reach (axis_by n w 1 ∷ []) m n
+line-reach {n} {w} {m} some lies = record {
+  some = (_, _, further {a = axis_by n w 1} 0 0 0 some (here refl refl) refl refl);
+  lie = λ d e s. by s;
+}
+  where
+    by : {d e : ℕ} → Spot (axis_by n w 1 ∷ []) d e → (d < m) × (e < n)
+    by (further i c f l (here p q) x y) = (omega (arith, lies i l), omega arith)
+
+pub line-strided : {n w : ℕ} {r out last : List ℤ} → n ≡ length out → Placed (axis_by n w 1 ∷ []) r out last → last ≡ strided (length out) w r
 unfolding strided
-strided-filled n w r out out₀ e q = q ∙ filled-whole _ n out₀ (omega arith) ∙ ap (λ k. tab k (λ i. get_or r (i * w) (pos 0))) e
+line-strided {n} {w} {r} {out} {last} h p =
+    ext_get_or (pos 0) last (strided (length out) w r) (p.room ∙ sym (length-tab (length out) _))
+    (λ q l.
+    (p.each (strided (length out) w r) (λ d e s. wanted s)).1 _ q
+    (further {a = axis_by n w 1} q 0 0 (omega (arith, p.room)) (here refl refl) refl (omega arith)))
+  where
+    wanted : {d e : ℕ} → Spot (axis_by n w 1 ∷ []) d e → get_or (strided (length out) w r) e (pos 0) ≡ get_or r d (pos 0)
+    wanted {d} {e} (further i c f l (here p q) x y) =
+        let u : e ≡ i = omega arith in
+        let v : d ≡ i * w = omega arith in
+        rw (u, v) (get_or-tab (length out) (λ i. get_or r (i * w) (pos 0)) i (pos 0) (omega arith))
 
 -- Neighbours are a run.
 pub run-strided : (r out last : List ℤ) (w : ℕ) → w ≡ 1 → 0 < length out → LineIn (length out) w (length r)

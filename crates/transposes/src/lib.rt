@@ -145,7 +145,7 @@ fn sent_shape(sent: &Sent<'_, '_>) -> Shape
     Shape::of_lengths(sent.axes, lens)
 }
 
-// The elements of the result, of that shape. Where there are none R may have none, and then its strides need not fit.
+// The elements of the result, of that shape. Where there are none R has none either, and its strides need not fit.
 fn transpose_into(sent: &Sent<'_, '_>, shape: Shape, out: &mut [i32])
     requires { Moves sent.now shape (length out.old) }
     ensures { out.new ≡ sent_elements sent.now.to (array_of sent.now.operand) }
@@ -180,16 +180,17 @@ fn strides(sent: &Sent<'_, '_>) -> [usize; Shape::MAX_RANK]
 // From here on each function takes the lengths and strides of some axes, R from some element on, and the part of the result to be written. What it needs of
 // them (LineIn, Reach, Blocked, Walk) joins all three, which are others at each call: a type that held it would be made anew at each, for one use.
 
-// Elements of r that stand `stride` apart, from the first on. `put_line` with a step of 1 writes them too, but promises places: that these are the whole
-// buffer is no shorter to show than this loop is.
+// Elements of r that stand `stride` apart, from the first on, one after the other.
 fn spread(stride: usize, r: &[i32], out: &mut [i32])
-    requires { LineIn (length out.old) stride (length r.now) }
+    requires { (0 < length out.old) × LineIn (length out.old) stride (length r.now) }
     ensures { out.new ≡ strided (length out.old) stride r.now }
 {
-    for i in 0..out.len() {
-        let from = i * stride;
-        out[i] = r[from];
-    }
+    let axis = Axis {
+        length: out.len(),
+        stride,
+        step: 1,
+    };
+    put_line(axis, r, out);
 }
 
 // The same, by a run where they are neighbours, which shows only from the operand.
