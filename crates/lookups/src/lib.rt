@@ -162,13 +162,9 @@ fn passed(l: &[i32], x: i32) -> usize
     start
 }
 
-// False only where l does not have x. Nothing leaves the loop early, as `any` would, so that many elements are tested at once.
+// Whether l has x.
 fn may_have(l: &[i32], x: i32) -> bool
     ensures { result ≡ false → Passed x l.now (length l.now) }
 {
-    let mut has = false;
-    for y in l {
-        has |= x == *y;
-    }
-    has
+    l.contains(&x)
 }

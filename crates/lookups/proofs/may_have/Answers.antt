@@ -1,24 +1,22 @@
-use Rattle.std.proofs.Common.{rules, ◌≡◌, ◌∙◌, sym, true, false, Bool, pos, get_or}
+use Rattle.std.proofs.Common.{◌≡◌, ◌∙◌, sym, true, false, length, get_or, pos, int_eq, ℤ, Bool, ℕ, ◌<◌}
 use mathlib.Core.Path.{refl}
-use mathlib.Core.Bool.{◌||◌}
-use mir.Syntax.{w32}
-use mir.Val.{SFits}
+use native.Mathlib.Omega.{arith}
+use Rattle.std.proofs.lemmas.Cmp.{int_eq_equiv}
 use Rattle.shape.proofs.Bools.{no_way}
-use Rattle.signed.proofs.Equal.{int_same-bits}
+use Rattle.meaning.specs.Terms.{int_same}
+use Rattle.signed.proofs.Equal.{int_same-true}
 use Rattle.signed.proofs.Reading.{read32}
-use Rattle.lookups.proofs.Finding.{passed_none, passed-next}
 use Rattle.lookups.proofs.may_have.Goals as goal
 
-neither : (a b : Bool) → (a || b) ≡ false → (a ≡ false) × (b ≡ false)
-neither true b e = no_way (sym e)
-neither false b e = (refl, e)
+not_same : (x y : ℤ) → int_eq y x ≡ false → int_same x y ≡ false
+not_same x y e = by (int_same x y) refl
+  where
+    by : (t : Bool) → int_same x y ≡ t → int_same x y ≡ false
+    by true q = let s = int_same-true x y q in no_way (sym e ∙ rw s (int_eq_equiv.refl y))
+    by false q = q
 
-pub loop-y-init : goal.loop-y-init
-loop-y-init c = λ e. passed_none _ _
-
-pub loop-y-preserved : goal.loop-y-preserved
-loop-y-preserved c e =
-    let f : SFits w32 (get_or c.args.l.now c.loop-y.y-index (pos 0)) = search rules in
-    let n = neither _ _ e in
-    rw (read32 _ c.ranges.x)
-    (passed-next (rw (read32 _ c.ranges.x) at (c.loop-y.invariant n.0)) c.loop-y-test.true (sym (int_same-bits c.args.x _ c.ranges.x f) ∙ n.1))
+pub returns : goal.returns
+returns c e =
+    let a : (k : ℕ) → k < length c.args.l.now → int_eq (get_or c.args.l.now k (pos 0)) c.args.x ≡ false =
+    λ k h. rw (read32 _ c.ranges.x) at ((rw e at c.contains.ensures.cases) k (pos 0) (omega arith) h) in
+    record { inside = omega arith; none = λ k h. not_same c.args.x (get_or c.args.l.now k (pos 0)) (a k h) }
