@@ -63,16 +63,20 @@ pub fn read_line(line: &[u8], l: &mut [i32], r: &mut [i32]) -> Option<Call>
         return None;
     }
     let mut reader = Reader::new(line);
-    let head = reader.head()?;
+    let Head {
+        primitive,
+        origin,
+        k,
+    } = reader.head()?;
     let left = reader.operand(l)?;
     let right = reader.operand(r)?;
     if !reader.at_end() {
         return None;
     }
     Some(Call {
-        primitive: head.primitive,
-        origin: head.origin,
-        k: head.k,
+        primitive,
+        origin,
+        k,
         left,
         right,
     })

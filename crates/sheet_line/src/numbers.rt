@@ -19,7 +19,8 @@ impl<'a> Model for Reader<'a> {
     ghost view = { λ r. left r.rest };
 }
 
-// The number of a sign and a magnitude. The least number has no opposite in 32 bits.
+// The number of a sign and a magnitude. The least number has no opposite in 32 bits. The sign goes down as a bool, since the text says it: a const
+// parameter would be chosen in `number` all the same, and make the loop over the digits twice.
 fn whole(negative: bool, magnitude: u32) -> Option<i32>
     ensures { ended (Begun.magnitude negative magnitude) ≡ found result }
 {
@@ -103,7 +104,8 @@ impl<'a> Reader<'a> {
         self.after_zero(rest)
     }
 
-    // The next number. Inlined: with a call for each number a line of two-digit numbers takes 1.6 times as long.
+    // The next number, digit by digit: `parse` asks for a str, and takes `+7`, `007` and `-0`, too, where a sheet has one text for each number.
+    // Inlined: with a call for each number a line of two-digit numbers takes 1.6 times as long.
     #[inline(always)]
     pub fn number(&mut self) -> Option<i32>
         ensures { Takes next_number self.old self.new result }

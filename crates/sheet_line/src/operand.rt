@@ -38,7 +38,8 @@ impl<'a> Reader<'a> {
         Some(())
     }
 
-    // The elements go to the front of `out`; what it holds where there is no operand is not decided.
+    // The elements go to the front of `out`; what it holds where there is no operand is not decided. The shape says how many they are: a part of `out`
+    // as the result would be lent as long as the call is, and `read_line` could not say what the buffers hold when it returns.
     pub fn operand(&mut self, out: &mut [i32]) -> Option<Shape>
         ensures taken { Takes (operand (room out.old)) self.old self.new (option_map (held_in out.new) result) }
         ensures shape { IfSome result (λ s. s ≡ shape_of (counted s)) }
