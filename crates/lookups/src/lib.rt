@@ -1,7 +1,7 @@
 // Elements that are looked for among others: index of and member.
 #![tactic(auto)]
 
-ghost use Rattle.std.specs.Prelude.{◌≡◌, ◌*◌, ◌≤◌, false, length, ℤ, pos};
+ghost use Rattle.std.specs.Prelude.{◌≡◌, ◌*◌, ◌≤◌, false, length, ℤ, pos, MatchOption};
 ghost use Rattle.shape.specs.Shape.{max_count};
 ghost use Rattle.meaning.specs.Reply.{reply};
 ghost use Rattle.answer.specs.Answer.{Replied};
@@ -45,9 +45,8 @@ fn put_each<const BITS: bool>(first: usize, l: &[i32], r: &[i32], out: &mut [i32
     requires { Looks first l.now r.now (length out.old) }
     ensures { AllEntered BITS first l.now r.now out.old out.new }
 {
-    let m = r.len();
-    let done = put_searched::<BITS>(first, l, r, out);
-    if done < m {
+    if let Some(done) = put_searched::<BITS>(first, l, r, out) {
+        let m = r.len();
         put_hashed::<BITS>(first, l, &r[done..m], &mut out[done..m]);
     }
 }
@@ -66,22 +65,28 @@ fn tests_allowed(m: usize) -> usize
     }
 }
 
-// The first elements of r, each searched for by itself, until a table would have paid. How many they are.
-fn put_searched<const BITS: bool>(first: usize, l: &[i32], r: &[i32], out: &mut [i32]) -> usize
+// The elements of r, each searched for by itself, until a table would have paid: then how many they are.
+fn put_searched<const BITS: bool>(
+    first: usize,
+    l: &[i32],
+    r: &[i32],
+    out: &mut [i32],
+) -> Option<usize>
     requires { Looks first l.now r.now (length out.old) }
-    ensures { Entered BITS first l.now r.now out.old out.new result }
+    ensures { MatchOption result (AllEntered BITS first l.now r.now out.old out.new)
+        (λ n. Entered BITS first l.now r.now out.old out.new n) }
 {
     let allowed = tests_allowed(r.len());
     let mut tests = 0;
     for (j, x) in r.iter().enumerate() {
         if allowed < tests {
-            return j;
+            return Some(j);
         }
         let at = position(l, *x).unwrap_or(l.len());
         out[j] = entry::<BITS>(first, l.len(), at);
         tests += at;
     }
-    r.len()
+    None
 }
 
 // Every element of r, looked for along its bucket's chain. A function of its own: as a part of its caller its table would be on the stack of every call.

@@ -37,4 +37,4 @@ loop-j-preserved g c =
     entered-next c.loop-j.invariant _ (omega arith) c.requires.space (at-is g c.before) (read32 _ (search rules) ∙ c.entry.ensures)
 
 pub returns : goal.returns
-returns g c = entered_all c.loop-j.invariant (omega arith)
+returns g c = let all = entered_all c.loop-j.invariant (omega arith) in all.done
