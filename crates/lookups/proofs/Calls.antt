@@ -1,4 +1,7 @@
 -- 29 and 30: what they ask, and what they give.
+use Rattle.std.specs.Prelude.{Result, Ok}
+use mir.Syntax.{w32}
+use mir.Val.{SFits, to_z, of_z}
 use mathlib.Core.Path.{◌≡◌, refl, sym, ap, ◌∙◌}
 use mathlib.Core.List.{List, ◌++◌}
 use mathlib.Core.Bool.{true, false, not, cond, ◌&&◌}
@@ -24,8 +27,12 @@ use Rattle.meaning.proofs.Tab.{tab-ext}
 use Rattle.meaning.proofs.Arrays.{Whole, form-shape, form-whole}
 use Rattle.signed.proofs.Equal.{origin-is}
 use Rattle.copying.specs.Steps.{filled}
-use Rattle.answer.specs.Answer.{lent, own, early}
-use Rattle.answer.proofs.Lent.{Lent, lent-stands, early-fine}
+use Rattle.answer.specs.Answer.{lent, own, early, WellFormed}
+use Rattle.answer.specs.Refused.{asked}
+use Rattle.answer.specs.declared.refusal.Refusal as code
+use Rattle.answer.proofs.Early.{early-read}
+use Rattle.answer.proofs.Exits.{asked_ok}
+use Rattle.answer.proofs.Lent.{Lent, formed, lent-stands, early-fine}
 use Rattle.answer.proofs.Order.{Names, own_first, Ready}
 use Rattle.lookups.specs.Steps.{entry, entries}
 
@@ -89,11 +96,29 @@ both-good G L R h =
     let t = both (good_form L) (good_form R) f.forms in
     record { origin = f.origin; left = t.0; right = t.1 }
 
-module _ {s : Shape} {b : List ℤ} (g : Lent s b) where
-  -- Its count, as a call has it.
-  pub counts : {n : ℕ} → n ≡ length (array_of (lent s b)).elements → n ≡ count_of s
-  counts e = e ∙ g.whole ∙ sym g.count-is
+-- What a call knows where `early_two` refused nothing, of the operand o whose lengths are the result's: c is what `count` answered.
+pub record Known (G : ℤ) (L R o : Operand) (s : Shape) (b : List ℤ) (c : ℕ) : Type 0 where
+  pub fine : early (good_form L && good_form R) G ≡ 0
+  pub both : Both G L R
+  pub is : o ≡ lent s b
+  pub good : Lent s b
+  pub count : c ≡ count_of s
 
+module _ {G : ℤ} (f : SFits w32 G) {A : Type 0} (x : Result A code.Refusal) (L R : Operand) where
+  pub known : {v : A} {o p : Operand} {s : Shape} {b : List ℤ} {c : ℕ} → asked x ≡ early (good_form L && good_form R) (to_z w32 (of_z w32 G)) → x ≡ Ok v
+      → lent s b ≡ p → p ≡ o → WellFormed s b → c ≡ length (array_of p).elements → Known G L R o s b c
+  known asks ok view of w c =
+      let fine = sym (early-read f x _ asks) ∙ asked_ok ok in
+      let g = formed w in
+      record {
+        fine = fine;
+        both = both-good G L R fine;
+        is = sym (view ∙ of);
+        good = g;
+        count = c ∙ ap (λ o. length (array_of o).elements) (sym view) ∙ g.whole ∙ sym g.count-is;
+      }
+
+module _ {s : Shape} {b : List ℤ} (g : Lent s b) where
   -- Their results have an operand's lengths.
   index-stands : (G : ℤ) (L : Array) → Stands s (index_of G L (array_of (lent s b))).lengths
   unfolding index_of

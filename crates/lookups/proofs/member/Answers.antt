@@ -1,12 +1,10 @@
-use Rattle.std.proofs.Common.{arith, ◌≡◌, ◌∙◌, sym, length}
+use Rattle.std.proofs.Common.{arith, ◌∙◌, sym, length}
 use mathlib.Core.Path.{refl, ap}
 use Rattle.meaning.specs.Array.{array_of}
-use Rattle.answer.specs.Answer.{lent}
 use Rattle.answer.proofs.Early.{early-read}
 use Rattle.answer.proofs.Exits.{exit, asked_ok}
-use Rattle.answer.proofs.Lent.{formed}
 use Rattle.answer.proofs.Order.{early-replied, as-result, late-replied, given-replied, Roomy, late-fine}
-use Rattle.lookups.proofs.Calls.{member-names, member-ready, member-out, few, both-good, counts}
+use Rattle.lookups.proofs.Calls.{member-names, member-ready, member-out, few, known}
 use Rattle.lookups.proofs.member.Goals as goal
 
 pub returns-in_err-l : goal.returns-in_err-l
@@ -17,37 +15,31 @@ returns-in_err-l c K =
 
 pub returns-in_err-late : goal.returns-in_err-late
 returns-in_err-late c K =
-    let fine = sym (early-read c.ranges.g c.early_two.result _ c.early_two.ensures.number) ∙ asked_ok c.in_ok-l.was in
-    let e : c.args.l.now ≡ lent c.l.inside.shape c.l.inside.elements.now = sym (c.l.view_is ∙ c.in_ok-l.ensures.operands.0) in
-    let g = formed c.l.invariant in
-    let n = counts g (c.count.ensures ∙ ap (λ o. length (array_of o).elements) (sym c.l.view_is)) in
-    rw e (late-replied (member-ready g (rw e at fine)) _ c.late.ensures n
+    let k = known c.ranges.g c.early_two.result c.args.l.now c.args.r.now c.early_two.ensures.number c.in_ok-l.was c.l.view_is
+    c.in_ok-l.ensures.operands.0 c.l.invariant c.count.ensures in
+    rw k.is (late-replied (member-ready k.good (rw k.is at k.fine)) _ c.late.ensures k.count
     (exit c.in_err-late.was c.from_residual-in_err-late.result c.from_residual-in_err-late.ensures.1))
 
 pub put_each-requires : goal.put_each-requires
 put_each-requires c =
-    let fine = sym (early-read c.ranges.g c.early_two.result _ c.early_two.ensures.number) ∙ asked_ok c.in_ok-l.was in
-    let b = both-good _ c.args.l.now c.args.r.now fine in
+    let k = known c.ranges.g c.early_two.result c.args.l.now c.args.r.now c.early_two.ensures.number c.in_ok-l.was c.l.view_is
+    c.in_ok-l.ensures.operands.0 c.l.invariant c.count.ensures in
     let r = ap length (c.elements.ensures ∙ ap (λ o. (array_of o).elements) c.in_ok-l.ensures.operands.1) in
-    let g = formed c.l.invariant in
-    let n = counts g (c.count.ensures ∙ ap (λ o. length (array_of o).elements) (sym c.l.view_is)) in
-    let roomy : Roomy c.l.inside.shape _ = late-fine _ (sym (asked_ok c.in_ok-late.was) ∙ c.late.ensures) n refl in
+    let roomy : Roomy c.l.inside.shape _ = late-fine _ (sym (asked_ok c.in_ok-late.was) ∙ c.late.ensures) k.count refl in
     record {
       origin = omega arith;
-      small = omega (arith, r, few _ b.right);
-      space = omega (arith, ap length c.elements-2.ensures, c.count.ensures, n, roomy.space);
+      small = omega (arith, r, few _ k.both.right);
+      space = omega (arith, ap length c.elements-2.ensures, c.count.ensures, k.count, roomy.space);
     }
 
 pub returns : goal.returns
 returns c K =
-    let fine = sym (early-read c.ranges.g c.early_two.result _ c.early_two.ensures.number) ∙ asked_ok c.in_ok-l.was in
-    let e : c.args.l.now ≡ lent c.l.inside.shape c.l.inside.elements.now = sym (c.l.view_is ∙ c.in_ok-l.ensures.operands.0) in
-    let g = formed c.l.invariant in
-    let n = counts g (c.count.ensures ∙ ap (λ o. length (array_of o).elements) (sym c.l.view_is)) in
-    let ready = member-ready g {K = K} (rw e at fine) in
+    let k = known c.ranges.g c.early_two.result c.args.l.now c.args.r.now c.early_two.ensures.number c.in_ok-l.was c.l.view_is
+    c.in_ok-l.ensures.operands.0 c.l.invariant c.count.ensures in
+    let ready = member-ready k.good {K = K} (rw k.is at k.fine) in
     let late = sym (asked_ok c.in_ok-late.was) ∙ c.late.ensures in
-    let roomy : Roomy c.l.inside.shape _ = late-fine _ late n refl in
-    rw e
-    (given-replied ready _ late n refl (as-result ready roomy.good c.as_result.ensures)
-    (member-out _ _ _ g.whole (c.elements-2.ensures ∙ ap (λ o. (array_of o).elements) (sym c.l.view_is))
+    let roomy : Roomy c.l.inside.shape _ = late-fine _ late k.count refl in
+    rw k.is
+    (given-replied ready _ late k.count refl (as-result ready roomy.good c.as_result.ensures)
+    (member-out _ _ _ k.good.whole (c.elements-2.ensures ∙ ap (λ o. (array_of o).elements) (sym c.l.view_is))
     (c.elements.ensures ∙ ap (λ o. (array_of o).elements) c.in_ok-l.ensures.operands.1) c.put_each.ensures))
