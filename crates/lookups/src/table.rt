@@ -9,7 +9,7 @@ use std::marker::Model;
 
 pub const BUCKETS: usize = 65536;
 
-// After the last position of a chain.
+// After the last position of a chain. An Option<u16> takes four bytes, so that the table would take 320 KB of the stack and not 160.
 pub const NONE: u16 = 65535;
 
 // A chain is followed for one step to so many elements of the list, which takes less time than to search the list.
@@ -26,7 +26,8 @@ fn hash(x: i32) -> usize
     (key.wrapping_mul(FACTOR) >> 16) as usize
 }
 
-// A list with each bucket's first position, and after each position the next of its chain.
+// A list with each bucket's first position, and after each position the next of its chain: arrays that the caller lends, since the kernel has no heap for
+// a map.
 #[derive(Drop)]
 pub struct Chains<'a> {
     l: &'a [i32],
@@ -55,14 +56,15 @@ impl<'a> Chains<'a> {
         for i in (0..l.len()).rev() {
             let h = hash(l[i]);
             links[i] = heads[h];
+            // The cast loses nothing: a list has no position past u16's.
             heads[h] = i as u16;
         }
         Chains { l, heads, links }
     }
 
-    // The first position that holds x, the length where none does: that is index of's own answer, and of an Option made here the compiler makes a
-    // branch, with which index of 16384 random values takes 2.1 of the time. The one branch is for a chain with a second position whose first does not
-    // hold x: a branch for an empty chain, or for what its first position holds, is guessed wrong for many random values.
+    // The first position that holds x, the length where none does. The one branch is for a chain with a second position whose first does not hold x: with
+    // `follow` alone, whose branches are guessed wrong for random values, index of and member of 16384 of them take twice as long. An Option is made by
+    // a branch, too: index of the same takes 2.1 times as long.
     pub fn look(&self, x: i32) -> usize
         ensures { result ≡ first_at x self.now }
     {
