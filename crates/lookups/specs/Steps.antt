@@ -75,9 +75,3 @@ pub record Table (l : List ℤ) (heads links : List ℕ) : Type 0 where
 pub record OnChain (l : List ℤ) (x : ℤ) (p : ℕ) : Type 0 where
   pub before : first_at x l < length l → p ≤ first_at x l
   pub same : p < length l → hash_of (get_or l p (pos 0)) ≡ hash_of x
-
--- From there x's chain can be followed.
-pub record Chained (l : List ℤ) (links : List ℕ) (x : ℤ) (p : ℕ) : Type 0 where
-  pub small : length l ≤ max_count
-  pub link : Links l links 0
-  pub on : OnChain l x p

@@ -151,7 +151,8 @@ fn position_from(l: &[i32], x: i32) -> Option<usize>
     Some(start + first_at(&l[start..], x)?)
 }
 
-// The same, element by element. A `for`, and not `position`: of the items of a chain no proof knows that they are numbers of 32 bits.
+// The same, element by element. A `for`, and not `position`, whose proof did not close: of the items of a chain none knows that they are numbers of 32
+// bits.
 fn first_at(l: &[i32], x: i32) -> Option<usize>
     ensures { Finds x l.now result }
 {
