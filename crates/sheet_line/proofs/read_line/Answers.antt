@@ -62,11 +62,12 @@ answered n g k s t = Some (record { primitive = n; origin = g; k = k; left = s; 
 
 pub returns-clause-answer : goal.returns-clause-answer
 returns-clause-answer c =
-    let n : SFits w32 c.in_ok-primitive.field-0.primitive = search rules in
-    let g : SFits w32 c.in_ok-primitive.field-0.origin = search rules in
-    let k : SFits w32 c.in_ok-primitive.field-0.k = search rules in
+    let h = c.in_ok-primitive.field-0 in
+    let n : SFits w32 h.primitive = search rules in
+    let g : SFits w32 h.origin = search rules in
+    let k : SFits w32 h.k = search rules in
     rw (to_z-of_z n, to_z-of_z g, to_z-of_z k, said c)
-    (ap₂ (answered c.in_ok-primitive.field-0.primitive c.in_ok-primitive.field-0.origin c.in_ok-primitive.field-0.k) c.in_ok-left.ensures.shape c.in_ok-right.ensures.shape)
+    (ap₂ (answered h.primitive h.origin h.k) c.in_ok-left.ensures.shape c.in_ok-right.ensures.shape)
 
 pub returns-clause-left : goal.returns-clause-left
 returns-clause-left c t = rw (said c) c.in_ok-left.ensures.stored
