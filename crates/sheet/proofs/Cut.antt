@@ -134,8 +134,11 @@ module _ {start now : Sheet} {old new : Option (List ℕ)} {chunk rest : List �
     midway = λ bytes o.
         let m = g.midway bytes o in
         let s : Lines = so_far bytes in
-        rw (lines_append start.answers.line bytes g.front (take n rest ++ newline ∷ []), lines_one s.line s.begun (take n rest) (front_free rest n e),
-        ← m.took.line)
+        rw (
+          lines_append start.answers.line bytes g.front (take n rest ++ newline ∷ []),
+          lines_one s.line s.begun (take n rest) (front_free rest n e),
+          ← m.took.line,
+        )
         (record {
           took = record { line = taken.1; begun = rw taken.0 refl };
           sent = sent_more m.sent (rw is at (sent s.begun m.took.begun));
