@@ -1,5 +1,5 @@
 -- Text written from its end to its start.
-use Prim.Native.Nat.{ℕ, zero, suc, ◌+◌, ◌*◌, ◌/◌, ◌%◌, ◌≤◌, ◌<◌, ◌^◌}
+use Prim.Native.Nat.{ℕ, zero, suc, ◌+◌, ◌*◌, ◌/◌, ◌%◌, ◌≤◌, ◌<◌, ◌^◌, max}
 use native.Mathlib.Omega.{arith}
 use native.Mathlib.Nat.{pow-succ', one-le-pow, div-one, div-div-eq-div-mul}
 use native.Mathlib.Decide.{dec_le, dec_lt}
@@ -52,31 +52,6 @@ width-most (suc k) n h =
     let tenth : n / 10 < 10 ^ suc k = omega (arith, pow-succ' 10 (suc k)) in
     elim (dec_lt n 10) [ yes q ↦ omega (arith, width_one n q) | no q ↦ omega (arith, width-more n (omega arith), width-most k (n / 10) tenth) ]
 
--- How many of k powers of ten n reaches; the first of them is p.
-abbrev reached : ℕ → ℕ → ℕ → ℕ
-reached zero p n = 0
-reached (suc k) p n = cond (leb p n) 1 0 + reached k (p * 10) n
-
-reach-tenth : (k p n : ℕ) → reached k (p * 10) n ≡ reached k p (n / 10)
-reach-tenth zero p n = refl
-reach-tenth (suc k) p n = rw (same, reach-tenth k (p * 10) n)
-  where
-    same : leb (p * 10) n ≡ leb p (n / 10)
-    same = elim (dec_le (p * 10) n) [
-      | yes h ↦ rw (le-leb (p * 10) n h, le-leb p (n / 10) (omega arith))
-      | no h ↦ rw (lt-leb (p * 10) n (omega arith), lt-leb p (n / 10) (omega arith))
-    ]
-
--- A number has one digit more than there are powers of ten that it reaches.
-pub width-reached : (k n : ℕ) → n < 10 ^ suc k → length (digits n) ≡ 1 + reached k 10 n
-width-reached zero n h = omega (arith, width_one n h)
-width-reached (suc k) n h =
-    let shorter = width-reached k (n / 10) (omega (arith, pow-succ' 10 (suc k))) in
-    elim (dec_lt n 10) [
-      | yes q ↦ rw (lt-leb 10 n q, reach-tenth k 10 n) (omega (arith, width_one n q, width_one (n / 10) (omega arith)))
-      | no q ↦ rw (le-leb 10 n (omega arith), reach-tenth k 10 n) (omega (arith, width-more n (omega arith)))
-    ]
-
 -- The digits before the last k.
 pub width_above : (k n : ℕ) → 10 ^ k ≤ n → length (digits n) ≡ k + length (digits (n / 10 ^ k))
 width_above zero n h = rw (div-one n) (omega arith)
@@ -86,6 +61,15 @@ width_above (suc k) n h =
     let rest = width_above k (n / 10) (omega arith) in
     let same : n / 10 / 10 ^ k ≡ n / 10 ^ suc k = div-div-eq-div-mul n 10 (10 ^ k) ∙ rw p in
     omega (arith, width-more n (omega arith), rw same at rest)
+
+-- The power of ten that a number reaches, or 1 where the number is 0.
+pub width-log : (n m k : ℕ) → m ≡ max n 1 → 10 ^ k ≤ m → m < 10 * 10 ^ k → length (digits n) ≡ k + 1
+width-log n m k e h l =
+    let long : length (digits m) ≡ k + 1 = omega (arith, width-most k m (omega (arith, pow-succ' 10 k)), width_above k m h, digits-some (m / 10 ^ k)) in
+    elim (dec_lt 0 n) [
+      | yes p ↦ let same : n ≡ m = omega arith in rw same long
+      | no p ↦ omega (arith, long, width_one n (omega arith), width_one m (omega arith))
+    ]
 
 -- Two digits at a time.
 pub digits-pair : (n : ℕ) → 10 ≤ n → n < 100 → digits n ≡ digit (n / 10) ∷ digit (n % 10) ∷ []

@@ -2,48 +2,17 @@
 ghost use Rattle.std.specs.Prelude.{◌≡◌, suc, ◌+◌, ◌*◌, ◌/◌, ◌%◌, ◌^◌, ◌≤◌, ◌<◌, ℕ, List, cond, [], ◌∷◌, map, leb, length};
 ghost use Rattle.sheet_line.specs.Text.{blank, digit, digits, decimal, following};
 
-// The least number of eleven digits.
-const ELEVEN_DIGITS: usize = 10000000000;
-
 // The two digits of each number below 100.
 static DIGIT_PAIRS: [u8; 200] =
     *b"0001020304050607080910111213141516171819202122232425262728293031323334353637383940414243444546474849\
       5051525354555657585960616263646566676869707172737475767778798081828384858687888990919293949596979899";
-
-// 1 if n reaches p, else 0.
-fn reaches(n: usize, p: usize) -> usize
-    ensures test { result ≡ cond (leb p n) 1 0 }
-    ensures bound { result ≤ 1 }
-{
-    usize::from(p <= n)
-}
-
-// How many digits a number of at most ten digits has, without a division and without a branch.
-fn short_width(n: usize) -> usize
-    requires { n < 10 ^ 10 }
-    ensures digits { result ≡ length (digits n) }
-    ensures bound { result ≤ 10 }
-{
-    1 + reaches(n, 10)
-        + reaches(n, 100)
-        + reaches(n, 1000)
-        + reaches(n, 10000)
-        + reaches(n, 100000)
-        + reaches(n, 1000000)
-        + reaches(n, 10000000)
-        + reaches(n, 100000000)
-        + reaches(n, 1000000000)
-}
 
 // How many digits a number has.
 pub fn width(n: usize) -> usize
     ensures digits { result ≡ length (digits n) }
     ensures bound { result ≤ 20 }
 {
-    if n < ELEVEN_DIGITS {
-        return short_width(n);
-    }
-    10 + short_width(n / ELEVEN_DIGITS)
+    n.max(1).ilog10() as usize + 1
 }
 
 // Writes into a text, before `at`. Its functions are inlined, so that the place stays in a register; a sheet's line takes 0.9 of the time then.
