@@ -12,7 +12,6 @@ use lib.Seq.{take-append-le}
 use lib.IntN.{ℤ, pos}
 use borrow.Author.Tests.{le-leb}
 use Rattle.shape.specs.Shape.{max_rank, count, counted, shape_of}
-use Rattle.shape.proofs.Bools.{no_way}
 use Rattle.shape.proofs.Made.{made_counted}
 use Rattle.meaning.specs.Array.{Operand, Array, array_of, good_form, build}
 use Rattle.meaning.specs.Refusal.{precedence, winner}
@@ -28,7 +27,6 @@ use Rattle.sheet_line.proofs.Says.{many-length}
 use Rattle.sheet_line.proofs.Options.{none-some, some_inj, passed, if_some}
 use Rattle.sheet_answer.specs.Answer.{ok_line, bad_line, result_in, reply_line}
 use Rattle.sheet_answer.specs.Sheet.{operand_of, reply_to, answer_to, sheet_answer}
-use Rattle.sheet_answer.specs.Steps.{held_answer}
 
 -- The operands of a good line are whole; their elements stand behind the test of their count.
 elements-whole : (p : Reader ℤ) (t : Bool) (ns : List ℕ) (ys : List ℤ) (a : Array) (rest : List ℤ)
@@ -192,16 +190,7 @@ module _ (line : ℕ) (bytes : List ℕ) (l r out : List ℤ) (hl : length l ≡
       by-case none f s x y = absurd (let z : ◌≡◌ {A = ℕ} 0 1 = cc in omega arith)
       by-case (some c) f s x y = let same : a ≡ read_call c = cc in (λ i. line_for line out (same i) (x i) (y i)) ∙ call_line c f
 
--- What is printed for a line that was too long to be held, and for one that is held.
+-- What is printed for a line that was too long to be held.
 pub long-answer : (line : ℕ) (bytes : List ℕ) → max_line < length bytes → sheet_answer line bytes ≡ bad_line line
 unfolding sheet_answer answer_to
 long-answer line bytes h = rw (too_long max_held max_held bytes h)
-
-module _ (line : ℕ) (over : Bool) (bytes : List ℕ) where
-  pub not-held : over ≡ true → held_answer line over bytes ≡ bad_line line
-  unfolding held_answer
-  not-held e = rw e
-
-  pub held_whole : over ≡ false → held_answer line over bytes ≡ sheet_answer line bytes
-  unfolding held_answer
-  held_whole e = rw e

@@ -3,9 +3,17 @@ ghost use Rattle.std.specs.Prelude.{◌≡◌, suc, ◌+◌, ◌*◌, ◌/◌, �
 ghost use Rattle.sheet_line.specs.Text.{blank, digit, digits, decimal, following};
 
 // The two digits of each number below 100.
-static DIGIT_PAIRS: [u8; 200] =
-    *b"0001020304050607080910111213141516171819202122232425262728293031323334353637383940414243444546474849\
-      5051525354555657585960616263646566676869707172737475767778798081828384858687888990919293949596979899";
+static DIGIT_PAIRS: [[u8; 2]; 100] = [
+    *b"00", *b"01", *b"02", *b"03", *b"04", *b"05", *b"06", *b"07", *b"08", *b"09", *b"10", *b"11",
+    *b"12", *b"13", *b"14", *b"15", *b"16", *b"17", *b"18", *b"19", *b"20", *b"21", *b"22", *b"23",
+    *b"24", *b"25", *b"26", *b"27", *b"28", *b"29", *b"30", *b"31", *b"32", *b"33", *b"34", *b"35",
+    *b"36", *b"37", *b"38", *b"39", *b"40", *b"41", *b"42", *b"43", *b"44", *b"45", *b"46", *b"47",
+    *b"48", *b"49", *b"50", *b"51", *b"52", *b"53", *b"54", *b"55", *b"56", *b"57", *b"58", *b"59",
+    *b"60", *b"61", *b"62", *b"63", *b"64", *b"65", *b"66", *b"67", *b"68", *b"69", *b"70", *b"71",
+    *b"72", *b"73", *b"74", *b"75", *b"76", *b"77", *b"78", *b"79", *b"80", *b"81", *b"82", *b"83",
+    *b"84", *b"85", *b"86", *b"87", *b"88", *b"89", *b"90", *b"91", *b"92", *b"93", *b"94", *b"95",
+    *b"96", *b"97", *b"98", *b"99",
+];
 
 // How many digits a number has.
 pub fn width(n: usize) -> usize
@@ -77,9 +85,7 @@ impl<'a> Writer<'a> {
         requires { (n < 100) × (1 < self.old.at) }
         ensures { Puts self.old self.new (digit (n / 10) ∷ digit (n % 10) ∷ []) }
     {
-        let k = n * 2;
-        self.put_byte(DIGIT_PAIRS[k + 1]);
-        self.put_byte(DIGIT_PAIRS[k]);
+        self.put_word(&DIGIT_PAIRS[n]);
     }
 
     // As put_digits, two at a time, with half the divisions: for the elements, which are many. A line's other numbers are few and short.

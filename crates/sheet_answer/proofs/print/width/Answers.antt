@@ -1,4 +1,4 @@
-use Rattle.std.proofs.Common.{sym, ◌∙◌, arith}
+use Rattle.std.proofs.Common.{sym}
 use Rattle.sheet_answer.proofs.Writing.{width-log}
 use Rattle.sheet_answer.proofs.print.width.Goals as goal
 
