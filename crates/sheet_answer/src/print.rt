@@ -85,7 +85,9 @@ impl<'a> Writer<'a> {
         requires { (n < 100) × (1 < self.old.at) }
         ensures { Puts self.old self.new (digit (n / 10) ∷ digit (n % 10) ∷ []) }
     {
-        self.put_word(&DIGIT_PAIRS[n]);
+        let [tens, ones] = DIGIT_PAIRS[n];
+        self.put_byte(ones);
+        self.put_byte(tens);
     }
 
     // As put_digits, two at a time, with half the divisions: for the elements, which are many. A line's other numbers are few and short.
