@@ -29,7 +29,8 @@ pub fn print_bad(line_number: u64, text: &mut [u8]) -> Option<usize>
 }
 
 // The answer to a call's reply. `number` is the reply's, not the line's: 0 for a success, of that shape and with its elements in `out`, else the refusal's.
-// With a buffer of no more elements than the program's the answer is no longer than the longest line.
+// A number and no Result or Refusal: it may be any, and a Result would ask more of callers. With a buffer of no more elements than the program's the
+// answer is no longer than the longest line.
 pub fn print_reply(
     line_number: u64,
     number: usize,

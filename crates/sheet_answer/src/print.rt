@@ -1,4 +1,5 @@
-// Text written from its end to its start, so that a digit is written as soon as it is known.
+// Text written from its end to its start, so that a digit is written as soon as it is known. By hand, and not by Display and `write!`: a formatter writes
+// from the front, so it puts a number's digits, of which the last comes first, into a buffer of its own and copies them, and each call may fail.
 ghost use Rattle.std.specs.Prelude.{◌≡◌, suc, ◌+◌, ◌*◌, ◌/◌, ◌%◌, ◌^◌, ◌≤◌, ◌<◌, ℕ, List, cond, [], ◌∷◌, map, leb, length};
 ghost use Rattle.sheet_line.specs.Text.{blank, digit, digits, decimal, following};
 
@@ -20,10 +21,12 @@ pub fn width(n: usize) -> usize
     ensures digits { result ≡ length (digits n) }
     ensures bound { result ≤ 20 }
 {
-    n.max(1).ilog10() as usize + 1
+    n.max(1).ilog10() as usize + 1 // usize has no From<u32>.
 }
 
 // Writes into a text, before `at`. Its functions are inlined, so that the place stays in a register; a sheet's line takes 0.9 of the time then.
+// `new` gives no Option where the text is too short: that was tried, and no clause could say of the text that it stays as it was then, since the result
+// may have borrowed it. So each caller tests the room.
 #[derive(Drop)]
 pub struct Writer<'a> {
     text: &'a mut [u8],
@@ -63,22 +66,6 @@ impl<'a> Writer<'a> {
         self.text[self.at..end].copy_from_slice(word);
     }
 
-    // The digits of a number.
-    #[inline(always)]
-    pub fn put_digits(&mut self, n: usize)
-        requires { length (digits n) ≤ self.old.at }
-        ensures { Puts self.old self.new (digits n) }
-    {
-        let mut rest = n;
-        while 10 <= rest {
-            let d = (rest % 10) as u8;
-            self.put_byte(b'0' + d);
-            rest /= 10;
-        }
-        let d = rest as u8;
-        self.put_byte(b'0' + d);
-    }
-
     // Both digits of a number below 100.
     #[inline(always)]
     fn put_pair(&mut self, n: usize)
@@ -90,9 +77,9 @@ impl<'a> Writer<'a> {
         self.put_byte(tens);
     }
 
-    // As put_digits, two at a time, with half the divisions: for the elements, which are many. A line's other numbers are few and short.
+    // The digits of a number, two at a time, with half the divisions.
     #[inline(always)]
-    fn put_pairs(&mut self, n: usize)
+    pub fn put_digits(&mut self, n: usize)
         requires { length (digits n) ≤ self.old.at }
         ensures { Puts self.old self.new (digits n) }
     {
@@ -124,7 +111,7 @@ impl<'a> Writer<'a> {
         requires { suc (length (decimal z)) ≤ self.old.at }
         ensures { Puts self.old self.new (blank ∷ decimal z) }
     {
-        self.put_pairs(signed::magnitude(z));
+        self.put_digits(signed::magnitude(z));
         if signed::negative(z) {
             self.put_byte(b'-');
         }

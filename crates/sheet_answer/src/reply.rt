@@ -1,4 +1,5 @@
-// The output for a line: written only if all of it fits.
+// The output for a line: written only if all of it fits. The functions take the line's number and the text apart, and give how many bytes are written
+// and not those bytes: the caller's text would stay lent as long as the result. A struct of the two would be made for one call each.
 ghost use Rattle.std.specs.Prelude.{◌≡◌, ◌≤◌, ◌<◌, length, MatchOption};
 ghost use Rattle.shape.specs.Shape.{max_rank, max_count};
 ghost use Rattle.sheet_line.specs.Call.{max_line, max_held};
@@ -7,7 +8,7 @@ ghost use Rattle.sheet_answer.specs.Answer.{ok_line, no_line, result_in, reply_l
 use crate::print::{Part, Writer, parts_width, width};
 use shape::Shape;
 
-// A refusal, by its number.
+// A refusal, by its number, which may be any.
 pub fn print_no(line: usize, refusal: usize, text: &mut [u8]) -> Option<usize>
     ensures count { CountIfFits result (no_line line refusal) text.old }
     ensures text { text.new ≡ printed_to (no_line line refusal) text.old }
@@ -24,7 +25,7 @@ pub fn print_no(line: usize, refusal: usize, text: &mut [u8]) -> Option<usize>
     Some(need)
 }
 
-// A success: its lengths and its elements.
+// A success: its lengths and its elements. The limits on both are known by the tests of `print_ok` alone, so no type holds them.
 fn print_array(line: usize, lens: &[usize], out: &[i32], text: &mut [u8]) -> Option<usize>
     requires { (length lens.now ≤ max_rank) × (length out.now ≤ max_count) }
     ensures count { CountIfFits result (ok_line line (record { lengths = lens.now; elements = out.now })) text.old }
@@ -46,7 +47,8 @@ fn print_array(line: usize, lens: &[usize], out: &[i32], text: &mut [u8]) -> Opt
     Some(need)
 }
 
-// A success: nothing for a shape or a buffer that no reply has.
+// A success: nothing for a shape or a buffer that no reply has, whose line has no bytes. That is Some(0), since None says that a line is too long. A bad
+// shape is told by its count, as `Shape::count` tells it. It goes on to `print_array` with slices, of which that one's contract speaks.
 pub fn print_ok(line: usize, shape: Shape, out: &[i32], text: &mut [u8]) -> Option<usize>
     ensures count { CountIfFits result (reply_line line 0 (result_in shape out.now)) text.old }
     ensures text { text.new ≡ printed_to (reply_line line 0 (result_in shape out.now)) text.old }

@@ -5,11 +5,11 @@ use Rattle.sheet_answer.specs.declared.print.Writer.{Writer}
 use Rattle.sheet_answer.proofs.print.Writer.put_element.Goals as goal
 use Rattle.sheet_answer.proofs.print.Writer.put_element.Goals.{then-negative, else-negative}
 
-pub put_pairs-requires : goal.put_pairs-requires
-put_pairs-requires c = omega (arith, magnitude-within _ c.ranges.z c.magnitude.ensures)
+pub put_digits-requires : goal.put_digits-requires
+put_digits-requires c = omega (arith, magnitude-within _ c.ranges.z c.magnitude.ensures)
 
 pub put_byte-requires : goal.put_byte-requires
-put_byte-requires c = omega (arith, magnitude-within _ c.ranges.z c.magnitude.ensures, c.put_pairs.ensures.written.place)
+put_byte-requires c = omega (arith, magnitude-within _ c.ranges.z c.magnitude.ensures, c.put_digits.ensures.written.place)
 
 pub put_byte-requires-2 : goal.put_byte-requires-2
 put_byte-requires-2 c =
@@ -25,8 +25,8 @@ returns c =
     elim c.if-negative.branch [
       | then-negative w ↦
           let text = decimal-is _ c.ranges.z c.magnitude.ensures c.negative.ensures w.if-negative.true in
-          rw text (put-more (put-more c.put_pairs.ensures w.put_byte.ensures) (rw w.self-is at c.put_byte-2.ensures))
+          rw text (put-more (put-more c.put_digits.ensures w.put_byte.ensures) (rw w.self-is at c.put_byte-2.ensures))
       | else-negative w ↦
           let text = decimal-is _ c.ranges.z c.magnitude.ensures c.negative.ensures w.if-negative.false in
-          rw text (put-more c.put_pairs.ensures (rw w.self-is at c.put_byte-2.ensures))
+          rw text (put-more c.put_digits.ensures (rw w.self-is at c.put_byte-2.ensures))
     ]
