@@ -91,7 +91,7 @@ impl<'a> Writer<'a> {
         if 10 <= rest {
             return self.put_pair(rest);
         }
-        let d = rest as u8;
+        let d = rest as u8; // u8 has no From<usize>.
         self.put_byte(b'0' + d);
     }
 

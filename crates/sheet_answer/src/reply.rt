@@ -1,5 +1,6 @@
-// The output for a line: written only if all of it fits. The functions take the line's number and the text apart, and give how many bytes are written
-// and not those bytes: the caller's text would stay lent as long as the result. A struct of the two would be made for one call each.
+// The output for a line: written only if all of it fits. The functions take the line's number and the text apart, since a struct of the two would be made
+// for one call each; and they give how many bytes are written and not those bytes, as the public functions promise. What is printed stands in each
+// contract, by `count` and `text`: it is another line's each time, and no type could hold it.
 ghost use Rattle.std.specs.Prelude.{◌≡◌, ◌≤◌, ◌<◌, length, MatchOption};
 ghost use Rattle.shape.specs.Shape.{max_rank, max_count};
 ghost use Rattle.sheet_line.specs.Call.{max_line, max_held};
@@ -25,7 +26,8 @@ pub fn print_no(line: usize, refusal: usize, text: &mut [u8]) -> Option<usize>
     Some(need)
 }
 
-// A success: its lengths and its elements. The limits on both are known by the tests of `print_ok` alone, so no type holds them.
+// A success: its lengths and its elements. The type `Formed` of `answer` would hold the limits on both, but for this one call from `print_ok` it would be
+// made and taken apart again.
 fn print_array(line: usize, lens: &[usize], out: &[i32], text: &mut [u8]) -> Option<usize>
     requires { (length lens.now ≤ max_rank) × (length out.now ≤ max_count) }
     ensures count { CountIfFits result (ok_line line (record { lengths = lens.now; elements = out.now })) text.old }
@@ -58,6 +60,5 @@ pub fn print_ok(line: usize, shape: Shape, out: &[i32], text: &mut [u8]) -> Opti
     if Shape::MAX_COUNT < count || out.len() < count {
         return Some(0);
     }
-    let lens = shape.lens;
-    print_array(line, &lens[..shape.rank], &out[..count], text)
+    print_array(line, &shape.lens[..shape.rank], &out[..count], text)
 }

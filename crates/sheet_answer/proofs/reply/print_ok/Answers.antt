@@ -1,5 +1,4 @@
-use Rattle.std.proofs.Common.{ℕ, ◌≡◌, ◌≤◌, [], refl, sym, length, arith, rules, length-take}
-use Rattle.std.proofs.Math.Seq.{length-take-le}
+use Rattle.std.proofs.Common.{ℕ, ◌≡◌, ◌≤◌, [], refl, arith, length-take}
 use Rattle.shape.specs.declared.Shape.{Shape}
 use Rattle.shape.specs.Shape.{max_rank, max_count, count_of}
 use Rattle.shape.proofs.Counts.{good-count, good-rank}
@@ -23,15 +22,8 @@ returns-then-count-gt-MAX_COUNT-clause-room c few = rw (nothing c) (omega arith)
 ranked : (s : Shape) {n : ℕ} → n ≡ count_of s → n ≤ max_count → s.rank ≤ max_rank
 ranked s e h = good-rank s (good-count s (omega (arith, e)))
 
-pub slice_bounds-lens-end : goal.slice_bounds-lens-end
-slice_bounds-lens-end c =
-    let long : length c.args.shape.lens ≡ max_rank = search rules in
-    omega (arith, ranked c.args.shape c.count-count.ensures (omega arith))
-
-pub slice_bounds-print_array-end : goal.slice_bounds-print_array-end
-slice_bounds-print_array-end c =
-    let long : length c.args.shape.lens ≡ max_rank = search rules in
-    sym (length-take-le c.args.shape.rank c.args.shape.lens (omega (arith, ranked c.args.shape c.count-count.ensures (omega arith))))
+pub shared_ref_as_front-print_array : goal.shared_ref_as_front-print_array
+shared_ref_as_front-print_array c = ranked c.args.shape c.count-count.ensures (omega arith)
 
 pub returns-clause-count : goal.returns-clause-count
 returns-clause-count c =
