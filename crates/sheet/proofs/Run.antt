@@ -136,7 +136,8 @@ module _ {r₀ r c₀ c : Option (List ℕ)} {sheet : Sheet} {turns : ℕ} (i : 
       }
 
   -- The end of the bytes.
-  pub all_answered : (c' : Option (List ℕ)) → ((bytes : List ℕ) → Holds sheet.begun bytes → Appends c c' (last_answer sheet.answers.line bytes)) → Appends c₀ c' (sheet_text i.bytes)
+  pub all_answered : (c' : Option (List ℕ))
+      → ((bytes : List ℕ) → Holds sheet.begun bytes → Appends c c' (last_answer sheet.answers.line bytes)) → Appends c₀ c' (sheet_text i.bytes)
   all_answered c' sent =
       rw (← i.kept.took.line) (Appends-trans c₀ c _ so_far.printed _ i.kept.sent (sent so_far.begun i.kept.took.begun))
 

@@ -44,7 +44,8 @@ first-after : (bytes xs ys : List ℕ) (n : ℕ) → bytes ≡ xs ++ ys → list
 first-after bytes xs ys n e free long = rw (e, ← long, drop_at xs ys (length xs) refl) (position-after xs ys free)
 
 -- Blocks that have no newline, up to one that may have one or to the end.
-module _ {F : Type 0} (R : F → Bor (List ℕ) → F → Type 0) (f : F) (none : (x : Bor (List ℕ)) (q : F) → R f x q → (q ≡ f) × (list_any is-newline x.now ≡ false)) where
+module _ {F : Type 0} (R : F → Bor (List ℕ) → F → Type 0) (f : F)
+    (none : (x : Bor (List ℕ)) (q : F) → R f x q → (q ≡ f) × (list_any is-newline x.now ≡ false)) where
   record Passed (s t : Chunks ℕ) (j : F) (n : ℕ) : Type 0 where
     front : List ℕ
     joined : chunks_rest s ≡ front ++ chunks_rest t

@@ -1,5 +1,6 @@
 -- An answer that is printed after the text that waits.
-use Rattle.std.proofs.Common.{ℕ, ◌+◌, ◌-◌, ◌≤◌, ◌≡◌, List, ◌++◌, Option, Some, refl, sym, ap, ◌∙◌, arith, append_assoc, length, take, drop, length-append, length-take, length-take-le, length-drop}
+use Rattle.std.proofs.Common.{ℕ, ◌+◌, ◌-◌, ◌≤◌, ◌≡◌, List, ◌++◌, Option, Some, refl, sym, ap, ◌∙◌, arith, append_assoc}
+use Rattle.std.proofs.Common.{length, take, drop, length-append, length-take, length-take-le, length-drop}
 use Rattle.std.specs.Option.{IsSome}
 use Rattle.std.proofs.lemmas.Option.{same_Some}
 use lib.Seq.{take_at}
