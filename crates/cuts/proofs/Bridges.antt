@@ -1,6 +1,6 @@
 -- What 23 and 24 hold place by place is what the windows leave.
 use Prim.Native.Nat.{ℕ, suc, ◌+◌, ◌*◌, ◌-◌, ◌/◌, ◌%◌, ◌≤◌, ◌<◌, min}
-use native.Mathlib.Nat.{mod-lt, zero-add}
+use native.Mathlib.Nat.{mod-lt}
 use native.Mathlib.Decide.{dec_lt}
 use native.Mathlib.Omega.{arith}
 use mathlib.Core.Path.{◌≡◌, refl, sym, ap, ◌∙◌}
@@ -8,19 +8,20 @@ use mathlib.Core.List.{List, [], ◌∷◌, map}
 use mathlib.Core.Bool.{Bool, true, false, not, cond, ◌&&◌}
 use borrow.Author.Tests.{le-leb, lt-ltb, le-ltb, ltb-true, leb-true}
 use lib.Dec.{leb, ltb}
-use lib.ListN.{length, get_or, replicate}
+use lib.ListN.{length, get_or, take, drop, replicate}
 use lib.IntN.{ℤ, pos, negsuc, nat_abs, ◌+ℤ◌}
 use Rattle.shape.specs.Shape.{count}
 use Rattle.shape.specs.Place.{inside, index, place}
-use Rattle.shape.proofs.Bools.{both, no_way}
-use Rattle.shape.proofs.Places.{row_in}
+use Rattle.shape.proofs.Bools.{both, no_way, cond_same}
+use Rattle.shape.proofs.Places.{row_in, row_fits, inside-in, index-lt}
 use Rattle.meaning.specs.Array.{Array, at, tab, build}
 use Rattle.meaning.specs.Terms.{negative, every, rank, as_rank, is_scalar}
 use Rattle.meaning.specs.Primitives.{takes, drops, taken_from, taken_place, at_or_zero, dropped_lengths, dropped_place}
-use Rattle.meaning.proofs.Tab.{tab-ext}
+use Rattle.meaning.proofs.Tab.{tab-ext, get_or_part}
 use Rattle.cuts.specs.declared.CutKind.{CutKind}
 use Rattle.cuts.specs.declared.CutKind.TheVariants.{Take, Drop}
 use Rattle.cuts.specs.Steps.{cut_meaning, cut_length, keeps_end, cut_lengths, table_of, cut_at}
+use Rattle.cuts.proofs.Tables.{cut-none, cut-at}
 
 -- Position i of the result lies in the window of an axis.
 abbrev seen : CutKind → ℤ → ℕ → ℕ → Bool
@@ -68,50 +69,82 @@ dropped-in (pos a) n i h =
     (rw (le-leb (n - a - n) i (omega arith), lt-ltb i (n - a - n + min (n - a) n) (omega arith)), omega arith)
 dropped-in (negsuc k) n i h = (rw (le-leb 0 i (omega arith), lt-ltb i (0 + min (n - suc k) n) (omega arith)), omega arith)
 
--- The element at place q of r, whose part starts at `at`, and 0 outside.
-abbrev at_or : List ℕ → List ℤ → ℕ → List ℤ → ℤ
-at_or ns xs at q =
-    cond (every (λ z. not (negative z)) q && inside ns (map nat_abs q)) (get_or xs (at + index ns (map nat_abs q)) (pos 0)) (pos 0)
+-- The element at place q of xs, and 0 outside.
+abbrev at_or : List ℕ → List ℤ → List ℤ → ℤ
+at_or ns xs q = cond (every (λ z. not (negative z)) q && inside ns (map nat_abs q)) (get_or xs (index ns (map nat_abs q)) (pos 0)) (pos 0)
+
+-- That of a part with so many elements.
+at-part : (ns : List ℕ) (xs : List ℤ) (at : ℕ) (q : List ℤ)
+    → cond (every (λ z. not (negative z)) q && inside ns (map nat_abs q)) (get_or xs (at + index ns (map nat_abs q)) (pos 0)) (pos 0)
+    ≡ at_or ns (take (count ns) (drop at xs)) q
+at-part ns xs at q =
+    cond_same (pos 0) (every (λ z. not (negative z)) q && inside ns (map nat_abs q))
+    (λ t.
+    let p = both (every (λ z. not (negative z)) q) (inside ns (map nat_abs q)) t in
+    sym (get_or_part xs at (count ns) (index ns (map nat_abs q)) (pos 0) (index-lt ns (map nat_abs q) (inside-in ns (map nat_abs q) p.1))))
 
 outside : (a b c d : Bool) → (a && c) ≡ false → ((a && b) && (c && d)) ≡ false
 outside false b c d h = refl
 outside true false c d h = refl
 outside true true c d h = rw h
 
-pub taken-cut : (zs : List ℤ) (ns : List ℕ) (xs : List ℤ) (at j : ℕ) → length zs ≡ length ns → j < count (cut_lengths Take zs ns)
-    → at_or ns xs at (taken_place zs ns (place (cut_lengths Take zs ns) j)) ≡ cut_at (table_of Take zs ns) xs at j
-unfolding cut_at table_of cut_lengths count place index inside every taken_place negative
-taken-cut [] [] xs at j l h = let e : j ≡ 0 = omega arith in rw e
-taken-cut [] (n ∷ ns) xs at j l h = absurd (omega arith)
-taken-cut (z ∷ zs) [] xs at j l h = absurd (omega arith)
-taken-cut (z ∷ zs) (n ∷ ns) xs at j l h =
+pub taken-cut : (zs : List ℤ) (ns : List ℕ) (xs : List ℤ) (j : ℕ) → length zs ≡ length ns → j < count (cut_lengths Take zs ns)
+    → at_or ns xs (taken_place zs ns (place (cut_lengths Take zs ns) j)) ≡ cut_at (table_of Take zs ns) xs j
+unfolding cut_lengths count place index inside every taken_place negative
+taken-cut [] [] xs j l h = let e : j ≡ 0 = omega arith in rw e (sym (cut-none Take xs 0))
+taken-cut [] (n ∷ ns) xs j l h = absurd (omega arith)
+taken-cut (z ∷ zs) [] xs j l h = absurd (omega arith)
+taken-cut (z ∷ zs) (n ∷ ns) xs j l h =
     let c : ℕ = count (cut_lengths Take zs ns) in
     let r = row_in (nat_abs z) c j h in
-    by (j / c) _ _ r.1 (taken-cut zs ns xs _ (j % c) (omega arith) (mod-lt j r.0)) (seen Take z n (j / c)) refl
+    by (j / c) _ _ r.1 (taken-cut zs ns _ (j % c) (omega arith) (mod-lt j r.0)) (seen Take z n (j / c)) refl ∙ sym (cut-at Take z zs n ns xs j r.0)
   where
-    by : (i : ℕ) (p : List ℕ) (rest : ℤ) → i < nat_abs z → at_or ns xs (at + seen_at Take z n i * count ns) (taken_place zs ns p) ≡ rest
-        → (b : Bool) → seen Take z n i ≡ b → at_or (n ∷ ns) xs at (taken_from z n i ∷ taken_place zs ns p) ≡ cond b rest (pos 0)
+    by : (i : ℕ) (p : List ℕ) (rest : ℤ) → i < nat_abs z
+        → at_or ns (take (count ns) (drop (seen_at Take z n i * count ns) xs)) (taken_place zs ns p) ≡ rest
+        → (b : Bool) → seen Take z n i ≡ b → at_or (n ∷ ns) xs (taken_from z n i ∷ taken_place zs ns p) ≡ cond b rest (pos 0)
     by i p rest k more true s =
         let w = taken_in z n i k s in
-        let to : (x : ℕ) → at + (seen_at Take z n i * count ns + x) ≡ at + seen_at Take z n i * count ns + x = λ x. omega arith in
-        rw (w.0, lt-ltb (seen_at Take z n i) n w.1, to) more
+        rw (w.0, lt-ltb (seen_at Take z n i) n w.1) (at-part ns xs (seen_at Take z n i * count ns) (taken_place zs ns p) ∙ more)
     by i p rest k more false s =
         rw (outside (not (negative (taken_from z n i))) _ (ltb (nat_abs (taken_from z n i)) n) _ (taken_out z n i k s))
 
-pub dropped-cut : (zs : List ℤ) (ns : List ℕ) (xs : List ℤ) (at j : ℕ) → length zs ≡ length ns → j < count (cut_lengths Drop zs ns)
-    → get_or xs (at + index ns (dropped_place zs (place (cut_lengths Drop zs ns) j))) (pos 0) ≡ cut_at (table_of Drop zs ns) xs at j
-unfolding cut_at table_of cut_lengths count place index dropped_place
-dropped-cut [] [] xs at j l h = let e : j ≡ 0 = omega arith in rw e
-dropped-cut [] (n ∷ ns) xs at j l h = absurd (omega arith)
-dropped-cut (z ∷ zs) [] xs at j l h = absurd (omega arith)
-dropped-cut (z ∷ zs) (n ∷ ns) xs at j l h =
+-- The place that 24 takes lies in R.
+dropped-low : (z : ℤ) (n i : ℕ) → i < n - nat_abs z → cond (negative z) i (i + nat_abs z) < n
+unfolding negative
+dropped-low (pos a) n i h = omega arith
+dropped-low (negsuc k) n i h = omega arith
+
+dropped-lt : (zs : List ℤ) (ns : List ℕ) (j : ℕ) → length zs ≡ length ns → j < count (cut_lengths Drop zs ns)
+    → index ns (dropped_place zs (place (cut_lengths Drop zs ns) j)) < count ns
+unfolding cut_lengths count place index dropped_place
+dropped-lt [] [] j l h = omega arith
+dropped-lt [] (n ∷ ns) j l h = absurd (omega arith)
+dropped-lt (z ∷ zs) [] j l h = absurd (omega arith)
+dropped-lt (z ∷ zs) (n ∷ ns) j l h =
+    let c : ℕ = count (cut_lengths Drop zs ns) in
+    let r = row_in (n - nat_abs z) c j h in
+    let p : ℕ = cond (negative z) (j / c) (j / c + nat_abs z) in
+    omega (arith, dropped-lt zs ns (j % c) (omega arith) (mod-lt j r.0), row_fits p n (count ns) (dropped-low z n (j / c) r.1))
+
+pub dropped-cut : (zs : List ℤ) (ns : List ℕ) (xs : List ℤ) (j : ℕ) → length zs ≡ length ns → j < count (cut_lengths Drop zs ns)
+    → get_or xs (index ns (dropped_place zs (place (cut_lengths Drop zs ns) j))) (pos 0) ≡ cut_at (table_of Drop zs ns) xs j
+unfolding cut_lengths count place index dropped_place
+dropped-cut [] [] xs j l h = let e : j ≡ 0 = omega arith in rw e (sym (cut-none Drop xs 0))
+dropped-cut [] (n ∷ ns) xs j l h = absurd (omega arith)
+dropped-cut (z ∷ zs) [] xs j l h = absurd (omega arith)
+dropped-cut (z ∷ zs) (n ∷ ns) xs j l h =
     let c : ℕ = count (cut_lengths Drop zs ns) in
     let r = row_in (n - nat_abs z) c j h in
     let w = dropped-in z n (j / c) r.1 in
-    let from : ℕ = seen_at Drop z n (j / c) in
+    let at : ℕ = seen_at Drop z n (j / c) * count ns in
     let x : ℕ = index ns (dropped_place zs (place (cut_lengths Drop zs ns) (j % c))) in
-    let to : at + (from * count ns + x) ≡ at + from * count ns + x = omega arith in
-    rw (w.0, ← w.1) (ap (λ y. get_or xs y (pos 0)) to ∙ dropped-cut zs ns xs (at + from * count ns) (j % c) (omega arith) (mod-lt j r.0))
+    let low : x < count ns = dropped-lt zs ns (j % c) (omega arith) (mod-lt j r.0) in
+    let here : get_or xs (at + x) (pos 0) ≡ cut_at (table_of Drop zs ns) (take (count ns) (drop at xs)) (j % c) =
+    sym (get_or_part xs at (count ns) x (pos 0) low) ∙ dropped-cut zs ns _ (j % c) (omega arith) (mod-lt j r.0) in
+    let there : cut_at (table_of Drop (z ∷ zs) (n ∷ ns)) xs j ≡ cut_at (table_of Drop zs ns) (take (count ns) (drop at xs)) (j % c) =
+    cut-at Drop z zs n ns xs j r.0 ∙ rw w.0 in
+    let same : cond (negative z) (j / c) (j / c + nat_abs z) * count ns + x ≡ at + x = ap (λ p. p * count ns + x) (sym w.1) in
+    ap (λ p. get_or xs p (pos 0)) same ∙ here ∙ sym there
 
 -- The result's lengths.
 lengths-taken : (zs : List ℤ) (ns : List ℕ) → length zs ≡ length ns → map nat_abs zs ≡ cut_lengths Take zs ns
@@ -133,15 +166,13 @@ as-elements n a = by (is_scalar a)
     by true = refl
     by false = refl
 
-at-or : (a : Array) (q : List ℤ) → at_or_zero a q ≡ at_or a.lengths a.elements 0 q
+at-or : (a : Array) (q : List ℤ) → at_or_zero a q ≡ at_or a.lengths a.elements q
 unfolding at_or_zero at
-at-or a q =
-    ap (λ i. cond (every (λ z. not (negative z)) q && inside a.lengths (map nat_abs q)) (get_or a.elements i (pos 0)) (pos 0))
-    (sym (zero-add (index a.lengths (map nat_abs q))))
+at-or a q = refl
 
-at-is : (a : Array) (p : List ℕ) → at a p ≡ get_or a.elements (0 + index a.lengths p) (pos 0)
+at-is : (a : Array) (p : List ℕ) → at a p ≡ get_or a.elements (index a.lengths p) (pos 0)
 unfolding at
-at-is a p = ap (λ i. get_or a.elements i (pos 0)) (sym (zero-add (index a.lengths p)))
+at-is a p = refl
 
 -- R as it is read: a scalar has as many axes as L has numbers.
 abbrev pub read : Array → Array → Array
@@ -156,20 +187,20 @@ module _ (L R : Array) (l : length L.elements ≡ rank (read L R)) where
 
   cut-element : (kind : CutKind) (j : ℕ) → j < count (cut_lengths kind L.elements (read L R).lengths)
       → (cut_meaning kind L R).element (place (cut_lengths kind L.elements (read L R).lengths) j)
-      ≡ cut_at (table_of kind L.elements (read L R).lengths) R.elements 0 j
+      ≡ cut_at (table_of kind L.elements (read L R).lengths) R.elements j
   unfolding takes drops
   cut-element Take j h =
       at-or (read L R) (taken_place L.elements (read L R).lengths (place (cut_lengths Take L.elements (read L R).lengths) j))
-      ∙ taken-cut L.elements (read L R).lengths (read L R).elements 0 j l h
-      ∙ ap (λ xs. cut_at (table_of Take L.elements (read L R).lengths) xs 0 j) (as-elements (length L.elements) R)
+      ∙ taken-cut L.elements (read L R).lengths (read L R).elements j l h
+      ∙ ap (λ xs. cut_at (table_of Take L.elements (read L R).lengths) xs j) (as-elements (length L.elements) R)
   cut-element Drop j h =
       at-is (read L R) (dropped_place L.elements (place (cut_lengths Drop L.elements (read L R).lengths) j))
-      ∙ dropped-cut L.elements (read L R).lengths (read L R).elements 0 j l h
-      ∙ ap (λ xs. cut_at (table_of Drop L.elements (read L R).lengths) xs 0 j) (as-elements (length L.elements) R)
+      ∙ dropped-cut L.elements (read L R).lengths (read L R).elements j l h
+      ∙ ap (λ xs. cut_at (table_of Drop L.elements (read L R).lengths) xs j) (as-elements (length L.elements) R)
 
   pub cut-elements : (kind : CutKind)
       → (build (cut_meaning kind L R).lengths (cut_meaning kind L R).element).elements
-      ≡ tab (count (cut_meaning kind L R).lengths) (cut_at (table_of kind L.elements (read L R).lengths) R.elements 0)
+      ≡ tab (count (cut_meaning kind L R).lengths) (cut_at (table_of kind L.elements (read L R).lengths) R.elements)
   unfolding build
   cut-elements kind =
       tab-ext (count (cut_meaning kind L R).lengths) _ _

@@ -1,19 +1,28 @@
 -- The result's lengths and the table, as they are built axis by axis.
 use Prim.Native.Nat.{ℕ, zero, suc, ◌+◌, ◌*◌, ◌-◌, ◌≤◌, ◌<◌, min}
-use native.Mathlib.Nat.{mul_comm, sub-zero}
+use native.Mathlib.Nat.{mul_comm, mul-le-mul_right}
 use native.Mathlib.Omega.{arith}
 use mathlib.Core.Path.{◌≡◌, refl, sym, ap, ap₂, ◌∙◌}
-use mathlib.Core.List.{List, [], ◌∷◌, ◌++◌, append_assoc}
-use lib.ListN.{length, get_or, take, drop, set, replicate, drop_of_length-le}
-use lib.Seq.{get_or-take, take_all, length-take-le, slice_empty, slice-cons, sets, length-sets, sets-eq, drop_at, take-nil, take-length, drop-cons}
+use mathlib.Core.List.{List, [], ◌∷◌, ◌++◌}
+use borrow.Author.Tests.{le-leb}
+use lib.ListN.{length, get_or, take, drop, set, replicate, drop_of_length-le, length-set}
+use lib.Seq.{get_or-take, take_all, length-take-le, slice_empty, slice-cons, take-set-lt, drop-cons}
 use lib.IntN.{ℤ, pos}
+use mir.Syntax.{w32}
+use mir.Val.{SFits, to_z, of_z}
+use Rattle.signed.proofs.Reading.{read32}
+use Rattle.std.specs.Prelude.{Result, Ok}
+use Rattle.std.proofs.lemmas.List.{drop-set}
 use Rattle.shape.specs.declared.Shape.{Shape}
-use Rattle.shape.specs.Shape.{max_rank, max_count, count, shape_of}
+use Rattle.shape.specs.Shape.{max_rank, max_count, count}
 use Rattle.shape.proofs.Counts.{count-drop}
 use Rattle.shape.proofs.Padded.{padded-more}
+use Rattle.answer.specs.declared.refusal.Refusal as code
 use Rattle.cuts.specs.declared.Window.{Window}
+use Rattle.cuts.specs.declared.Axis.{Axis}
 use Rattle.cuts.specs.declared.CutKind.{CutKind}
-use Rattle.cuts.specs.Steps.{cut_length, cut_lengths, CutShape, window_of, table_of, Nonempty}
+use Rattle.cuts.specs.Steps.{cut_length, keeps_end, cut_lengths, cut_shape, window_of, table_of, Nonempty}
+use Rattle.cuts.proofs.Tables.{window-room}
 
 -- The window of an axis, as its code finds it from the result's length m and what of it lies beyond n.
 pub window-end : (m n size lead : ℕ) → size ≡ m → lead ≡ size - n
@@ -56,166 +65,134 @@ lengths-drop kind (suc k) [] (n ∷ ns) l = absurd (omega arith)
 lengths-drop kind (suc k) (z ∷ zs) [] l = absurd (omega arith)
 lengths-drop kind (suc k) (z ∷ zs) (n ∷ ns) l = lengths-drop kind k zs ns (omega arith)
 
--- What the loop has found of the result's lengths when it comes to axis i: the first i of n, and zeros.
-pub record Lengths (kind : CutKind) (lens : List ℕ) (l : List ℤ) (n : ℕ) (xs : List ℕ) (i : ℕ) : Type 0 where
-  pub long : length lens ≡ max_rank
-  pub all : n ≡ min (length l) max_rank
-  pub some : i ≤ n
-  pub done : xs ≡ take i (cut_lengths kind (take n l) (take n lens)) ++ replicate (max_rank - i) 0
+-- One more of the result's lengths.
+pub lengths-more : (kind : CutKind) (l : List ℤ) (lens : List ℕ) (i v : ℕ) → length lens ≡ max_rank → length l ≤ max_rank → i < length l
+    → v ≡ cut_length kind (get_or l i (pos 0)) (get_or lens i 0)
+    → set (take i (cut_lengths kind l (take (length l) lens)) ++ replicate (max_rank - i) 0) i v
+    ≡ take (i + 1) (cut_lengths kind l (take (length l) lens)) ++ replicate (max_rank - (i + 1)) 0
+lengths-more kind l lens i v w h k e =
+    let ns : List ℕ = take (length l) lens in
+    let ms : List ℕ = cut_lengths kind l ns in
+    let long : length ns ≡ length l = length-take-le (length l) lens (omega arith) in
+    let here : get_or ms i 0 ≡ v =
+    lengths-at kind l ns i k (omega arith) ∙ ap (cut_length kind (get_or l i (pos 0))) (get_or-take (length l) lens i 0 k) ∙ sym e in
+    rw (← here) (padded-more ms max_rank i (omega (arith, lengths-long kind l ns (sym long))) (omega arith))
 
-module _ {kind : CutKind} {lens : List ℕ} {l : List ℤ} {n : ℕ} {xs : List ℕ} {i : ℕ} (b : Lengths kind lens l n xs i) where
-  abbrev ms : List ℕ
-  ms = cut_lengths kind (take n l) (take n lens)
-
-  zs-long : length (take n l) ≡ n
-  zs-long = length-take-le n l (omega (arith, b.all))
-
-  ns-long : length (take n lens) ≡ n
-  ns-long = length-take-le n lens (omega (arith, b.all, b.long))
-
-  ms-long : length ms ≡ n
-  ms-long = lengths-long kind (take n l) (take n lens) (zs-long ∙ sym ns-long) ∙ ns-long
-
-  pub lengths-more : (v : ℕ) → i < n → v ≡ cut_length kind (get_or l i (pos 0)) (get_or lens i 0) → Lengths kind lens l n (set xs i v) (i + 1)
-  lengths-more v h f =
-      let here : get_or ms i 0 ≡ v =
-      lengths-at kind (take n l) (take n lens) i (rw zs-long h) (rw ns-long h)
-      ∙ ap₂ (cut_length kind) (get_or-take n l i (pos 0) h) (get_or-take n lens i 0 h)
-      ∙ sym f in
-      record {
-        long = b.long;
-        all = b.all;
-        some = omega arith;
-        done = rw (b.done, ← here) (padded-more ms max_rank i (omega (arith, ms-long)) (omega (arith, b.all)));
-      }
-
-  pub lengths-all : n ≤ i → CutShape kind lens l (record { rank = length l; lens = xs })
-  lengths-all h =
-      let e : i ≡ n = omega (arith, b.some) in
-      let whole : ◌≡◌ {A = Shape} (record { rank = n; lens = xs }) (shape_of ms) =
-      ap₂ (λ x y. record { rank = x; lens = y }) (sym ms-long) (b.done ∙ rw (e, take_all n ms (omega (arith, ms-long)), ms-long)) in
-      record { rank_is = refl; made = λ h. let same : n ≡ length l = omega (arith, b.all) in rw (same, take-length l) at whole }
+-- All of them.
+pub lengths-all : (kind : CutKind) (l : List ℤ) (lens : List ℕ) {xs : List ℕ} {i : ℕ} → length lens ≡ max_rank → length l ≤ max_rank → i ≡ length l
+    → xs ≡ take i (cut_lengths kind l (take (length l) lens)) ++ replicate (max_rank - i) 0
+    → ◌≡◌ {A = Result Shape code.Refusal} (Ok (record { rank = length l; lens = xs })) (cut_shape kind l lens)
+lengths-all kind l lens {xs} {i} w h e o =
+    let ms : List ℕ = cut_lengths kind l (take (length l) lens) in
+    let long : length ms ≡ length l =
+    let n = length-take-le (length l) lens (omega arith) in lengths-long kind l (take (length l) lens) (sym n) ∙ n in
+    rw (le-leb (length l) max_rank h)
+    (ap₂ (λ x y. Ok (record { rank = x; lens = y })) (sym long) (o ∙ rw (e, take_all (length l) ms (omega (arith, long)), long)))
 
 -- Two lists of lengths that are the same from one axis on are so from the axis before it, if that is the same.
-pub same_more : (lens result : List ℕ) {rank i : ℕ} → 0 < i → i ≤ rank → rank ≤ length lens → rank ≤ length result
-    → drop i (take rank lens) ≡ drop i (take rank result) → get_or lens (i - 1) 0 ≡ get_or result (i - 1) 0
-    → drop (i - 1) (take rank lens) ≡ drop (i - 1) (take rank result)
-same_more lens result {rank} {i} p h a b s q =
+pub same_more : (lens result : List ℕ) {i : ℕ} → 0 < i → i ≤ length lens → length lens ≡ length result → drop i lens ≡ drop i result
+    → get_or lens (i - 1) 0 ≡ get_or result (i - 1) 0 → drop (i - 1) lens ≡ drop (i - 1) result
+same_more lens result {i} p h e s q =
     let k : ℕ = i - 1 in
-    let e : suc k ≡ i = omega arith in
-    let s' : drop (suc k) (take rank lens) ≡ drop (suc k) (take rank result) = rw e s in
-    slice-cons k rank lens 0 (omega arith) a ∙ ap₂ (λ x xs. x ∷ xs) q s' ∙ sym (slice-cons k rank result 0 (omega arith) b)
+    let next : suc k ≡ i = omega arith in
+    let s' : drop (suc k) lens ≡ drop (suc k) result = rw next s in
+    drop-cons lens k 0 (omega arith) ∙ ap₂ (λ x xs. x ∷ xs) q s' ∙ sym (drop-cons result k 0 (omega arith))
 
--- A part of a front.
-drop-take : {A : Type 0} (p n : ℕ) (xs : List A) → drop p (take n xs) ≡ take (n - p) (drop p xs)
-drop-take zero n xs = ap (λ k. take k xs) (sym (sub-zero n))
-drop-take (suc p) zero xs = let e : 0 - suc p ≡ 0 = omega arith in sym (ap (λ k. take k (drop (suc p) xs)) e)
-drop-take (suc p) (suc n) [] = sym (take-nil (suc n - suc p))
-drop-take (suc p) (suc n) (x ∷ xs) = let e : n - p ≡ suc n - suc p = omega arith in drop-take p n xs ∙ ap (λ k. take k (drop p xs)) e
-
--- Five numbers that are stored one after another, as the loop does.
-abbrev pub stored : List ℕ → ℕ → ℕ → ℕ → ℕ → ℕ → ℕ → List ℕ
-stored t p a b c d e = set (set (set (set (set t p a) (p + 1) b) (p + 2) c) (p + 3) d) (p + 4) e
-
-module _ (t : List ℕ) (p : ℕ) where
-  stored-sets : (a b c d e : ℕ) → stored t p a b c d e ≡ sets t p (a ∷ b ∷ c ∷ d ∷ e ∷ [])
-  stored-sets a b c d e =
-      let e₁ : p + 1 ≡ suc p = omega arith in
-      let e₂ : p + 2 ≡ suc (suc p) = omega arith in
-      let e₃ : p + 3 ≡ suc (suc (suc p)) = omega arith in
-      let e₄ : p + 4 ≡ suc (suc (suc (suc p))) = omega arith in
-      rw (e₁, e₂, e₃, e₄)
-
-  pub stored-long : (a b c d e : ℕ) → length (stored t p a b c d e) ≡ length t
-  stored-long a b c d e = ap length (stored-sets a b c d e) ∙ length-sets t p (a ∷ b ∷ c ∷ d ∷ e ∷ [])
-
-  -- From them on, they and what stood after them.
-  pub stored-front : (n a b c d e : ℕ) → p + 5 ≤ n → p + 5 ≤ length t
-      → drop p (take n (stored t p a b c d e)) ≡ a ∷ b ∷ c ∷ d ∷ e ∷ drop (p + 5) (take n t)
-  stored-front n a b c d e h l =
-      let vs : List ℕ = a ∷ b ∷ c ∷ d ∷ e ∷ [] in
-      let rest : n - p ≡ suc (suc (suc (suc (suc (n - (p + 5)))))) = omega arith in
-      ap (λ x. drop p (take n x)) (stored-sets a b c d e ∙ sets-eq vs t p l ∙ append_assoc (take p t) vs (drop (p + 5) t))
-      ∙ drop-take p n (take p t ++ (vs ++ drop (p + 5) t))
-      ∙ ap (take (n - p)) (drop_at (take p t) (vs ++ drop (p + 5) t) p (length-take-le p t (omega arith)))
-      ∙ ap (λ k. take k (vs ++ drop (p + 5) t)) rest
-      ∙ ap (λ x. a ∷ b ∷ c ∷ d ∷ e ∷ x) (sym (drop-take (p + 5) n t))
+-- An entry that is stored: it and what stood after it.
+pub stored : {A : Type 0} (t : List A) (k n : ℕ) (v : A) → k < n → n ≤ length t → drop k (take n (set t k v)) ≡ v ∷ drop (k + 1) (take n t)
+stored t k n v h l =
+    ap (drop k) (take-set-lt n t k v h) ∙ drop-set (take n t) k v (omega (arith, length-take-le n t l))
 
 -- What the table's loop has built when it comes to axis i.
-pub record Built (kind : CutKind) (lens : List ℕ) (l : List ℤ) (table : List ℕ) (step block i : ℕ) : Type 0 where
+pub record Built (kind : CutKind) (lens : List ℕ) (l : List ℤ) (table : List Axis) (stride block i : ℕ) : Type 0 where
   pub below : i ≤ length l
-  pub long : length table ≡ 5 * max_rank
-  pub rows : drop (i * 5) (take (length l * 5) table) ≡ table_of kind (drop i l) (drop i (take (length l) lens))
-  pub steps : step ≡ count (drop i (take (length l) lens))
+  pub long : length table ≡ max_rank
+  pub rows : drop i (take (length l) table) ≡ table_of kind (drop i l) (drop i (take (length l) lens))
+  pub strides : stride ≡ count (drop i (take (length l) lens))
   pub blocks : block ≡ count (cut_lengths kind (drop i l) (drop i (take (length l) lens)))
 
-module _ {kind : CutKind} {lens : List ℕ} {l : List ℤ} (c : Nonempty kind lens l) (long : length lens ≡ max_rank) where
-  pub built-none : (table : List ℕ) → length table ≡ 5 * max_rank → Built kind lens l table 1 1 (length l)
+-- The window of a number that is read from a slice.
+pub window_read : (kind : CutKind) (z : ℤ) (n : ℕ) {w : Window} → SFits w32 z → w ≡ window_of kind (to_z w32 (of_z w32 z)) n → w ≡ window_of kind z n
+window_read kind z n f e = e ∙ ap (λ x. window_of kind x n) (read32 z f)
+
+module _ {kind : CutKind} {lens : List ℕ} {l : List ℤ} (c : Nonempty kind lens l) where
+  pub built-none : (table : List Axis) → length table ≡ max_rank → Built kind lens l table 1 1 (length l)
   unfolding table_of cut_lengths count
   built-none table t =
       let zs : drop (length l) l ≡ [] = drop_of_length-le l {i = length l} (omega arith) in
       let ns : drop (length l) (take (length l) lens) ≡ [] = slice_empty (length l) lens in
       record {
         below = omega arith;
-        rows = slice_empty (length l * 5) table ∙ sym (rw zs);
+        rows = slice_empty (length l) table ∙ sym (rw zs);
         long = t;
-        steps = sym (rw ns);
+        strides = sym (rw ns);
         blocks = sym (rw zs);
       }
 
-  pub built-all : {table : List ℕ} {step block i : ℕ} → i ≡ 0 → Built kind lens l table step block i
-      → take (length l * 5) table ≡ table_of kind l (take (length l) lens)
+  pub built-all : {table : List Axis} {stride block i : ℕ} → i ≡ 0 → Built kind lens l table stride block i
+      → take (length l) table ≡ table_of kind l (take (length l) lens)
   built-all e b = rw e at b.rows
 
   same : length l ≡ length (take (length l) lens)
-  same = sym (length-take-le (length l) lens (omega (arith, c.high)))
+  same = sym (length-take-le (length l) lens (omega (arith, c.high, c.long)))
 
-  module _ {table : List ℕ} {step block i : ℕ} (k : ℕ) (b : Built kind lens l table step block i) (e : i ≡ suc k) where
+  module _ {table : List Axis} {stride block i : ℕ} (k : ℕ) (b : Built kind lens l table stride block i) (e : i ≡ suc k) where
     abbrev n : ℕ
     n = get_or lens k 0
 
+    abbrev z : ℤ
+    z = get_or l k (pos 0)
+
     abbrev m : ℕ
-    m = cut_length kind (get_or l k (pos 0)) n
+    m = cut_length kind z n
 
     ns-cons : drop k (take (length l) lens) ≡ n ∷ drop i (take (length l) lens)
-    ns-cons = slice-cons k (length l) lens 0 (omega (arith, b.below)) (omega (arith, c.high)) ∙ ap (λ x. n ∷ drop x (take (length l) lens)) (sym e)
+    ns-cons = slice-cons k (length l) lens 0 (omega (arith, b.below)) (omega (arith, c.high, c.long)) ∙ ap (λ x. n ∷ drop x (take (length l) lens)) (sym e)
 
-    zs-cons : drop k l ≡ get_or l k (pos 0) ∷ drop i l
-    zs-cons = drop-cons l k (pos 0) (omega (arith, b.below)) ∙ ap (λ x. get_or l k (pos 0) ∷ drop x l) (sym e)
+    zs-cons : drop k l ≡ z ∷ drop i l
+    zs-cons = drop-cons l k (pos 0) (omega (arith, b.below)) ∙ ap (λ x. z ∷ drop x l) (sym e)
 
-    next-step : step * n ≡ count (drop k (take (length l) lens))
+    next-stride : stride * n ≡ count (drop k (take (length l) lens))
     unfolding count
-    next-step = rw (ns-cons, b.steps) (mul_comm _ _)
+    next-stride = rw (ns-cons, b.strides) (mul_comm _ _)
 
     next-block : block * m ≡ count (cut_lengths kind (drop k l) (drop k (take (length l) lens)))
     unfolding count cut_lengths
     next-block = rw (ns-cons, zs-cons, b.blocks) (mul_comm _ _)
 
     -- The products stay within the limit.
-    pub step_small : step * n ≤ max_count
-    step_small = rw next-step (omega (arith, (count-drop k (take (length l) lens) c.some).1, c.small))
+    pub stride_small : stride * n ≤ max_count
+    stride_small = rw next-stride (omega (arith, (count-drop k (take (length l) lens) c.some).1, c.small))
 
-    pub block-small : block * m ≤ max_count
+    block-small : block * m ≤ max_count
     block-small =
         rw (next-block, lengths-drop kind k l (take (length l) lens) same)
         (omega (arith, (count-drop k (cut_lengths kind l (take (length l) lens)) c.result).1, c.limit))
 
-    pub built-more : (table' : List ℕ) (w : Window) → table' ≡ stored table (k * 5) w.lead w.from w.len step block
-        → w ≡ window_of kind (get_or l k (pos 0)) n → Built kind lens l table' (step * n) (block * w.size) k
+    pub window_small : {w : Window} → w ≡ window_of kind z n
+        → (w.lead * block ≤ max_count) × ((w.len * block ≤ max_count) × ((w.from * stride ≤ max_count) × (block * w.size ≤ max_count)))
+    window_small {w} q =
+        let r = window-room (keeps_end kind z) m n in
+        let a = mul-le-mul_right block r.0 in
+        let o = mul-le-mul_right stride r.1 in
+        rw q (
+          omega (arith, a, block-small),
+          (omega (arith, a, block-small), (omega (arith, o, stride_small), block-small)),
+        )
+
+    pub built-more : (w : Window) → w ≡ window_of kind z n
+        → Built kind lens l
+        (set table k (record { start = w.lead * block; width = w.len * block; first = w.from * stride; len = w.len; stride = stride; block = block }))
+        (stride * n) (block * w.size) k
     unfolding table_of
-    built-more table' w t q =
-        let room : k * 5 + 5 ≤ length l * 5 = omega (arith, b.below) in
-        let wide : k * 5 + 5 ≤ length table = omega (arith, b.long, c.high) in
-        let next : k * 5 + 5 ≡ i * 5 = omega arith in
-        let rest : drop (k * 5 + 5) (take (length l * 5) table) ≡ table_of kind (drop i l) (drop i (take (length l) lens)) =
-        ap (λ x. drop x (take (length l * 5) table)) next ∙ b.rows in
+    built-more w q =
+        let next : k + 1 ≡ i = omega arith in
         record {
           below = omega (arith, b.below);
-          long = ap length t ∙ stored-long table (k * 5) w.lead w.from w.len step block ∙ b.long;
+          long = length-set table k _ ∙ b.long;
           rows =
-              ap (λ x. drop (k * 5) (take (length l * 5) x)) t
-              ∙ stored-front table (k * 5) (length l * 5) w.lead w.from w.len step block room wide
-              ∙ rw (ns-cons, zs-cons, rest, b.steps, b.blocks, q);
-          steps = next-step;
+              stored table k (length l) _ (omega (arith, b.below)) (omega (arith, b.long, c.high))
+              ∙ rw (ns-cons, zs-cons, next, b.rows, q, ← b.strides, ← b.blocks);
+          strides = next-stride;
           blocks = ap (λ x. block * x.size) q ∙ next-block;
         }

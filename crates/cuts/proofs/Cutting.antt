@@ -1,212 +1,156 @@
--- What a result holds through the windows of a table t, by the numbers of its first window.
+-- What a result holds through the first axis of a table.
 use Prim.Native.Nat.{ℕ, ◌+◌, ◌*◌, ◌-◌, ◌/◌, ◌%◌, ◌≤◌, ◌<◌}
-use native.Mathlib.Nat.{mod-lt, le-div_iff_mul-le, mul-le-mul_right, div-add-mod'}
+use native.Mathlib.Nat.{mod-lt, div-add-mod', mul-le-mul_right}
 use native.Mathlib.Omega.{arith}
-use mathlib.Core.Path.{◌≡◌, refl, sym, ap, ap₂, ◌∙◌}
+use mathlib.Core.Path.{◌≡◌, refl, sym, ap, ap₂, ◌∙◌, subst}
 use mathlib.Core.List.{List, [], ◌∷◌}
-use mathlib.Core.Bool.{Bool, cond, and-false, ◌&&◌}
+use mathlib.Core.Bool.{Bool, and-false}
 use borrow.Author.Tests.{le-leb, lt-leb, lt-ltb, le-ltb}
 use lib.Arith.{digits_div, digits_mod}
-use lib.Dec.{leb, ltb}
-use lib.ListN.{length, get_or, take, drop, length-drop, drop_of_length-le}
-use lib.Seq.{take_all}
+use lib.Dec.{leb}
+use lib.ListN.{length, get_or, take, drop}
 use lib.IntN.{ℤ, pos}
 use Rattle.shape.proofs.Places.{row_in, row_fits}
 use Rattle.meaning.specs.Array.{tab}
-use Rattle.meaning.proofs.Tab.{length-tab, get_or-tab}
+use Rattle.meaning.proofs.Tab.{length-tab, get_or-tab, tab-get_or, get_or_part}
 use Rattle.copying.specs.Runs.{copied}
-use Rattle.copying.proofs.Runs.{filled_none, length-filled, filled-whole, put-list, put-copied}
-use Rattle.copying.proofs.Parts.{filled_on, part_room}
+use Rattle.copying.proofs.Runs.{filled_none, length-filled, filled-whole, copied-whole, put-list, put-copied}
+use Rattle.copying.proofs.Parts.{filled_on, part_room, part-long}
 use Rattle.copying.specs.Steps.{filled}
 use borrow.Rule.Slice.PartMut.{put_mid}
-use Rattle.cuts.specs.Steps.{cut_at, Fitting, Blank}
-
--- The five numbers of the first window.
-abbrev pub lead : List ℕ → ℕ
-lead t = get_or t 0 0
-
-abbrev pub from : List ℕ → ℕ
-from t = get_or t 1 0
-
-abbrev pub len : List ℕ → ℕ
-len t = get_or t 2 0
-
-abbrev pub step : List ℕ → ℕ
-step t = get_or t 3 0
-
-abbrev pub block : List ℕ → ℕ
-block t = get_or t 4 0
-
--- Where it begins in an operand that is looked at from `at` on, and where it begins and ends in the result.
-abbrev pub origin : List ℕ → ℕ → ℕ
-origin t at = at + from t * step t
-
-abbrev pub start : List ℕ → ℕ
-start t = lead t * block t
-
-abbrev pub stop : List ℕ → ℕ
-stop t = lead t * block t + len t * block t
-
--- The windows after it, as they are handed on.
-abbrev pub later : List ℕ → List ℕ
-later t = take (length t - 5) (drop 5 t)
-
-later-is : (t : List ℕ) → later t ≡ drop 5 t
-later-is t = take_all (length t - 5) (drop 5 t) (rw length-drop (omega arith))
-
-pub later-long : (t : List ℕ) → length (later t) ≡ length t - 5
-later-long t = ap length (later-is t) ∙ length-drop 5 t
-
-pub record Fits (t : List ℕ) (at n m : ℕ) : Type 0 where
-  pub five : 5 ≤ length t
-  pub some : 0 < block t
-  pub room : (lead t + len t) * block t ≤ m
-  pub inner : at + (from t + len t) * step t ≤ n
-  pub last : length t ≡ 5 → step t ≡ block t
-  pub rest : 5 < length t → (i : ℕ) → i < len t → Fitting (drop 5 t) (at + (from t + i) * step t) n (block t)
-  pub more : 0 < len t
-
--- Position i of the window lies in both buffers.
-abbrev pub Reaches : List ℕ → ℕ → ℕ → ℕ → ℕ → Type 0
-Reaches t at n m i = (start t + i * block t + block t ≤ m) × (origin t at + i * step t ≤ n)
-
-pub window-fits : (t : List ℕ) (at n m : ℕ) → Fitting t at n m → Fits t at n m
-window-fits [] at n m h = absurd h
-window-fits (_ ∷ []) at n m h = absurd h
-window-fits (_ ∷ _ ∷ []) at n m h = absurd h
-window-fits (_ ∷ _ ∷ _ ∷ []) at n m h = absurd h
-window-fits (_ ∷ _ ∷ _ ∷ _ ∷ []) at n m h = absurd h
-window-fits (a ∷ b ∷ c ∷ d ∷ e ∷ ws) at n m h = record {
-  five = omega arith;
-  some = h.0;
-  room = h.1.0;
-  inner = h.1.1.0;
-  last = λ l. h.1.1.1.0 (omega arith);
-  rest = λ l i k. h.1.1.1.1.0 (omega arith) i k;
-  more = h.1.1.1.1.1;
-}
-
--- Element j by them.
-cut-at : (t : List ℕ) (r : List ℤ) (at j : ℕ) → 5 ≤ length t
-    → cut_at t r at j
-    ≡ cond (leb (lead t) (j / block t) && ltb (j / block t) (lead t + len t))
-    (cut_at (drop 5 t) r (at + (from t + (j / block t - lead t)) * step t) (j % block t))
-    (pos 0)
-unfolding cut_at
-cut-at [] r at j l = absurd (omega arith)
-cut-at (_ ∷ []) r at j l = absurd (omega arith)
-cut-at (_ ∷ _ ∷ []) r at j l = absurd (omega arith)
-cut-at (_ ∷ _ ∷ _ ∷ []) r at j l = absurd (omega arith)
-cut-at (_ ∷ _ ∷ _ ∷ _ ∷ []) r at j l = absurd (omega arith)
-cut-at (a ∷ b ∷ c ∷ d ∷ e ∷ ws) r at j l = refl
+use Rattle.cuts.specs.declared.Axis.{Axis}
+use Rattle.cuts.specs.Steps.{cut_at, Within, Fitting, Blank}
 
 -- Zeros before the window and after it.
-pub cut-before : (t : List ℕ) (r : List ℤ) (at j : ℕ) → 5 ≤ length t → j < lead t * block t → cut_at t r at j ≡ pos 0
-cut-before t r at j l h = cut-at t r at j l ∙ rw (lt-leb (lead t) (j / block t) (row_in (lead t) (block t) j h).1)
-
-pub cut-after : (t : List ℕ) (r : List ℤ) (at j : ℕ) → 5 ≤ length t → 0 < block t → (lead t + len t) * block t ≤ j → cut_at t r at j ≡ pos 0
-cut-after t r at j l p h =
-    cut-at t r at j l
-    ∙ rw (le-ltb (j / block t) (lead t + len t) ((le-div_iff_mul-le {k = block t} {x = lead t + len t} {y = j} p).1 h), and-false (leb (lead t) (j / block t)))
-
--- Position i of the window holds what the windows of the later axes leave of its part of r.
-pub cut_inside : (t : List ℕ) (r : List ℤ) (at i k : ℕ) → 5 ≤ length t → i < len t → k < block t
-    → cut_at t r at (lead t * block t + i * block t + k) ≡ cut_at (drop 5 t) r (at + from t * step t + i * step t) k
-cut_inside t r at i k l p h =
-    let same : lead t * block t + i * block t + k ≡ (lead t + i) * block t + k = omega arith in
-    let q : (lead t * block t + i * block t + k) / block t ≡ lead t + i = ap (λ x. x / block t) same ∙ digits_div (lead t + i) h in
-    let m : (lead t * block t + i * block t + k) % block t ≡ k = ap (λ x. x % block t) same ∙ digits_mod (lead t + i) h in
-    let sub : lead t + i - lead t ≡ i = omega arith in
-    let to : at + (from t + i) * step t ≡ at + from t * step t + i * step t = omega arith in
-    cut-at t r at _ l ∙ rw (q, m, le-leb (lead t) (lead t + i) (omega arith), lt-ltb (lead t + i) (lead t + len t) (omega arith), sub, to)
-
--- The last window is one run.
-pub cut-run : (t : List ℕ) (r : List ℤ) (at k : ℕ) → length t ≡ 5 → 0 < block t → step t ≡ block t → k < len t * block t
-    → cut_at t r at (lead t * block t + k) ≡ get_or r (at + from t * step t + k) (pos 0)
+pub cut-before : (a : Axis) (rest : List Axis) (r : List ℤ) (j : ℕ) → j < a.start → cut_at (a ∷ rest) r j ≡ pos 0
 unfolding cut_at
-cut-run t r at k l p e h =
-    let c : ℕ = block t in
-    let split : lead t * c + k ≡ lead t * c + k / c * c + k % c = omega (arith, div-add-mod' k c) in
-    ap (cut_at t r at) split
-    ∙ cut_inside t r at (k / c) (k % c) (omega arith) (row_in (len t) c k h).1 (mod-lt k p)
-    ∙ ap (λ w. cut_at w r (at + from t * step t + k / c * step t) (k % c)) (drop_of_length-le t {i = 5} (omega arith))
-    ∙ ap (λ x. get_or r x (pos 0)) (let s = ap (λ y. k / c * y) e in omega (arith, div-add-mod' k c))
+cut-before a rest r j h = rw (lt-leb a.start j h)
+
+pub cut-after : (a : Axis) (rest : List Axis) (r : List ℤ) (j : ℕ) → a.start + a.width ≤ j → cut_at (a ∷ rest) r j ≡ pos 0
+unfolding cut_at
+cut-after a rest r j h = rw (le-ltb j (a.start + a.width) h, and-false (leb a.start j))
+
+-- The part of the operand that position i of the window has.
+abbrev pub part : Axis → List ℤ → ℕ → List ℤ
+part a r i = take a.stride (drop (a.first + i * a.stride) r)
+
+module _ {a : Axis} {n m : ℕ} (f : Within a n m) where
+  -- Position i of the window holds what the windows of the later axes leave of its part.
+  pub cut_inside : (rest : List Axis) (r : List ℤ) (i k : ℕ) → i < a.len → k < a.block
+      → cut_at (a ∷ rest) r (a.start + i * a.block + k) ≡ cut_at rest (part a r i) k
+  unfolding cut_at
+  cut_inside rest r i k p h =
+      let j : ℕ = a.start + i * a.block + k in
+      let sub : j - a.start ≡ i * a.block + k = omega arith in
+      let q : (j - a.start) / a.block ≡ i = ap (λ x. x / a.block) sub ∙ digits_div i h in
+      let m : (j - a.start) % a.block ≡ k = ap (λ x. x % a.block) sub ∙ digits_mod i h in
+      rw (q, m, le-leb a.start j (omega arith), lt-ltb j (a.start + a.width) (omega (arith, f.wide, row_fits i a.len a.block p)))
+
+  -- The last window is one run.
+  pub cut-run : (r : List ℤ) (k : ℕ) → a.stride ≡ a.block → k < a.width → cut_at (a ∷ []) r (a.start + k) ≡ get_or r (a.first + k) (pos 0)
+  unfolding cut_at
+  cut-run r k e h =
+      let c : ℕ = a.block in
+      let split : a.start + k ≡ a.start + k / c * c + k % c = omega (arith, div-add-mod' k c) in
+      let l : k % c < a.stride = omega (arith, mod-lt k f.some) in
+      ap (cut_at (a ∷ []) r) split
+      ∙ cut_inside [] r (k / c) (k % c) (row_in a.len c k (omega (arith, f.wide))).1 (mod-lt k f.some)
+      ∙ get_or_part r (a.first + k / c * a.stride) a.stride (k % c) (pos 0) l
+      ∙ ap (λ x. get_or r x (pos 0)) (let s = ap (λ y. k / c * y) e in omega (arith, div-add-mod' k c))
+
+  -- Position i lies in both buffers.
+  pub cut-room : (i : ℕ) → i < a.len → (a.start + i * a.block + a.block ≤ m) × (a.first + i * a.stride + a.stride ≤ n)
+  cut-room i h = (omega (arith, f.room, f.wide, row_fits i a.len a.block h), omega (arith, f.inner, row_fits i a.len a.stride h))
+
+-- What fits a table fits its first axis and the others.
+pub fits_on : {t : List Axis} {a : Axis} {rest : List Axis} {n m : ℕ} → t ≡ a ∷ rest → Fitting t n m → Within a n m × Fitting rest a.stride a.block
+fits_on {n = n} {m = m} e h = subst (λ x. Fitting x n m) e h
+
+-- Without an axis it is a copy.
+pub cut-nothing : (t : List Axis) (r out : List ℤ) {last : List ℤ} → length t ≡ 0 → Fitting t (length r) (length out) → last ≡ copied r out
+    → last ≡ tab (length out) (cut_at t r)
+unfolding cut_at
+cut-nothing [] r out l h q = q ∙ copied-whole r out h ∙ sym (tab-get_or r (pos 0)) ∙ ap (λ n. tab n (λ i. get_or r i (pos 0))) h
+cut-nothing (a ∷ rest) r out l h q = absurd (omega arith)
 
 -- How `out`, of m elements, is filled: the zeros first, then the window, as one run or part by part.
-module _ {t : List ℕ} (r : List ℤ) {at m : ℕ} (f : Fits t at (length r) m) where
-  pub cut-room : (i : ℕ) → i < len t → Reaches t at (length r) m i
-  cut-room i h = (
-    omega (arith, f.room, row_fits i (len t) (block t) (omega arith)),
-    omega (arith, f.inner, mul-le-mul_right {m = i} {n = len t} (step t) (omega arith)),
-  )
+module _ {t : List Axis} {a : Axis} {rest : List Axis} (e : t ≡ a ∷ rest) (r : List ℤ) {m : ℕ} (f : Within a (length r) m) {whole : Bool}
+    {out₀ : List ℤ} (z : Blank whole a m out₀) where
+  abbrev g : ℕ → ℤ
+  g = cut_at t r
 
-  module _ {whole : Bool} {out₀ : List ℤ} (z : Blank whole (start t) (stop t) m out₀) where
-    abbrev g : ℕ → ℤ
-    g = cut_at t r at
+  is : (j : ℕ) → g j ≡ cut_at (a ∷ rest) r j
+  is j = ap (λ x. cut_at x r j) e
 
-    pub cut-long : {i : ℕ} {out : List ℤ} → i ≤ len t → out ≡ filled g (start t + i * block t) out₀ → length out ≡ m
-    cut-long {i} h o =
-        ap length o
-        ∙ length-filled g (start t + i * block t) out₀ (omega (arith, f.room, z.long, mul-le-mul_right {m = i} {n = len t} (block t) h))
-        ∙ z.long
+  pub cut-long : {i : ℕ} {out : List ℤ} → i ≤ a.len → out ≡ filled g (a.start + i * a.block) out₀ → length out ≡ m
+  cut-long {i} h o =
+      ap length o ∙ length-filled g (a.start + i * a.block) out₀ (omega (arith, f.room, f.wide, z.long, mul-le-mul_right {m = i} {n = a.len} a.block h)) ∙ z.long
 
-    zeros-first : out₀ ≡ filled g (start t) out₀
-    zeros-first =
-        filled_none g out₀
-        ∙ filled_on g 0 (start t) out₀ (omega (arith, f.room, z.long))
-        (λ i l. cut-before t r at (0 + i) f.five (omega arith) ∙ sym (z.before (0 + i) (omega arith)))
-        ∙ ap (λ n. filled g n out₀) (omega arith)
+  zeros-first : out₀ ≡ filled g a.start out₀
+  zeros-first =
+      filled_none g out₀
+      ∙ filled_on g 0 a.start out₀ (omega (arith, f.room, z.long))
+      (λ i l. is (0 + i) ∙ cut-before a rest r (0 + i) (omega arith) ∙ sym (z.before (0 + i) (omega arith)))
+      ∙ ap (λ n. filled g n out₀) (omega arith)
 
-    zeros-last : filled g (stop t) out₀ ≡ tab m g
-    zeros-last =
-        let room : stop t ≤ m = omega (arith, f.room) in
-        filled_on g (stop t) (m - stop t) out₀ (omega (arith, z.long))
-        (λ i l. cut-after t r at (stop t + i) f.five f.some (omega arith) ∙ sym (z.after (stop t + i) (omega arith) (omega arith)))
-        ∙ filled-whole g (stop t + (m - stop t)) out₀ (omega (arith, z.long))
-        ∙ ap (λ k. tab k g) (omega arith)
+  zeros-last : filled g (a.start + a.width) out₀ ≡ tab m g
+  zeros-last =
+      let stop : ℕ = a.start + a.width in
+      filled_on g stop (m - stop) out₀ (omega (arith, f.room, z.long))
+      (λ i l. is (stop + i) ∙ cut-after a rest r (stop + i) (omega arith) ∙ sym (z.after (stop + i) (omega arith) (omega arith)))
+      ∙ filled-whole g (stop + (m - stop)) out₀ (omega (arith, z.long))
+      ∙ ap (λ k. tab k g) (omega (arith, f.room))
 
-    -- Before position 0 and after the last.
-    pub cut-begin : out₀ ≡ filled g (start t + 0 * block t) out₀
-    cut-begin = zeros-first ∙ ap (λ n. filled g n out₀) (omega arith)
+  -- Before position 0 and after the last.
+  pub cut-begin : out₀ ≡ filled g (a.start + 0 * a.block) out₀
+  cut-begin = zeros-first ∙ ap (λ n. filled g n out₀) (omega arith)
 
-    pub cut-end : {i : ℕ} {out : List ℤ} → i ≡ len t → out ≡ filled g (start t + i * block t) out₀ → out ≡ tab m g
-    cut-end e o = o ∙ ap (λ n. filled g (start t + n * block t) out₀) e ∙ zeros-last
+  pub cut-end : {i : ℕ} {out : List ℤ} → i ≡ a.len → out ≡ filled g (a.start + i * a.block) out₀ → out ≡ tab m g
+  cut-end {i} q o = o ∙ ap (λ n. filled g n out₀) (ap (λ x. a.start + x * a.block) q ∙ omega (arith, f.wide)) ∙ zeros-last
 
-    -- The last window.
-    pub cut-last : {last : List ℤ} → length t ≡ 5
-        → last ≡ copied (take (origin t at + len t * step t - origin t at) (drop (origin t at) r)) (take (stop t - start t) (drop (start t) out₀))
-        → put_mid (start t) (stop t - start t) out₀ last ≡ tab m g
-    cut-last l q =
-        let same : step t ≡ block t = f.last l in
-        let wide : len t * step t ≡ len t * block t = ap (λ x. len t * x) same in
-        let room : stop t ≤ length out₀ = omega (arith, f.room, z.long) in
-        put-copied g (start t) (len t * block t) (stop t) out₀ out₀ _ zeros-first refl room r (origin t at) _ (pos 0) (omega arith) (omega (arith, f.inner))
-        (λ i h. cut-run t r at i l f.some same h)
-        q
-        ∙ zeros-last
+  -- The last window.
+  pub cut-last : {last : List ℤ} → length rest ≡ 0 → Fitting rest a.stride a.block
+      → last ≡ copied (take (a.first + a.width - a.first) (drop a.first r)) (take (a.start + a.width - a.start) (drop a.start out₀))
+      → put_mid a.start (a.start + a.width - a.start) out₀ last ≡ tab m g
+  cut-last {last} l p q = by rest e p (none rest l)
+    where
+      none : {A : Type 0} (xs : List A) → length xs ≡ 0 → xs ≡ []
+      none [] h = refl
+      none (x ∷ xs) h = absurd (omega arith)
 
-    -- A window before it: the part of position i.
-    module _ {i : ℕ} {out : List ℤ} (more : 5 < length t) (h : i < len t) (o : out ≡ filled g (start t + i * block t) out₀) where
-      abbrev here : ℕ
-      here = start t + i * block t
+      by : (w : List Axis) → t ≡ a ∷ w → Fitting w a.stride a.block → w ≡ [] → put_mid a.start (a.start + a.width - a.start) out₀ last ≡ tab m g
+      by (x ∷ w) d p n = absurd (let no : ⊥ = cc in no)
+      by [] d p n =
+          let wide : a.len * a.stride ≡ a.width = ap (λ x. a.len * x) p ∙ sym f.wide in
+          put-copied g a.start a.width (a.start + a.width) out₀ out₀ last zeros-first refl (omega (arith, f.room, z.long)) r a.first
+          (a.first + a.width) (pos 0) refl (omega (arith, f.inner)) (λ i h. ap (λ x. cut_at x r (a.start + i)) d ∙ cut-run f r i p h) q
+          ∙ zeros-last
 
-      abbrev part : List ℤ
-      part = take (here + block t - here) (drop here out)
+  -- A window before it: the part of position i.
+  module _ {i : ℕ} {out : List ℤ} (h : i < a.len) (o : out ≡ filled g (a.start + i * a.block) out₀) where
+    abbrev here : ℕ
+    here = a.start + i * a.block
 
-      part-wide : length part ≡ block t
-      part-wide = part_room out here (block t) m (cut-long (omega arith) o) (cut-room i h).0
+    abbrev there : ℕ
+    there = a.first + i * a.stride
 
-      -- The later windows fit it.
-      pub cut-rest : Fitting (later t) (origin t at + i * step t) (length r) (length part)
-      cut-rest =
-          let there : origin t at + i * step t ≡ at + (from t + i) * step t = omega arith in
-          rw (later-is t, there, part-wide) (f.rest more i h)
+    pub into-wide : length (take (here + a.block - here) (drop here out)) ≡ a.block
+    into-wide = part_room out here a.block m (cut-long (omega arith) o) (cut-room f i h).0
 
-      pub cut_step : {last : List ℤ} → last ≡ tab (length part) (cut_at (later t) r (origin t at + i * step t))
-          → put_mid here (here + block t - here) out last ≡ filled g (start t + (i + 1) * block t) out₀
-      cut_step {last} q =
-          let inner : last ≡ tab (block t) (cut_at (drop 5 t) r (origin t at + i * step t)) =
-          q ∙ ap₂ (λ x y. tab x (cut_at y r (origin t at + i * step t))) part-wide (later-is t) in
-          put-list g (pos 0) here (block t) _ out out₀ last o refl (ap length inner ∙ length-tab (block t) _)
-          (λ k s. cut_inside t r at i k f.five h s ∙ sym (ap (λ ys. get_or ys k (pos 0)) inner ∙ get_or-tab (block t) _ k (pos 0) s))
-          ∙ ap (λ x. filled g x out₀) (omega arith)
+    pub of-wide : length (take (there + a.stride - there) (drop there r)) ≡ a.stride
+    of-wide = part-long r there a.stride (cut-room f i h).1
+
+    -- The later windows fit it.
+    pub cut-rest : Fitting rest a.stride a.block
+        → Fitting rest (length (take (there + a.stride - there) (drop there r))) (length (take (here + a.block - here) (drop here out)))
+    cut-rest p = rw (of-wide, into-wide) p
+
+    pub cut_step : {last : List ℤ}
+        → last ≡ tab (length (take (here + a.block - here) (drop here out))) (cut_at rest (take (there + a.stride - there) (drop there r)))
+        → put_mid here (here + a.block - here) out last ≡ filled g (a.start + (i + 1) * a.block) out₀
+    cut_step {last} q =
+        let k : there + a.stride - there ≡ a.stride = omega arith in
+        let inner : last ≡ tab a.block (cut_at rest (part a r i)) = q ∙ ap₂ (λ x y. tab x (cut_at rest (take y (drop there r)))) into-wide k in
+        put-list g (pos 0) here a.block _ out out₀ last o refl (ap length inner ∙ length-tab a.block _)
+        (λ k s. is (here + k) ∙ cut_inside f rest r i k h s ∙ sym (ap (λ ys. get_or ys k (pos 0)) inner ∙ get_or-tab a.block _ k (pos 0) s))
+        ∙ ap (λ x. filled g x out₀) (omega arith)

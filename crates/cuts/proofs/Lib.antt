@@ -1,8 +1,8 @@
-pub mod Clearing
 pub mod Cutting
 pub mod Rows
 pub mod Tables
 pub mod Bridges
 pub mod Building
 pub mod Filling
+pub mod Over
 pub mod Calls

@@ -1,17 +1,22 @@
--- The table of windows, of either kind.
+-- The table of the axes, of either kind.
 use Prim.Native.Nat.{ℕ, zero, suc, ◌+◌, ◌*◌, ◌-◌, ◌/◌, ◌%◌, ◌≤◌, ◌<◌, min}
-use native.Mathlib.Nat.{mod-lt, div-add-mod', mul-le-mul_right}
+use native.Mathlib.Nat.{mod-lt, div-add-mod', mul-le-mul_right, le-div_iff_mul-le, div-lt_iff_lt-mul}
+use native.Mathlib.Decide.{dec_le, dec_lt}
 use native.Mathlib.Omega.{arith}
 use mathlib.Core.Path.{◌≡◌, refl, sym, ap, ◌∙◌}
 use mathlib.Core.List.{List, [], ◌∷◌}
-use mathlib.Core.Bool.{Bool, true, false, cond, ◌&&◌}
-use borrow.Author.Tests.{le-leb, lt-ltb}
+use mathlib.Core.Bool.{Bool, true, false, cond, ◌&&◌, and-false}
+use borrow.Author.Tests.{le-leb, lt-leb, lt-ltb, le-ltb}
+use lib.Arith.{digits_div, digits_mod}
 use lib.Dec.{leb, ltb}
-use lib.ListN.{length, get_or, take, drop, length-take}
+use lib.ListN.{length, get_or, take, drop}
+use lib.Seq.{take-nil, drop-nil}
 use lib.IntN.{ℤ, pos}
 use Rattle.shape.specs.Shape.{count}
-use Rattle.shape.proofs.Places.{row_in, row_fits}
+use Rattle.shape.proofs.Places.{row_in}
 use Rattle.shape.proofs.Counts.{factor}
+use Rattle.meaning.proofs.Tab.{get_or_part}
+use Rattle.cuts.specs.declared.Axis.{Axis}
 use Rattle.cuts.specs.declared.CutKind.{CutKind}
 use Rattle.cuts.specs.Steps.{cut_length, keeps_end, cut_lengths, table_of, cut_at, Fitting}
 
@@ -25,112 +30,134 @@ window-whole : (e : Bool) (m n : ℕ) → m ≡ n → (cond e (m - n) 0 ≡ 0) �
 window-whole true m n h = (omega arith, (omega arith, omega arith))
 window-whole false m n h = (refl, (refl, omega arith))
 
--- Five numbers more.
-five-more : (u : ℕ) → suc u * 5 ≡ suc (suc (suc (suc (suc (u * 5)))))
-five-more u = omega arith
-
 -- From an operand without elements come zeros.
-pub cut-empty : (t : List ℕ) (at j : ℕ) → cut_at t [] at j ≡ pos 0
+pub cut-empty : (t : List Axis) (j : ℕ) → cut_at t [] j ≡ pos 0
 unfolding cut_at
-cut-empty [] at j = refl
-cut-empty (_ ∷ []) at j = refl
-cut-empty (_ ∷ _ ∷ []) at j = refl
-cut-empty (_ ∷ _ ∷ _ ∷ []) at j = refl
-cut-empty (_ ∷ _ ∷ _ ∷ _ ∷ []) at j = refl
-cut-empty (a ∷ b ∷ c ∷ d ∷ e ∷ ws) at j = rw (cut-empty ws (at + (b + (j / e - a)) * d) (j % e)) (same (leb a (j / e) && ltb (j / e) (a + c)))
+cut-empty [] j = refl
+cut-empty (a ∷ rest) j =
+    let none : take a.stride (drop {A = ℤ} (a.first + (j - a.start) / a.block * a.stride) []) ≡ [] =
+    ap (take a.stride) (drop-nil (a.first + (j - a.start) / a.block * a.stride)) ∙ take-nil a.stride in
+    rw (none, cut-empty rest ((j - a.start) % a.block)) (same (leb a.start j && ltb j (a.start + a.width)))
   where
     same : (b : Bool) → cond b (pos 0) (pos 0) ≡ pos 0
     same true = refl
     same false = refl
 
+-- A window by positions, of c elements each, and not by elements.
+by-position : (f : ℕ → ℕ → ℤ) (lead len c j : ℕ) → 0 < c
+    → cond (leb (lead * c) j && ltb j (lead * c + len * c)) (f ((j - lead * c) / c) ((j - lead * c) % c)) (pos 0)
+    ≡ cond (leb lead (j / c) && ltb (j / c) (lead + len)) (f (j / c - lead) (j % c)) (pos 0)
+by-position f lead len c j p = by (dec_le lead (j / c)) (dec_lt (j / c) (lead + len))
+  where
+    by : Dec (lead ≤ j / c) → Dec (j / c < lead + len)
+        → cond (leb (lead * c) j && ltb j (lead * c + len * c)) (f ((j - lead * c) / c) ((j - lead * c) % c)) (pos 0)
+        ≡ cond (leb lead (j / c) && ltb (j / c) (lead + len)) (f (j / c - lead) (j % c)) (pos 0)
+    by (no h) d =
+        let k : j < lead * c = (div-lt_iff_lt-mul {k = c} {x = j} {y = lead} p).0 (omega arith) in
+        rw (lt-leb (lead * c) j k, lt-leb lead (j / c) (omega arith))
+    by (yes h) (no d) =
+        let k : (lead + len) * c ≤ j = (le-div_iff_mul-le {k = c} {x = lead + len} {y = j} p).0 (omega arith) in
+        rw (le-ltb j (lead * c + len * c) (omega arith), le-ltb (j / c) (lead + len) (omega arith), and-false (leb (lead * c) j), and-false (leb lead (j / c)))
+    by (yes h) (yes d) =
+        let low : lead * c ≤ j = (le-div_iff_mul-le {k = c} {x = lead} {y = j} p).0 h in
+        let high : j < (lead + len) * c = (div-lt_iff_lt-mul {k = c} {x = j} {y = lead + len} p).0 d in
+        let on : j / c ≡ lead + (j / c - lead) = omega arith in
+        let split : j - lead * c ≡ (j / c - lead) * c + j % c = let s = ap (λ x. x * c) on in omega (arith, div-add-mod' j c) in
+        let q : (j - lead * c) / c ≡ j / c - lead = ap (λ x. x / c) split ∙ digits_div (j / c - lead) (mod-lt j p) in
+        let m : (j - lead * c) % c ≡ j % c = ap (λ x. x % c) split ∙ digits_mod (j / c - lead) (mod-lt j p) in
+        rw (
+          q,
+          m,
+          le-leb (lead * c) j low,
+          lt-ltb j (lead * c + len * c) (omega arith),
+          le-leb lead (j / c) h,
+          lt-ltb (j / c) (lead + len) d,
+        )
+
 module _ (kind : CutKind) where
-  pub table-length : (zs : List ℤ) (ns : List ℕ) → length zs ≡ length ns → length (table_of kind zs ns) ≡ length ns * 5
-  unfolding table_of
-  table-length [] [] l = omega arith
-  table-length [] (n ∷ ns) l = absurd (omega arith)
-  table-length (z ∷ zs) [] l = absurd (omega arith)
-  table-length (z ∷ zs) (n ∷ ns) l = omega (arith, table-length zs ns (omega arith))
+  -- The first axis, by positions.
+  pub cut-at : (z : ℤ) (zs : List ℤ) (n : ℕ) (ns : List ℕ) (xs : List ℤ) (j : ℕ) → 0 < count (cut_lengths kind zs ns)
+      → cut_at (table_of kind (z ∷ zs) (n ∷ ns)) xs j
+      ≡ (let m : ℕ = cut_length kind z n in
+      let c : ℕ = count (cut_lengths kind zs ns) in
+      let lead : ℕ = cond (keeps_end kind z) (m - n) 0 in
+      cond (leb lead (j / c) && ltb (j / c) (lead + min m n))
+      (cut_at (table_of kind zs ns) (take (count ns) (drop ((cond (keeps_end kind z) (n - m) 0 + (j / c - lead)) * count ns) xs)) (j % c))
+      (pos 0))
+  unfolding cut_at table_of
+  cut-at z zs n ns xs j p =
+      let m : ℕ = cut_length kind z n in
+      let from : ℕ = cond (keeps_end kind z) (n - m) 0 in
+      let at : (i : ℕ) → from * count ns + i * count ns ≡ (from + i) * count ns = λ i. omega arith in
+      by-position (λ i k. cut_at (table_of kind zs ns) (take (count ns) (drop (from * count ns + i * count ns) xs)) k) (cond (keeps_end kind z) (m - n) 0)
+      (min m n) (count (cut_lengths kind zs ns)) j p
+      ∙ ap
+      (λ x.
+      cond
+      (leb (cond (keeps_end kind z) (m - n) 0) (j / count (cut_lengths kind zs ns))
+      && ltb (j / count (cut_lengths kind zs ns)) (cond (keeps_end kind z) (m - n) 0 + min m n))
+      (cut_at (table_of kind zs ns) (take (count ns) (drop x xs)) (j % count (cut_lengths kind zs ns)))
+      (pos 0))
+      (at (j / count (cut_lengths kind zs ns) - cond (keeps_end kind z) (m - n) 0))
+
+  pub cut-none : (xs : List ℤ) (j : ℕ) → cut_at (table_of kind [] []) xs j ≡ get_or xs j (pos 0)
+  unfolding cut_at table_of
+  cut-none xs j = refl
 
   -- Axes that are taken whole are a run.
-  pub cut-whole : (zs : List ℤ) (ns : List ℕ) (xs : List ℤ) (at j : ℕ) → length zs ≡ length ns → ns ≡ cut_lengths kind zs ns → j < count ns
-      → cut_at (table_of kind zs ns) xs at j ≡ get_or xs (at + j) (pos 0)
-  unfolding cut_at table_of cut_lengths count
-  cut-whole [] [] xs at j l e h = refl
-  cut-whole [] (n ∷ ns) xs at j l e h = absurd (omega arith)
-  cut-whole (z ∷ zs) [] xs at j l e h = absurd (omega arith)
-  cut-whole (z ∷ zs) (n ∷ ns) xs at j l e h =
+  pub cut-whole : (zs : List ℤ) (ns : List ℕ) (xs : List ℤ) (j : ℕ) → length zs ≡ length ns → ns ≡ cut_lengths kind zs ns → j < count ns
+      → cut_at (table_of kind zs ns) xs j ≡ get_or xs j (pos 0)
+  unfolding cut_lengths count
+  cut-whole [] [] xs j l e h = cut-none xs j
+  cut-whole [] (n ∷ ns) xs j l e h = absurd (omega arith)
+  cut-whole (z ∷ zs) [] xs j l e h = absurd (omega arith)
+  cut-whole (z ∷ zs) (n ∷ ns) xs j l e h =
       let m : ℕ = cut_length kind z n in
       let head : m ≡ n = cc in
       let tail : ns ≡ cut_lengths kind zs ns = cc in
       let w = window-whole (keeps_end kind z) m n head in
       let r = row_in n (count ns) j h in
       let off : 0 + (j / count ns - 0) ≡ j / count ns = omega arith in
-      let to : at + j / count ns * count ns + j % count ns ≡ at + j = omega (arith, div-add-mod' j (count ns)) in
-      rw (w.0, w.1.0, w.1.1, ← tail, le-leb 0 (j / count ns) (omega arith), lt-ltb (j / count ns) (0 + n) (omega (arith, r.1)), off)
-      (cut-whole zs ns xs (at + j / count ns * count ns) (j % count ns) (omega arith) tail (mod-lt j r.0) ∙ ap (λ x. get_or xs x (pos 0)) to)
+      let to : j / count ns * count ns + j % count ns ≡ j = omega (arith, div-add-mod' j (count ns)) in
+      let some : 0 < count (cut_lengths kind zs ns) = rw (← tail) r.0 in
+      cut-at z zs n ns xs j some
+      ∙ rw (w.0, w.1.0, w.1.1, ← tail, le-leb 0 (j / count ns) (omega arith), lt-ltb (j / count ns) (0 + n) (omega (arith, r.1)), off)
+      (cut-whole zs ns (take (count ns) (drop (j / count ns * count ns) xs)) (j % count ns) (omega arith) tail (mod-lt j r.0)
+      ∙ get_or_part xs (j / count ns * count ns) (count ns) (j % count ns) (pos 0) (mod-lt j r.0)
+      ∙ ap (λ x. get_or xs x (pos 0)) to)
 
-  -- So the windows up to the last axis that is not taken whole are enough.
-  pub cut-front : (u : ℕ) (zs : List ℤ) (ns : List ℕ) (xs : List ℤ) (at j : ℕ) → length zs ≡ length ns → drop u ns ≡ drop u (cut_lengths kind zs ns)
-      → j < count (cut_lengths kind zs ns) → cut_at (take (u * 5) (table_of kind zs ns)) xs at j ≡ cut_at (table_of kind zs ns) xs at j
+  -- So the axes up to the last that is not taken whole are enough.
+  pub cut-front : (u : ℕ) (zs : List ℤ) (ns : List ℕ) (xs : List ℤ) (j : ℕ) → length zs ≡ length ns → drop u ns ≡ drop u (cut_lengths kind zs ns)
+      → j < count (cut_lengths kind zs ns) → cut_at (take u (table_of kind zs ns)) xs j ≡ cut_at (table_of kind zs ns) xs j
   unfolding cut_at table_of cut_lengths count
-  cut-front zero zs ns xs at j l e h = sym (cut-whole zs ns xs at j l e (rw (← e) at h))
-  cut-front (suc u) [] [] xs at j l e h = rw (five-more u)
-  cut-front (suc u) [] (n ∷ ns) xs at j l e h = absurd (omega arith)
-  cut-front (suc u) (z ∷ zs) [] xs at j l e h = absurd (omega arith)
-  cut-front (suc u) (z ∷ zs) (n ∷ ns) xs at j l e h =
+  cut-front zero zs ns xs j l e h = sym (cut-whole zs ns xs j l e (rw (← e) at h))
+  cut-front (suc u) [] ns xs j l e h = refl
+  cut-front (suc u) (z ∷ zs) [] xs j l e h = absurd (omega arith)
+  cut-front (suc u) (z ∷ zs) (n ∷ ns) xs j l e h =
       let m : ℕ = cut_length kind z n in
-      let ms : List ℕ = cut_lengths kind zs ns in
-      let lead : ℕ = cond (keeps_end kind z) (m - n) 0 in
-      let i : ℕ = j / count ms in
-      rw (five-more u)
-      (ap (λ x. cond (leb lead i && ltb i (lead + min m n)) x (pos 0))
-      (cut-front u zs ns xs (at + (cond (keeps_end kind z) (n - m) 0 + (i - lead)) * count ns) (j % count ms) (omega arith) e
-      (mod-lt j (row_in m (count ms) j h).0)))
+      let c : ℕ = count (cut_lengths kind zs ns) in
+      let start : ℕ = cond (keeps_end kind z) (m - n) 0 * c in
+      ap (λ x. cond (leb start j && ltb j (start + min m n * c)) x (pos 0))
+      (cut-front u zs ns _ ((j - start) % c) (omega arith) e (mod-lt (j - start) (row_in m c j h).0))
 
-  pub table_fits : {N : ℕ} (u : ℕ) (zs : List ℤ) (ns : List ℕ) (at : ℕ) → length zs ≡ length ns → suc u ≤ length ns → 0 < count (cut_lengths kind zs ns)
-      → 0 < count ns → at + count ns ≤ N → drop (suc u) ns ≡ drop (suc u) (cut_lengths kind zs ns)
-      → Fitting (take (suc u * 5) (table_of kind zs ns)) at N (count (cut_lengths kind zs ns))
+  pub table_fits : (u : ℕ) (zs : List ℤ) (ns : List ℕ) → length zs ≡ length ns → u ≤ length ns → 0 < count (cut_lengths kind zs ns)
+      → 0 < count ns → drop u ns ≡ drop u (cut_lengths kind zs ns) → Fitting (take u (table_of kind zs ns)) (count ns) (count (cut_lengths kind zs ns))
   unfolding table_of cut_lengths count
-  table_fits u [] [] at l k p o h e = absurd (omega arith)
-  table_fits u [] (n ∷ ns) at l k p o h e = absurd (omega arith)
-  table_fits u (z ∷ zs) [] at l k p o h e = absurd (omega arith)
-  table_fits zero (z ∷ zs) (n ∷ ns) at l k p o h e =
+  table_fits zero zs ns l k p o e = ap count e
+  table_fits (suc u) [] ns l k p o e = absurd (omega arith)
+  table_fits (suc u) (z ∷ zs) [] l k p o e = absurd (omega arith)
+  table_fits (suc u) (z ∷ zs) (n ∷ ns) l k p o e =
       let m : ℕ = cut_length kind z n in
       let w = window-room (keeps_end kind z) m n in
-      let f = factor m (count (cut_lengths kind zs ns)) _ refl p in
-      let taken-some : 0 < min m n = omega (arith, f.0, (factor n (count ns) _ refl o).0) in (
-        f.1,
-        (
-          mul-le-mul_right (count (cut_lengths kind zs ns)) w.0,
-          (omega (arith, mul-le-mul_right (count ns) w.1), ((λ q. ap count e), ((λ q. absurd (omega (arith, q))), taken-some))),
-        ),
-      )
-  table_fits (suc u) (z ∷ zs) (n ∷ ns) at l k p o h e =
-      let m : ℕ = cut_length kind z n in
-      let w = window-room (keeps_end kind z) m n in
-      let from : ℕ = cond (keeps_end kind z) (n - m) 0 in
       let f = factor m (count (cut_lengths kind zs ns)) _ refl p in
       let g = factor n (count ns) _ refl o in
-      let taken-some : 0 < min m n = omega (arith, f.0, g.0) in
-      rw (five-more (suc u)) (
-        f.1,
-        (
-          mul-le-mul_right (count (cut_lengths kind zs ns)) w.0,
-          (
-            omega (arith, mul-le-mul_right (count ns) w.1),
-            (
-              (λ q. absurd (none zs ns (omega arith) (omega arith) q)),
-              (
-                (λ q i s.
-                    table_fits u zs ns (at + (from + i) * count ns) (omega arith) (omega arith) f.1 g.1
-                    (omega (arith, row_fits (from + i) n (count ns) (omega (arith, w.1))))
-                    e),
-                taken-some,
-              ),
-            ),
-          ),
-        ),
+      let taken : 0 < min m n = omega (arith, f.0, g.0) in (
+        record {
+          some = f.1;
+          more = taken;
+          wide = refl;
+          room = omega (arith, mul-le-mul_right (count (cut_lengths kind zs ns)) w.0);
+          inner = omega (arith, mul-le-mul_right (count ns) w.1);
+        },
+        table_fits u zs ns (omega arith) (omega arith) f.1 g.1 e,
       )
-    where
-      none : (zs : List ℤ) (ns : List ℕ) → length zs ≡ length ns → suc u ≤ length ns → length (take (suc u * 5) (table_of kind zs ns)) ≡ 0 → ⊥
-      none zs ns l k q = omega (arith, q, length-take (suc u * 5) (table_of kind zs ns), table-length zs ns l)

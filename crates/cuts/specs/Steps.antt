@@ -1,11 +1,14 @@
 -- What the contracts of private functions cite: 23 and 24 by their kind, a window on each axis, and what a result holds through it.
 use Rattle.std.specs.Prelude.{ℕ, ◌+◌, ◌*◌, ◌-◌, ◌/◌, ◌%◌, ◌<◌, ◌≤◌, min, ◌≡◌, List, [], ◌∷◌, Bool, false, not, cond, ◌&&◌, length, get_or, take}
-use Rattle.std.specs.Prelude.{replicate, eqb, leb, ltb, ℤ, pos, nat_abs}
+use Rattle.std.specs.Prelude.{replicate, eqb, leb, ltb, ℤ, pos, nat_abs, drop, Result, Ok, Err}
 use Rattle.shape.specs.Shape.{max_rank, max_count, count, shape_of}
 use Rattle.shape.specs.declared.Shape.{Shape}
 use Rattle.cuts.specs.declared.CutKind.{CutKind}
 use Rattle.cuts.specs.declared.CutKind.TheVariants.{Take, Drop}
 use Rattle.cuts.specs.declared.Window.{Window}
+use Rattle.cuts.specs.declared.Axis.{Axis}
+use Rattle.answer.specs.declared.refusal.Refusal as code
+use Rattle.answer.specs.declared.refusal.Refusal.TheVariants as coded
 use Rattle.meaning.specs.Array.{Array}
 use Rattle.meaning.specs.Terms.{negative}
 use Rattle.meaning.specs.Primitives.{Meaning, takes, drops}
@@ -37,10 +40,9 @@ cut_lengths kind [] ns = []
 cut_lengths kind (z ∷ zs) [] = []
 cut_lengths kind (z ∷ zs) (n ∷ ns) = cut_length kind z n ∷ cut_lengths kind zs ns
 
--- The shape of a result by the numbers of l: it has an axis for each and, where a shape can have so many, the lengths that they leave.
-pub record CutShape (kind : CutKind) (lens : List ℕ) (l : List ℤ) (s : Shape) : Type 0 where
-  pub rank_is : s.rank ≡ length l
-  pub made : length l ≤ max_rank → s ≡ shape_of (cut_lengths kind l (take (length l) lens))
+-- The shape of a result by the numbers of l, which has an axis for each; LIMIT for more of them than a shape can have.
+abbrev pub cut_shape : CutKind → List ℤ → List ℕ → Result Shape code.Refusal
+cut_shape kind l lens = cond (leb (length l) max_rank) (Ok (shape_of (cut_lengths kind l (take (length l) lens)))) (Err coded.Limit)
 
 -- The window of an axis.
 abbrev pub window_of : CutKind → ℤ → ℕ → Window
@@ -48,56 +50,49 @@ window_of kind z n =
     let m : ℕ = cut_length kind z n in
     record { lead = cond (keeps_end kind z) (m - n) 0; from = cond (keeps_end kind z) (n - m) 0; len = min m n; size = m }
 
--- Five numbers for each axis: the zeros before, the first position that is taken, how many are taken, and how many elements
--- a position has in R and in the result.
-unfoldable pub table_of : CutKind → List ℤ → List ℕ → List ℕ
+-- Each axis: the window in elements, how many positions it has, and how many elements a position has in R and in the result.
+unfoldable pub table_of : CutKind → List ℤ → List ℕ → List Axis
 table_of kind [] ns = []
 table_of kind (z ∷ zs) [] = []
 table_of kind (z ∷ zs) (n ∷ ns) =
-    (window_of kind z n).lead
-    ∷ (window_of kind z n).from
-    ∷ (window_of kind z n).len
-    ∷ count ns
-    ∷ count (cut_lengths kind zs ns)
+    let w : Window = window_of kind z n in
+    let block : ℕ = count (cut_lengths kind zs ns) in
+    record { start = w.lead * block; width = w.len * block; first = w.from * count ns; len = w.len; stride = count ns; block = block }
     ∷ table_of kind zs ns
 
--- Element j of a result: r is the operand and `at` where the part that is looked at starts in it. Without a window it is a run.
-unfoldable pub cut_at : List ℕ → List ℤ → ℕ → ℕ → ℤ
-cut_at [] r at j = get_or r (at + j) (pos 0)
-cut_at (_ ∷ []) r at j = pos 0
-cut_at (_ ∷ _ ∷ []) r at j = pos 0
-cut_at (_ ∷ _ ∷ _ ∷ []) r at j = pos 0
-cut_at (_ ∷ _ ∷ _ ∷ _ ∷ []) r at j = pos 0
-cut_at (lead ∷ from ∷ len ∷ step ∷ block ∷ rest) r at j =
-    cond (leb lead (j / block) && ltb (j / block) (lead + len))
-    (cut_at rest r (at + (from + (j / block - lead)) * step) (j % block))
+-- Element j of a result whose operand is r: where the first axis's window has it, at its place in the part of r that its position has. Without an
+-- axis it is a run.
+unfoldable pub cut_at : List Axis → List ℤ → ℕ → ℤ
+cut_at [] r j = get_or r j (pos 0)
+cut_at (a ∷ rest) r j =
+    cond (leb a.start j && ltb j (a.start + a.width))
+    (cut_at rest (take a.stride (drop (a.first + (j - a.start) / a.block * a.stride) r)) ((j - a.start) % a.block))
     (pos 0)
 
--- Windows that fit a part of an operand of n elements, from `at` on, and a result of m: after the last of them come runs.
-abbrev pub Fitting : List ℕ → ℕ → ℕ → ℕ → Type 0
-Fitting [] at n m = ⊥
-Fitting (_ ∷ []) at n m = ⊥
-Fitting (_ ∷ _ ∷ []) at n m = ⊥
-Fitting (_ ∷ _ ∷ _ ∷ []) at n m = ⊥
-Fitting (_ ∷ _ ∷ _ ∷ _ ∷ []) at n m = ⊥
-Fitting (lead ∷ from ∷ len ∷ step ∷ block ∷ rest) at n m =
-    (0 < block)
-    × (((lead + len) * block ≤ m)
-    × ((at + (from + len) * step ≤ n)
-    × ((length rest ≡ 0 → step ≡ block)
-    × ((0 < length rest → (i : ℕ) → i < len → Fitting rest (at + (from + i) * step) n block)
-    × (0 < len)))))
+-- A window that fits an operand of n elements and a result of m.
+pub record Within (a : Axis) (n m : ℕ) : Type 0 where
+  pub some : 0 < a.block
+  pub more : 0 < a.len
+  pub wide : a.width ≡ a.len * a.block
+  pub room : a.start + a.width ≤ m
+  pub inner : a.first + a.len * a.stride ≤ n
 
--- A buffer of n elements with zeros before `start` and from `stop` on, and between as well unless whole rows come there.
-pub record Blank (whole : Bool) (start stop n : ℕ) (out : List ℤ) : Type 0 where
+-- And those of the later axes fit what a position has.
+abbrev pub Fitting : List Axis → ℕ → ℕ → Type 0
+Fitting [] n m = n ≡ m
+Fitting (a ∷ rest) n m = Within a n m × Fitting rest a.stride a.block
+
+-- A buffer of n elements with zeros before a window and after it, and between as well unless whole rows come there.
+pub record Blank (whole : Bool) (a : Axis) (n : ℕ) (out : List ℤ) : Type 0 where
   pub long : length out ≡ n
-  pub before : (j : ℕ) → j < start → get_or out j (pos 0) ≡ pos 0
-  pub after : (j : ℕ) → stop ≤ j → j < n → get_or out j (pos 0) ≡ pos 0
+  pub before : (j : ℕ) → j < a.start → get_or out j (pos 0) ≡ pos 0
+  pub after : (j : ℕ) → a.start + a.width ≤ j → j < n → get_or out j (pos 0) ≡ pos 0
   pub between : whole ≡ false → (j : ℕ) → j < n → get_or out j (pos 0) ≡ pos 0
 
 -- What is known of a cut with elements: l has a number for each axis, lens the lengths that are read, and neither R nor the result is empty.
 pub record Nonempty (kind : CutKind) (lens : List ℕ) (l : List ℤ) : Type 0 where
   pub high : length l ≤ max_rank
+  pub long : length lens ≡ max_rank
   pub some : 0 < count (take (length l) lens)
   pub small : count (take (length l) lens) ≤ max_count
   pub result : 0 < count (cut_lengths kind l (take (length l) lens))
@@ -106,7 +101,8 @@ pub record Nonempty (kind : CutKind) (lens : List ℕ) (l : List ℤ) : Type 0 w
 -- The same of any cut: ms are the result's lengths, n and m the counts of R and of the result.
 pub record Parts (kind : CutKind) (lens ms : List ℕ) (l : List ℤ) (n m : ℕ) : Type 0 where
   pub high : length l ≤ max_rank
-  pub made : take (length l) ms ≡ cut_lengths kind l (take (length l) lens)
+  pub long : length lens ≡ max_rank
+  pub made : ms ≡ cut_lengths kind l (take (length l) lens)
   pub source : n ≡ count (take (length l) lens)
   pub small : n ≤ max_count
   pub result : m ≡ count (cut_lengths kind l (take (length l) lens))

@@ -1,45 +1,29 @@
-use Rattle.std.proofs.Common.{◌≡◌, ◌<◌, sym, arith, length, get_or}
-use lib.Arith.{lt_of_le-ne}
-use Rattle.cuts.proofs.Cutting.{Fits, window-fits, later-long, cut-room, cut-rest, cut-long, cut-begin, cut-end, cut-last, cut_step}
+use Rattle.std.proofs.Common.{◌≡◌, arith, length, rules}
+use Rattle.cuts.proofs.Cutting.{cut-begin, cut-end, cut-last, cut_step, cut-nothing, fits_on}
 use Rattle.cuts.proofs.+cut.Goals as goal
 
-pub returns-then-rest-eq-WIDTH : goal.returns-then-rest-eq-WIDTH
-returns-then-rest-eq-WIDTH t c =
-    let k : Fits c.args.table.now c.args.at (length c.args.r.now) (length c.args.out.now) = window-fits _ _ _ _ c.requires in
-    cut-last c.args.r.now k c.clear_outside.ensures c.if-rest-eq-WIDTH.true c.copy_run.ensures
+pub returns-in_default : goal.returns-in_default
+returns-in_default t c = cut-nothing c.args.table.now c.args.r.now c.args.out.now c.in_default.ensures.cases c.requires c.copy_run.ensures
+
+pub returns-then-is_empty : goal.returns-then-is_empty
+returns-then-is_empty t c =
+    let e = c.in-Some.ensures.cases.0 in
+    let f = fits_on e c.requires in
+    let none : length c.in-Some.rest.now ≡ 0 = search rules in
+    cut-last e c.args.r.now f.0 c.clear_outside.ensures none f.1 c.copy_run-then-is_empty.ensures
 
 pub loop-i-init : goal.loop-i-init
 loop-i-init t c =
-    let k : Fits c.args.table.now c.args.at (length c.args.r.now) (length c.args.out.now) = window-fits _ _ _ _ c.requires in
-    cut-begin c.args.r.now k c.clear_outside.ensures
-
-pub overflow_add-first-in-loop-i : goal.overflow_add-first-in-loop-i
-overflow_add-first-in-loop-i t c =
-    let k : Fits c.args.table.now c.args.at (length c.args.r.now) (length c.args.out.now) = window-fits _ _ _ _ c.requires in
-    omega (arith, (cut-room c.args.r.now k c.loop-i.i c.loop-i-test.true).1)
-
-pub slice_bounds-cut-end-in-loop-i : goal.slice_bounds-cut-end-in-loop-i
-slice_bounds-cut-end-in-loop-i t c =
-    let k : Fits c.args.table.now c.args.at (length c.args.r.now) (length c.args.out.now) = window-fits _ _ _ _ c.requires in
-    let long = cut-long c.args.r.now k c.clear_outside.ensures (omega arith) c.loop-i.invariant in
-    omega (arith, (cut-room c.args.r.now k c.loop-i.i c.loop-i-test.true).0, long)
-
-pub cut-requires : goal.cut-requires
-cut-requires t c =
-    let k : Fits c.args.table.now c.args.at (length c.args.r.now) (length c.args.out.now) = window-fits _ _ _ _ c.requires in
-    let m : 5 < length c.args.table.now = lt_of_le-ne k.five (λ e. c.if-rest-eq-WIDTH.false (sym e)) in (
-      omega (arith, c.decreases, later-long c.args.table.now, m),
-      cut-rest c.args.r.now k c.clear_outside.ensures m c.loop-i-test.true c.loop-i.invariant,
-    )
+    let e = c.in-Some.ensures.cases.0 in
+    cut-begin e c.args.r.now (fits_on e c.requires).0 c.clear_outside.ensures
 
 pub loop-i-preserved : goal.loop-i-preserved
 loop-i-preserved t c =
-    let k : Fits c.args.table.now c.args.at (length c.args.r.now) (length c.args.out.now) = window-fits _ _ _ _ c.requires in
-    let m : 5 < length c.args.table.now = lt_of_le-ne k.five (λ e. c.if-rest-eq-WIDTH.false (sym e)) in
-    cut_step c.args.r.now k c.clear_outside.ensures m c.loop-i-test.true c.loop-i.invariant c.cut.ensures
+    let e = c.in-Some.ensures.cases.0 in
+    cut_step e c.args.r.now (fits_on e c.requires).0 c.clear_outside.ensures c.loop-i-test.true c.loop-i.invariant c.cut.ensures
 
 pub returns : goal.returns
 returns t c =
-    let k : Fits c.args.table.now c.args.at (length c.args.r.now) (length c.args.out.now) = window-fits _ _ _ _ c.requires in
-    let all : c.loop-i.i ≡ get_or c.args.table.now 2 0 = omega arith in
-    cut-end c.args.r.now k c.clear_outside.ensures all c.loop-i.invariant
+    let e = c.in-Some.ensures.cases.0 in
+    let all : c.loop-i.i ≡ c.in-Some.axis.now.len = omega arith in
+    cut-end e c.args.r.now (fits_on e c.requires).0 c.clear_outside.ensures all c.loop-i.invariant

@@ -7,4 +7,4 @@ abbrev pub decreases-cut : goal.decreases-cut
 decreases-cut l = length l.table.now
 
 abbrev pub invariant-loop-i : goal.invariant-loop-i
-invariant-loop-i l = l.out ≡ filled (cut_at l.table l.r l.at) (l.start + l.i * l.block) l.initial.out
+invariant-loop-i l = l.out ≡ filled (cut_at l.table l.r) (l.axis.start + l.i * l.axis.block) l.initial.out
