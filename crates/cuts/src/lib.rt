@@ -281,12 +281,18 @@ fn cut_rows(rows: &Axis, runs: &Axis, r: &[i32], out: &mut [i32])
     ensures { out.new ≡ tab (length out.old) (cut_at (rows.now ∷ (runs.now ∷ [])) r.now) }
 {
     clear_rows(rows, runs.width, out);
-    let width = runs.width;
     let from = rows.first + runs.first;
     let to = rows.start + runs.start;
-    for i in 0..rows.len {
-        let a = from + i * rows.stride;
-        let c = to + i * rows.block;
+    let width = runs.width;
+    let Axis {
+        len,
+        stride,
+        block,
+        ..
+    } = *rows;
+    for i in 0..len {
+        let a = from + i * stride;
+        let c = to + i * block;
         copying::copy_run(&r[a..a + width], &mut out[c..c + width]);
     }
 }
