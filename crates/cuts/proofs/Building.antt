@@ -11,7 +11,7 @@ use lib.IntN.{ℤ, pos}
 use mir.Syntax.{w32}
 use mir.Val.{SFits, to_z, of_z}
 use Rattle.signed.proofs.Reading.{read32}
-use Rattle.std.specs.Prelude.{Result, Ok}
+use Rattle.std.specs.Prelude.{Result, Ok, slice_index}
 use Rattle.std.proofs.lemmas.List.{drop-set}
 use Rattle.shape.specs.declared.Shape.{Shape}
 use Rattle.shape.specs.Shape.{max_rank, max_count, count}
@@ -89,14 +89,15 @@ lengths-all kind l lens {xs} {i} w h e o =
     rw (le-leb (length l) max_rank h)
     (ap₂ (λ x y. Ok (record { rank = x; lens = y })) (sym long) (o ∙ rw (e, take_all (length l) ms (omega (arith, long)), long)))
 
--- Two lists of lengths that are the same from one axis on are so from the axis before it, if that is the same.
-pub same_more : (lens result : List ℕ) {i : ℕ} → 0 < i → i ≤ length lens → length lens ≡ length result → drop i lens ≡ drop i result
-    → get_or lens (i - 1) 0 ≡ get_or result (i - 1) 0 → drop (i - 1) lens ≡ drop (i - 1) result
-same_more lens result {i} p h e s q =
-    let k : ℕ = i - 1 in
-    let next : suc k ≡ i = omega arith in
-    let s' : drop (suc k) lens ≡ drop (suc k) result = rw next s in
-    drop-cons lens k 0 (omega arith) ∙ ap₂ (λ x xs. x ∷ xs) q s' ∙ sym (drop-cons result k 0 (omega arith))
+-- Two lists of lengths that are the same from axis u on.
+pub drop_same : (u : ℕ) (ns ms : List ℕ) → length ns ≡ length ms → ((k : ℕ) → u ≤ k → k < length ns → slice_index ns k ≡ slice_index ms k)
+    → drop u ns ≡ drop u ms
+drop_same u [] [] l h = refl
+drop_same u [] (m ∷ ms) l h = absurd (omega arith)
+drop_same u (n ∷ ns) [] l h = absurd (omega arith)
+drop_same zero (n ∷ ns) (m ∷ ms) l h =
+    ap₂ (λ x xs. x ∷ xs) (h 0 (omega arith) (omega arith)) (drop_same zero ns ms (omega arith) (λ k a b. h (suc k) (omega arith) (omega arith)))
+drop_same (suc u) (n ∷ ns) (m ∷ ms) l h = drop_same u ns ms (omega arith) (λ k a b. h (suc k) (omega arith) (omega arith))
 
 -- An entry that is stored: it and what stood after it.
 pub stored : {A : Type 0} (t : List A) (k n : ℕ) (v : A) → k < n → n ≤ length t → drop k (take n (set t k v)) ≡ v ∷ drop (k + 1) (take n t)

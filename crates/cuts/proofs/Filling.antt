@@ -12,7 +12,8 @@ use Rattle.copying.proofs.Runs.{tab-is}
 use Rattle.cuts.specs.declared.Axis.{Axis}
 use Rattle.cuts.specs.declared.CutKind.{CutKind}
 use Rattle.cuts.specs.Steps.{cut_lengths, table_of, cut_at, Fitting, Nonempty, Parts}
-use Rattle.cuts.proofs.Building.{lengths-long}
+use Rattle.cuts.proofs.Building.{lengths-long, drop_same}
+use Rattle.std.specs.Prelude.{slice_index}
 use Rattle.cuts.proofs.Tables.{cut-empty, cut-front, table_fits}
 
 pub fill_none : (out : List ℤ) (g : ℕ → ℤ) → length out ≡ 0 → out ≡ tab (length out) g
@@ -47,10 +48,13 @@ module _ {kind : CutKind} {lens res : List ℕ} {l : List ℤ} {n m : ℕ} (p : 
   res-long = ap length p.made ∙ lengths-long kind l ns (sym long) ∙ long
 
   -- Its first u axes, up to the last that is not taken whole.
-  module _ {u : ℕ} (below : u ≤ length (take (length res) lens)) (tail : drop u (take (length res) lens) ≡ drop u res) (table : List Axis)
+  module _ {u : ℕ} (below : u ≤ length (take (length res) lens))
+      (tail : (k : ℕ) → u ≤ k → k < length (take (length res) lens) → slice_index (take (length res) lens) k ≡ slice_index res k) (table : List Axis)
       (t : take (length l) table ≡ table_of kind l ns) where
     tail-is : drop u ns ≡ drop u (cut_lengths kind l ns)
-    tail-is = rw res-long at tail ∙ ap (drop u) p.made
+    tail-is =
+        let all : length (take (length res) lens) ≡ length res = length-take-le (length res) lens (omega (arith, res-long, p.long, p.high)) in
+        (rw res-long at (drop_same u (take (length res) lens) res all tail)) ∙ ap (drop u) p.made
 
     few : u ≤ length ns
     few = rw res-long at below

@@ -1,7 +1,7 @@
 // Take and drop: on each axis of the result a window of R's positions, and zeros outside it.
 #![tactic(auto)]
 
-ghost use Rattle.std.specs.Prelude.{◌≡◌, true, eqb, [], ◌∷◌, ◌+◌, ◌≤◌, ℤ, pos, length, take, drop, IfOk};
+ghost use Rattle.std.specs.Prelude.{◌≡◌, true, eqb, [], ◌∷◌, ◌+◌, ◌≤◌, ◌<◌, ℕ, ℤ, pos, length, take, drop, slice_index, IfOk};
 ghost use Rattle.meaning.specs.Array.{array_of, tab};
 ghost use Rattle.meaning.specs.Reply.{reply};
 ghost use Rattle.answer.specs.Answer.{own, Replied};
@@ -213,14 +213,11 @@ impl CutCall<'_> {
 // How many axes there are up to the last that is not taken whole.
 fn cut_axes(lens: &[usize], res: &[usize]) -> usize
     requires { length lens.now ≡ length res.now }
-    ensures { (result ≤ length lens.now) × (drop result lens.now ≡ drop result res.now) }
+    ensures { (result ≤ length lens.now) × ((k : ℕ) → result ≤ k → k < length lens.now → slice_index lens.now k ≡ slice_index res.now k) }
 {
-    for axis in (0..res.len()).rev() {
-        if lens[axis] != res[axis] {
-            return axis + 1;
-        }
-    }
-    0
+    (0..res.len())
+        .rposition(|axis| lens[axis] != res[axis])
+        .map_or(0, |axis| axis + 1)
 }
 
 // The window of an axis in elements: where it starts in the result and how many it has there, and where it starts in R. Then how many positions it has,
