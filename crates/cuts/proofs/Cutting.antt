@@ -84,7 +84,9 @@ module _ {t : List Axis} {a : Axis} {rest : List Axis} (e : t ≡ a ∷ rest) (r
 
   pub cut-long : {i : ℕ} {out : List ℤ} → i ≤ a.len → out ≡ filled g (a.start + i * a.block) out₀ → length out ≡ m
   cut-long {i} h o =
-      ap length o ∙ length-filled g (a.start + i * a.block) out₀ (omega (arith, f.room, f.wide, z.long, mul-le-mul_right {m = i} {n = a.len} a.block h)) ∙ z.long
+      ap length o
+      ∙ length-filled g (a.start + i * a.block) out₀ (omega (arith, f.room, f.wide, z.long, mul-le-mul_right {m = i} {n = a.len} a.block h))
+      ∙ z.long
 
   zeros-first : out₀ ≡ filled g a.start out₀
   zeros-first =

@@ -16,16 +16,24 @@ use Rattle.meaning.specs.Array.{Operand, Array, array_of, good_form, build}
 use Rattle.meaning.specs.Refusal.{number, precedence}
 use Rattle.meaning.specs.Refusal.Refusal.{RANK, LENGTH, DOMAIN}
 use Rattle.meaning.specs.Terms.{int_same, is_list, negative, every}
-use Rattle.meaning.specs.Primitives.{lengths_of, ravel, interval, reshape}
-use Rattle.meaning.specs.Reply.{primitives, named}
+use Rattle.meaning.specs.Primitives.{Meaning, lengths_of, ravel, interval, reshape}
+use Rattle.meaning.specs.Reply.{primitives, named, reply}
 use Rattle.meaning.proofs.Arrays.{form-shape, form-whole}
 use Rattle.meaning.proofs.Tab.{tab-ext, tab-get_or}
 use Rattle.copying.specs.Steps.{filled}
 use Rattle.copying.specs.Runs.{copied}
 use Rattle.copying.proofs.Runs.{copied-fits}
-use Rattle.answer.specs.Answer.{lent, early, own}
+use Rattle.answer.specs.Answer.{lent, early, own, Replied}
 use Rattle.answer.proofs.Lent.{Lent, axis-is, FineOne, early-fine}
-use Rattle.answer.proofs.Order.{Names, own_first, Ready}
+use Rattle.answer.proofs.Order.{early_of, Names, own_first, early-replied, Ready}
+use Rattle.answer.proofs.Early.{early-read}
+use Rattle.answer.proofs.Exits.{exit}
+use Rattle.answer.specs.Refused.{asked, answered}
+use Rattle.answer.specs.declared.refusal.Refusal as code
+use Rattle.std.specs.Prelude.{Result, Err}
+use Rattle.std.specs.Result.{IsErrAnd}
+use mir.Syntax.{w32}
+use mir.Val.{SFits, to_z, of_z}
 use Rattle.vectors.specs.Steps.{cycled}
 use Rattle.vectors.proofs.Vector.{Vector, vector-stands, vector-counted}
 
@@ -45,6 +53,12 @@ module _ (G K : ℤ) (L R : Operand) where
   pub reshape-names : Names 21 2 G K L R (reshape (array_of L) (array_of R))
   unfolding primitives named int_same reshape precedence
   reshape-names = record { number = refl; arity = refl; meaning = refl; own = refl }
+
+-- FORM and ORIGIN, as `?` hands them on.
+pub early-exit : {n operands : ℕ} {G K : ℤ} {L R : Operand} {m : Meaning} → Names n operands G K L R m → SFits w32 G → (out : List ℤ) → {A : Type 0}
+    {x : Result A code.Refusal} {d : code.Refusal} → asked x ≡ early_of operands (to_z w32 (of_z w32 G)) L R → x ≡ Err d
+    → (r : Result Shape code.Refusal) → IsErrAnd r (λ y. y ≡ d) → Replied (answered r) out (reply (pos n) G K L R out)
+early-exit names f out {x = x} is was r h = early-replied names out (exit was r h) (early-read f x _ is)
 
 -- The number whose interval 13 gives.
 abbrev pub ends : Array → ℤ

@@ -48,7 +48,9 @@ unfolding copied
 runs-first src out i p e = record {
   some = omega arith;
   begun = λ h. omega arith;
-  whole = λ h. let all : i ≡ length src = omega arith in rw all (ap (λ k. k % length src) (sym (zero-add (length src))) ∙ add-mod_right 0 (length src) ∙ zero-mod (length src));
+  whole = λ h.
+      let all : i ≡ length src = omega arith in
+      rw all (ap (λ k. k % length src) (sym (zero-add (length src))) ∙ add-mod_right 0 (length src) ∙ zero-mod (length src));
   fill =
       ap (λ k. take k src ++ drop k out) (sym e)
       ∙ ap (λ ys. ys ++ drop i out)

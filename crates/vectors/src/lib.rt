@@ -3,7 +3,7 @@
 
 ghost use Rattle.std.specs.Prelude.{◌≡◌, true, not, map, ◌≤◌, ◌<◌, length, get_or, ℤ, pos, nat_abs, ◌+ℤ◌, IfOk};
 ghost use Rattle.std.specs.List.{list_all};
-ghost use Rattle.shape.specs.Shape.{max_count, good_shape};
+ghost use Rattle.shape.specs.Shape.{max_count};
 ghost use Rattle.meaning.specs.Array.{Operand, Array, array_of, tab};
 ghost use Rattle.meaning.specs.Terms.{negative};
 ghost use Rattle.meaning.specs.Primitives.{interval, reshape};
@@ -22,17 +22,17 @@ pub fn shape_of(g: i32, r: &Operand<'_>, out: &mut [i32]) -> Result<Shape, Refus
     let r = answer::early_one(g, r)?;
     let rank = r.shape.rank;
     answer::late(rank, out.len())?;
-    put_lengths(r.shape, &mut out[..rank]);
+    put_lengths(&r, &mut out[..rank]);
     Ok(Shape::vector(rank))
 }
 
-// A good shape's lengths as elements, which they fit: `shape_from` goes the other way, from elements that need not be lengths.
-fn put_lengths(s: Shape, out: &mut [i32])
-    requires { (good_shape s ≡ true) × (length out.old ≡ s.rank) }
-    ensures { out.new ≡ tab (length out.old) (λ i. pos (get_or s.lens i 0)) }
+// R's lengths as elements, which they fit: `shape_from` goes the other way, into eight places, and may refuse.
+fn put_lengths(r: &Formed<'_>, out: &mut [i32])
+    requires { length out.old ≡ r.now.shape.rank }
+    ensures { out.new ≡ tab (length out.old) (λ i. pos (get_or r.now.shape.lens i 0)) }
 {
-    for i in 0..s.rank {
-        out[i] = signed::element(s.lens[i]);
+    for i in 0..r.shape.rank {
+        out[i] = signed::element(r.shape.lens[i]);
     }
 }
 

@@ -10,16 +10,15 @@ use Rattle.answer.specs.Refused.{asked}
 use Rattle.answer.proofs.Early.{early-read}
 use Rattle.answer.proofs.Exits.{exit, asked_ok}
 use Rattle.answer.proofs.Lent.{early-fine}
-use Rattle.answer.proofs.Order.{early-replied, own-replied, Ready, late-replied, given-replied}
+use Rattle.answer.proofs.Order.{own-replied, Ready, late-replied, given-replied}
 use Rattle.vectors.proofs.Vector.{vector-late, vector-room, vector-shape, vector-put}
-use Rattle.vectors.proofs.Calls.{ends, interval-names, interval-vector, interval-ready}
+use Rattle.vectors.proofs.Calls.{early-exit, ends, interval-names, interval-vector, interval-ready}
 use Rattle.vectors.proofs.interval.Goals as goal
 use Rattle.vectors.proofs.interval.Goals.{After-interval_length, After-late}
 
 pub returns-in_err-r : goal.returns-in_err-r
 returns-in_err-r c K L =
-    early-replied (interval-names _ _ L c.args.r.now) _ (exit c.in_err-r.was c.from_residual.result c.from_residual.ensures.1)
-    (early-read c.ranges.g c.early_one.result _ c.early_one.ensures.number)
+    early-exit (interval-names _ _ L c.args.r.now) c.ranges.g _ c.early_one.ensures.number c.in_err-r.was _ c.from_residual.ensures.1
 
 -- Neither FORM nor ORIGIN, and what 13 asks of R.
 fine : (c : After-interval_length) → early (good_form c.args.r.now) c.args.g ≡ 0

@@ -42,7 +42,8 @@ returns-in_default-2-clause-number c G =
     sym (rest c.before G ∙ rw (ne_eqb (length c.elements.result.now) 1 (λ e. omega (arith, c.in_default.len_at_least))))
 
 -- One element: what is left is DOMAIN.
-single : (c : After-elements) (G : ℤ) → SFits w32 (get_or c.elements.result.now 0 (pos 0)) → length c.elements.result.now ≡ 1 → own 13 (interval G (array_of c.args.r.now)).refusals
+single : (c : After-elements) (G : ℤ) → SFits w32 (get_or c.elements.result.now 0 (pos 0)) → length c.elements.result.now ≡ 1
+    → own 13 (interval G (array_of c.args.r.now)).refusals
     ≡ cond (lt_z (to_z w32 (of_z w32 (get_or c.elements.result.now 0 (pos 0)))) (pos 0)) (number DOMAIN) 0
 single c G f one =
     rest c G ∙ rw (eq-eqb _ 1 one, read32 _ f, below-zero (get_or c.elements.result.now 0 (pos 0)))

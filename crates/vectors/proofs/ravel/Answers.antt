@@ -6,16 +6,15 @@ use Rattle.copying.specs.Runs.{copied}
 use Rattle.answer.specs.Answer.{early}
 use Rattle.answer.proofs.Early.{early-read}
 use Rattle.answer.proofs.Exits.{exit, asked_ok}
-use Rattle.answer.proofs.Order.{early-replied, late-replied, given-replied, late-fine}
+use Rattle.answer.proofs.Order.{late-replied, given-replied, late-fine}
 use Rattle.vectors.proofs.Vector.{vector-shape, vector-out}
-use Rattle.vectors.proofs.Calls.{ravel-names, ravel-vector, ravel-ready, ravel-count, ravel-copied}
+use Rattle.vectors.proofs.Calls.{early-exit, ravel-names, ravel-vector, ravel-ready, ravel-count, ravel-copied}
 use Rattle.vectors.proofs.ravel.Goals as goal
 use Rattle.vectors.proofs.ravel.Goals.{After-elements-elements}
 
 pub returns-in_err-r : goal.returns-in_err-r
 returns-in_err-r c K L =
-    early-replied (ravel-names _ _ L c.args.r.now) _ (exit c.in_err-r.was c.from_residual.result c.from_residual.ensures.1)
-    (early-read c.ranges.g c.early_one.result _ c.early_one.ensures.number)
+    early-exit (ravel-names _ _ L c.args.r.now) c.ranges.g _ c.early_one.ensures.number c.in_err-r.was _ c.from_residual.ensures.1
 
 -- Neither FORM nor ORIGIN; R's elements.
 fine : (c : After-elements-elements) → early (good_form c.args.r.now) c.args.g ≡ 0

@@ -15,18 +15,17 @@ use Rattle.answer.specs.Answer.{early, own, Replied}
 use Rattle.answer.specs.Refused.{asked, answered}
 use Rattle.answer.proofs.Early.{early-read}
 use Rattle.answer.proofs.Exits.{exit, asked_ok}
-use Rattle.answer.proofs.Order.{early-replied, own-replied, Ready, late-replied, given-replied, Roomy, late-fine}
+use Rattle.answer.proofs.Order.{own-replied, Ready, late-replied, given-replied, Roomy, late-fine}
 use Rattle.vectors.specs.Steps.{cycled, shape_or_limit}
 use Rattle.vectors.proofs.Over.{some_shape, over-replied}
 use Rattle.vectors.proofs.Cycling.{few-put}
-use Rattle.vectors.proofs.Calls.{reshape-names, reshape-lengths, reshape-out}
+use Rattle.vectors.proofs.Calls.{early-exit, reshape-names, reshape-lengths, reshape-out}
 use Rattle.vectors.proofs.reshape.Goals as goal
 use Rattle.vectors.proofs.reshape.Goals.{After-reshaped, After-shape_from, After-count-total, After-elements-elements}
 
 pub returns-in_err-l : goal.returns-in_err-l
 returns-in_err-l c K =
-    early-replied (reshape-names _ _ c.args.l.now c.args.r.now) _ (exit c.in_err-l.was c.from_residual.result c.from_residual.ensures.1)
-    (early-read c.ranges.g c.early_two.result _ c.early_two.ensures.number)
+    early-exit (reshape-names _ _ c.args.l.now c.args.r.now) c.ranges.g _ c.early_two.ensures.number c.in_err-l.was _ c.from_residual.ensures.1
 
 -- Neither FORM nor ORIGIN, and what 21 asks of L.
 fine : (c : After-reshaped) → early (good_form c.args.l.now && good_form c.args.r.now) c.args.g ≡ 0
@@ -88,7 +87,8 @@ pub slice_bounds-out-end-2 : goal.slice_bounds-out-end-2
 slice_bounds-out-end-2 c = sym (length-take-le _ c.args.out.now (fits c.before))
 
 -- What is written is R's elements again and again.
-given : (c : After-elements-elements) (K : ℤ) (last : List ℤ) → last ≡ tab (length (take c.count-total.result c.args.out.now)) (cycled c.elements-elements.result.now)
+given : (c : After-elements-elements) (K : ℤ) (last : List ℤ)
+    → last ≡ tab (length (take c.count-total.result c.args.out.now)) (cycled c.elements-elements.result.now)
     → Replied (answered (Ok c.in_ok-shape.shape)) (last ++ drop c.count-total.result c.args.out.now)
     (reply (pos 21) c.args.g K c.args.l.now c.args.r.now c.args.out.now)
 given c K last e =

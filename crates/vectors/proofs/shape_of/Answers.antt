@@ -1,19 +1,18 @@
-use Rattle.std.proofs.Common.{◌≡◌, ◌∙◌, sym, length-take-le}
+use Rattle.std.proofs.Common.{◌≡◌, ◌∙◌, sym, ap, pos, get_or, take, length, length-take-le}
 use native.Mathlib.Omega.{arith}
 use mathlib.Core.Path.{refl}
 use Rattle.answer.specs.Answer.{lent}
-use Rattle.answer.proofs.Early.{early-read, one-fine}
+use Rattle.answer.proofs.Early.{one-fine}
 use Rattle.answer.proofs.Exits.{exit, asked_ok}
-use Rattle.answer.proofs.Order.{early-replied, late-replied, given-replied}
-use Rattle.answer.proofs.Lent.{formed}
+use Rattle.answer.proofs.Order.{late-replied, given-replied}
+use Rattle.meaning.specs.Array.{tab}
 use Rattle.vectors.proofs.Vector.{vector-counted, vector-room, vector-shape, vector-put}
-use Rattle.vectors.proofs.Calls.{shape-names, shape-vector, shape-ready}
+use Rattle.vectors.proofs.Calls.{early-exit, shape-names, shape-vector, shape-ready}
 use Rattle.vectors.proofs.shape_of.Goals as goal
 
 pub returns-in_err-r : goal.returns-in_err-r
 returns-in_err-r c K L =
-    early-replied (shape-names _ _ L c.args.r.now) _ (exit c.in_err-r.was c.from_residual.result c.from_residual.ensures.1)
-    (early-read c.ranges.g c.early_one.result _ c.early_one.ensures.number)
+    early-exit (shape-names _ _ L c.args.r.now) c.ranges.g _ c.early_one.ensures.number c.in_err-r.was _ c.from_residual.ensures.1
 
 pub returns-in_err-late : goal.returns-in_err-late
 returns-in_err-late c K L =
@@ -33,7 +32,7 @@ slice_bounds-put_lengths-end-2 c =
 pub put_lengths-requires : goal.put_lengths-requires
 put_lengths-requires c =
     let room = vector-room _ _ c.late.ensures (asked_ok c.in_ok-late.was) in
-    ((formed c.r.invariant).good, length-take-le _ c.args.out.now room.1)
+    length-take-le _ c.args.out.now room.1 ∙ ap (λ o. o.shape.rank) c.r.view_is
 
 pub returns : goal.returns
 returns c K L =
@@ -42,4 +41,5 @@ returns c K L =
     let v = shape-vector f.operand in
     rw e
     (given-replied (shape-ready f K L) _ (sym (asked_ok c.in_ok-late.was) ∙ c.late.ensures) (vector-counted _ (omega (arith, f.operand.high))) refl
-    (vector-shape v c.vector.ensures) (vector-put v c.args.out.now (vector-room _ _ c.late.ensures (asked_ok c.in_ok-late.was)).1 c.put_lengths.ensures))
+    (vector-shape v c.vector.ensures) (vector-put v c.args.out.now (vector-room _ _ c.late.ensures (asked_ok c.in_ok-late.was)).1
+    (c.put_lengths.ensures ∙ ap (λ o. tab (length (take c.r.inside.shape.rank c.args.out.now)) (λ i. pos (get_or o.shape.lens i 0))) (sym c.r.view_is))))
