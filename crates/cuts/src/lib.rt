@@ -66,7 +66,7 @@ fn cut_numbers<'a>(kind: CutKind, l: &Formed<'a>, r: &Formed<'_>) -> Result<&'a 
     Ok(numbers)
 }
 
-// The lengths of R, a scalar's read as ones.
+// The lengths of R, a scalar's read as ones: it has as many axes as L has numbers, and not one as for `Formed::axes`.
 fn read_lengths(rs: Shape) -> [usize; Shape::MAX_RANK]
     ensures { result ≡ read_lengths rs }
 {
@@ -140,7 +140,8 @@ struct Window {
     size: usize,
 }
 
-// A call that is not refused: L's numbers, and R's lengths as they are read; there are as many as numbers, and what follows is not looked at.
+// What is asked of R: for each of L's numbers the first lengths are its axes'. Two lists and no list of pairs: the numbers are lent, and pairs of them
+// and the lengths would be copied only to be taken apart.
 #[derive(Clone, Copy)]
 struct CutCall<'a> {
     kind: CutKind,
@@ -149,7 +150,8 @@ struct CutCall<'a> {
 }
 
 impl CutCall<'_> {
-    // The result's shape, or LIMIT: a scalar R may be read with more axes than a shape can have.
+    // The result's shape, or LIMIT: a scalar R may be read with more axes than a shape can have. The loop is that of `vectors::shape_from` but for the
+    // length: a function of both would take it as a closure with a contract, which is longer than the loop.
     fn cut_shape(&self) -> Result<Shape, Refusal>
         ensures { result ≡ cut_shape self.now.kind self.now.numbers.now self.now.lens }
     {
@@ -171,6 +173,7 @@ impl CutCall<'_> {
             ≡ tab (length out.old)
             (cut_at (table_of self.now.kind self.now.numbers.now (take (length self.now.numbers.now) self.now.lens)) r.now) }
     {
+        // Both have elements when the table is made: with a length of 0 the others' products might be above the limit.
         if out.is_empty() {
             return;
         }
@@ -183,7 +186,8 @@ impl CutCall<'_> {
         cut(&table[..used], r, out);
     }
 
-    // From the last axis to the first, since a position's elements are those of the axes after it.
+    // From the last axis to the first, since a position's elements are those of the axes after it. With `transposes::strides` it shares no more than
+    // a product: here are two, and the windows between them.
     fn table_of(&self) -> [Axis; Shape::MAX_RANK]
         requires { Nonempty self.now.kind self.now.lens self.now.numbers.now }
         ensures { take (length self.now.numbers.now) result
@@ -246,6 +250,8 @@ fn by_rows(table: &[Axis]) -> bool
 }
 
 // Fills `out` with what the table's windows leave of `r`: the last axis is one run, the last two are rows, one before them a part for each position.
+// Table, R and result stay three parameters, and `Fitting` a fact of them: each call has another part of all three, so a value of them would be made
+// anew for each.
 fn cut(table: &[Axis], r: &[i32], out: &mut [i32])
     requires { Fitting table.now (length r.now) (length out.old) }
     ensures { out.new ≡ tab (length out.old) (cut_at table.now r.now) }
@@ -272,7 +278,8 @@ fn cut(table: &[Axis], r: &[i32], out: &mut [i32])
     }
 }
 
-// Two axes: a run of the same length from each row of `r`, all in one loop.
+// Two axes: a run of the same length from each row of `r`, all in one loop. By `cut`, row by row, take along the last axis of 32 x 16 x 32 went from
+// 3.1 us to 6.2, and the limit there is 5.2, plain Rust's time.
 fn cut_rows(rows: &Axis, runs: &Axis, r: &[i32], out: &mut [i32])
     requires { Fitting (rows.now ∷ (runs.now ∷ [])) (length r.now) (length out.old) }
     ensures { out.new ≡ tab (length out.old) (cut_at (rows.now ∷ (runs.now ∷ [])) r.now) }
@@ -294,7 +301,8 @@ fn cut_rows(rows: &Axis, runs: &Axis, r: &[i32], out: &mut [i32])
     }
 }
 
-// Zeros wherever no run goes: everywhere, unless each run is a whole row.
+// Zeros wherever no run goes: everywhere, unless each run is a whole row. A function, so that the loop after it has one fact of both ways; that the
+// window ends in the buffer is no more than each part of a slice asks.
 fn clear_rows(rows: &Axis, width: usize, out: &mut [i32])
     requires { rows.now.start + rows.now.width ≤ length out.old }
     ensures { Blank (eqb width rows.now.block) rows.now (length out.old) out.new }

@@ -101,6 +101,7 @@ pub fn reshape(g: i32, l: &Operand<'_>, r: &Operand<'_>, out: &mut [i32]) -> Res
     answer::late(total, out.len())?;
     let elements = r.elements();
     let out = &mut out[..total];
+    // One element is a fill too: `cycle_run` would copy it in a dozen runs. One arm for both would take it as an Option, with 0 in its place.
     match elements {
         [] => copying::fill_run(0, out),
         [x] => copying::fill_run(*x, out),
@@ -130,7 +131,8 @@ fn none_negative(l: &[i32]) -> bool
     l.iter().all(|z| 0 <= *z)
 }
 
-// LIMIT for more elements than a shape has lengths, or else the shape whose lengths they are.
+// LIMIT for more elements than a shape has lengths, or else the shape whose lengths they are. The loop is that of `cuts::cut_shape` but for the length:
+// a function of both would take it as a closure with a contract, which is longer than the loop.
 fn shape_from(l: &[i32]) -> Result<Shape, Refusal>
     ensures { result ≡ shape_or_limit (map nat_abs l.now) }
 {
@@ -146,7 +148,7 @@ fn shape_from(l: &[i32]) -> Result<Shape, Refusal>
 }
 
 // `src`, and then what is written already, twice as much each time: a while, since no two steps are alike. Run by run, in runs of 30 it took 2.2
-// times as long.
+// times as long. It may end within `src`, which the whole rows of `masks::rows::repeat_row` do not.
 fn cycle_run(src: &[i32], out: &mut [i32])
     requires { 0 < length src.now }
     ensures { out.new ≡ tab (length out.old) (cycled src.now) }
