@@ -1,5 +1,5 @@
 -- The result's lengths and the table, as they are built axis by axis.
-use Prim.Native.Nat.{ℕ, zero, suc, ◌+◌, ◌*◌, ◌-◌, ◌≤◌, ◌<◌, min}
+use Prim.Native.Nat.{ℕ, zero, suc, ◌+◌, ◌*◌, ◌-◌, ◌≤◌, ◌<◌}
 use native.Mathlib.Nat.{mul_comm, mul-le-mul_right}
 use native.Mathlib.Omega.{arith}
 use mathlib.Core.Path.{◌≡◌, refl, sym, ap, ap₂, ◌∙◌}
@@ -23,22 +23,6 @@ use Rattle.cuts.specs.declared.Axis.{Axis}
 use Rattle.cuts.specs.declared.CutKind.{CutKind}
 use Rattle.cuts.specs.Steps.{cut_length, keeps_end, cut_lengths, cut_shape, window_of, table_of, Nonempty}
 use Rattle.cuts.proofs.Tables.{window-room}
-
--- The window of an axis, as its code finds it from the result's length m and what of it lies beyond n.
-pub window-end : (m n size lead : ℕ) → size ≡ m → lead ≡ size - n
-    → ◌≡◌ {A = Window} (record { lead = lead; from = n - (size - lead); len = size - lead; size = size })
-    (record { lead = m - n; from = n - m; len = min m n; size = m })
-window-end m n size lead e h =
-    let a : lead ≡ m - n = omega arith in
-    let b : n - (size - lead) ≡ n - m = omega arith in
-    let c : size - lead ≡ min m n = omega arith in
-    cc
-
-pub window-front : (m n size lead : ℕ) → size ≡ m → lead ≡ size - n
-    → ◌≡◌ {A = Window} (record { lead = 0; from = 0; len = size - lead; size = size }) (record { lead = 0; from = 0; len = min m n; size = m })
-window-front m n size lead e h =
-    let c : size - lead ≡ min m n = omega arith in
-    cc
 
 -- The result's lengths: how many there are, one of them, and those of the later axes.
 pub lengths-long : (kind : CutKind) (zs : List ℤ) (ns : List ℕ) → length zs ≡ length ns → length (cut_lengths kind zs ns) ≡ length ns
@@ -129,10 +113,6 @@ module _ {kind : CutKind} {lens : List ℕ} {l : List ℤ} (c : Nonempty kind le
         strides = sym (rw ns);
         blocks = sym (rw zs);
       }
-
-  pub built-all : {table : List Axis} {stride block i : ℕ} → i ≡ 0 → Built kind lens l table stride block i
-      → take (length l) table ≡ table_of kind l (take (length l) lens)
-  built-all e b = rw e at b.rows
 
   same : length l ≡ length (take (length l) lens)
   same = sym (length-take-le (length l) lens (omega (arith, c.high, c.long)))

@@ -142,11 +142,6 @@ module _ {t : List Axis} {a : Axis} {rest : List Axis} (e : t ≡ a ∷ rest) (r
     pub of-wide : length (take (there + a.stride - there) (drop there r)) ≡ a.stride
     of-wide = part-long r there a.stride (cut-room f i h).1
 
-    -- The later windows fit it.
-    pub cut-rest : Fitting rest a.stride a.block
-        → Fitting rest (length (take (there + a.stride - there) (drop there r))) (length (take (here + a.block - here) (drop here out)))
-    cut-rest p = rw (of-wide, into-wide) p
-
     pub cut_step : {last : List ℤ}
         → last ≡ tab (length (take (here + a.block - here) (drop here out))) (cut_at rest (take (there + a.stride - there) (drop there r)))
         → put_mid here (here + a.block - here) out last ≡ filled g (a.start + (i + 1) * a.block) out₀

@@ -17,7 +17,7 @@ use Rattle.cuts.specs.Steps.{cut_at, Within, Fitting, Blank}
 use Rattle.cuts.proofs.Cutting.{part, cut-before, cut-after, cut_inside, cut-run, cut-room}
 
 -- The run of row i lies in the row, and both in their buffers.
-abbrev pub Lies : Axis → Axis → ℕ → ℕ → ℕ → Type 0
+abbrev Lies : Axis → Axis → ℕ → ℕ → ℕ → Type 0
 Lies a b n m i =
     (b.start + b.width ≤ a.block) × ((a.first + b.first + i * a.stride + b.width ≤ n) × (a.start + i * a.block + a.block ≤ m))
 
@@ -41,7 +41,7 @@ module _ {a b : Axis} (r : List ℤ) {m : ℕ} (fits : Fitting (a ∷ (b ∷ [])
   row-reads : b.first + b.width ≤ a.stride
   row-reads = let wide : b.len * b.stride ≡ b.len * b.block = ap (λ x. b.len * x) even in omega (arith, h.inner, h.wide)
 
-  pub row_lies : (i : ℕ) → i < a.len → Lies a b (length r) m i
+  row_lies : (i : ℕ) → i < a.len → Lies a b (length r) m i
   row_lies i l = (h.room, (omega (arith, row-reads, (cut-room f i l).1), (cut-room f i l).0))
 
   -- What row i holds.

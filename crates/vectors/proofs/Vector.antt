@@ -1,7 +1,7 @@
 -- A result that is a vector.
 use mathlib.Core.Path.{◌≡◌, refl, sym, ap, ◌∙◌}
 use mathlib.Core.List.{List, [], ◌∷◌, ◌++◌}
-use mathlib.Core.Bool.{true, false, not, cond}
+use mathlib.Core.Bool.{false, not, cond}
 use lib.Dec.{leb}
 use Prim.Native.Nat.{ℕ, ◌/◌, ◌≤◌, ◌<◌}
 use native.Mathlib.Nat.{mul-one, div-one}
@@ -17,7 +17,7 @@ use Rattle.shape.specs.Place.{place}
 use Rattle.shape.proofs.Bools.{refuted}
 use Rattle.shape.proofs.Rule.{vector-rule, rule-length}
 use Rattle.shape.proofs.Counts.{count-of, count-bad}
-use Rattle.shape.proofs.Made.{Stands, made-stands, stands-count}
+use Rattle.shape.proofs.Made.{Stands, made-stands}
 use Rattle.meaning.specs.Array.{tab, build}
 use Rattle.meaning.specs.Primitives.{Meaning}
 use Rattle.meaning.specs.Refusal.{number}
@@ -56,9 +56,6 @@ module _ {m : Meaning} {n : ℕ} {f : ℕ → ℤ} (v : Vector m n f) where
 
     pub vector-stands : Stands s m.lengths
     vector-stands = made-stands s m.lengths vector-shape
-
-    pub vector-count : good_shape s ≡ true → count_of s ≡ n
-    vector-count g = stands-count vector-stands g ∙ ap count v.lengths ∙ count-one n
 
 -- Its count, where that is within the limit.
 pub vector-counted : (n : ℕ) → n ≤ max_count → n ≡ count_of (shape_of (n ∷ []))
