@@ -101,22 +101,17 @@ impl CutKind {
         ensures { result ≡ window_of self z n }
     {
         let size = self.cut_length(z, n);
-        let lead = size.saturating_sub(n);
-        let len = size - lead;
-        if self.keeps_end(z) {
-            Window {
-                lead,
-                from: n - len,
-                len,
-                size,
-            }
+        let len = size.min(n);
+        let (lead, from) = if self.keeps_end(z) {
+            (size - len, n - len)
         } else {
-            Window {
-                lead: 0,
-                from: 0,
-                len,
-                size,
-            }
+            (0, 0)
+        };
+        Window {
+            lead,
+            from,
+            len,
+            size,
         }
     }
 
@@ -140,8 +135,7 @@ struct Window {
     size: usize,
 }
 
-// What is asked of R: for each of L's numbers the first lengths are its axes'. Two lists and no list of pairs: the numbers are lent, and pairs of them
-// and the lengths would be copied only to be taken apart.
+// L's numbers, and R's lengths as they are read, the first of them on the same axes. Two lists: pairs would be copied out of both, and taken apart.
 #[derive(Clone, Copy)]
 struct CutCall<'a> {
     kind: CutKind,
