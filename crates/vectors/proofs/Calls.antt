@@ -6,13 +6,16 @@ use Prim.Native.Nat.{ℕ, ◌≤◌}
 use native.Mathlib.Omega.{arith}
 use lib.Dec.{eqb}
 use lib.ListN.{length, drop, get_or}
+use lib.Seq.{length-take-le}
+use Rattle.shape.proofs.Rule.{rule-length}
+use Rattle.signed.proofs.Reading.{element-is}
 use lib.IntN.{ℤ, pos, nat_abs, ◌+ℤ◌}
 use Rattle.std.specs.List.{list_all}
 use Rattle.shape.specs.declared.Shape.{Shape}
 use Rattle.shape.specs.Shape.{count, count_of, shape_of}
 use Rattle.shape.proofs.Counts.{count-of, count-good}
 use Rattle.shape.proofs.Places.{index-place}
-use Rattle.meaning.specs.Array.{Operand, Array, array_of, good_form, build}
+use Rattle.meaning.specs.Array.{Operand, Array, array_of, good_form, tab, build}
 use Rattle.meaning.specs.Refusal.{number, precedence}
 use Rattle.meaning.specs.Refusal.Refusal.{RANK, LENGTH, DOMAIN}
 use Rattle.meaning.specs.Terms.{int_same, is_list, negative, every}
@@ -34,7 +37,7 @@ use Rattle.std.specs.Prelude.{Result, Err}
 use Rattle.std.specs.Result.{IsErrAnd}
 use mir.Syntax.{w32}
 use mir.Val.{SFits, to_z, of_z}
-use Rattle.vectors.specs.Steps.{cycled}
+use Rattle.vectors.specs.Steps.{cycled, element_of}
 use Rattle.vectors.proofs.Vector.{Vector, vector-stands, vector-counted}
 
 module _ (G K : ℤ) (L R : Operand) where
@@ -99,6 +102,15 @@ module _ {s : Shape} {r : List ℤ} where
       → Ready 11 1 G K L (lent s r) (lengths_of (array_of (lent s r))) (shape_of (s.rank ∷ []))
   shape-ready {G} f K L =
       record { names = shape-names G K L (lent s r); fine = f.none; none = shape-own _; stands = vector-stands (shape-vector f.operand) refl }
+
+  -- Its elements are the lengths.
+  pub lengths-put : Lent s r → (n : ℕ) {last : List ℤ} → n ≡ s.rank → last ≡ tab n (λ i. element_of (get_or s.lens i 0))
+      → last ≡ tab n (λ i. pos (get_or s.lens i 0))
+  lengths-put g n e q =
+      q ∙ tab-ext n _ _
+      (λ i l.
+      let small = rule-length s.rank s.lens i g.good (length-take-le s.rank s.lens (omega (arith, g.high, g.long))) (omega arith) in
+      element-is (get_or s.lens i 0) (omega (arith, small)))
 
 -- 12, of an operand that stays closed: n is the count of its elements.
 module _ (R : Operand) {n : ℕ} (e : n ≡ length (array_of R).elements) where

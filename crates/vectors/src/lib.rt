@@ -3,14 +3,14 @@
 
 ghost use Rattle.std.specs.Prelude.{◌≡◌, true, not, map, ◌≤◌, ◌<◌, length, get_or, ℤ, pos, nat_abs, ◌+ℤ◌, IfOk};
 ghost use Rattle.std.specs.List.{list_all};
-ghost use Rattle.shape.specs.Shape.{max_count};
+ghost use Rattle.shape.specs.Shape.{max_rank, max_count};
 ghost use Rattle.meaning.specs.Array.{Operand, Array, array_of, tab};
 ghost use Rattle.meaning.specs.Terms.{negative};
 ghost use Rattle.meaning.specs.Primitives.{interval, reshape};
 ghost use Rattle.meaning.specs.Reply.{reply, is_origin};
 ghost use Rattle.answer.specs.Answer.{own, Replied};
 ghost use Rattle.answer.specs.Refused.{asked, answered};
-ghost use Rattle.vectors.specs.Steps.{cycled, shape_or_limit};
+ghost use Rattle.vectors.specs.Steps.{cycled, element_of, shape_or_limit};
 
 use answer::{Formed, Operand, Refusal};
 use shape::Shape;
@@ -22,17 +22,18 @@ pub fn shape_of(g: i32, r: &Operand<'_>, out: &mut [i32]) -> Result<Shape, Refus
     let r = answer::early_one(g, r)?;
     let rank = r.shape.rank;
     answer::late(rank, out.len())?;
-    put_lengths(&r, &mut out[..rank]);
+    put_lengths(r.shape.lens, &mut out[..rank]);
     Ok(Shape::vector(rank))
 }
 
-// R's lengths as elements, which they fit: `shape_from` goes the other way, into eight places, and may refuse.
-fn put_lengths(r: &Formed<'_>, out: &mut [i32])
-    requires { length out.old ≡ r.now.shape.rank }
-    ensures { out.new ≡ tab (length out.old) (λ i. pos (get_or r.now.shape.lens i 0)) }
+// Lengths as elements: `shape_from` goes the other way, into eight places, and may refuse. By value: of a slice of the lengths, or a `Formed`, the whole
+// call took 30 ns for 25.
+fn put_lengths(lens: [usize; Shape::MAX_RANK], out: &mut [i32])
+    requires { length out.old ≤ max_rank }
+    ensures { out.new ≡ tab (length out.old) (λ i. element_of (get_or lens i 0)) }
 {
-    for i in 0..r.shape.rank {
-        out[i] = signed::element(r.shape.lens[i]);
+    for i in 0..out.len() {
+        out[i] = signed::element(lens[i]);
     }
 }
 

@@ -1,13 +1,13 @@
-use Rattle.std.proofs.Common.{◌≡◌, ◌∙◌, sym, ap, pos, get_or, take, length, length-take-le}
+use Rattle.std.proofs.Common.{◌≡◌, ◌∙◌, sym, length-take-le}
 use native.Mathlib.Omega.{arith}
 use mathlib.Core.Path.{refl}
 use Rattle.answer.specs.Answer.{lent}
 use Rattle.answer.proofs.Early.{one-fine}
 use Rattle.answer.proofs.Exits.{exit, asked_ok}
 use Rattle.answer.proofs.Order.{late-replied, given-replied}
-use Rattle.meaning.specs.Array.{tab}
 use Rattle.vectors.proofs.Vector.{vector-counted, vector-room, vector-shape, vector-put}
-use Rattle.vectors.proofs.Calls.{early-exit, shape-names, shape-vector, shape-ready}
+use Rattle.answer.proofs.Lent.{formed}
+use Rattle.vectors.proofs.Calls.{early-exit, shape-names, shape-vector, shape-ready, lengths-put}
 use Rattle.vectors.proofs.shape_of.Goals as goal
 
 pub returns-in_err-r : goal.returns-in_err-r
@@ -32,14 +32,15 @@ slice_bounds-put_lengths-end-2 c =
 pub put_lengths-requires : goal.put_lengths-requires
 put_lengths-requires c =
     let room = vector-room _ _ c.late.ensures (asked_ok c.in_ok-late.was) in
-    length-take-le _ c.args.out.now room.1 ∙ ap (λ o. o.shape.rank) c.r.view_is
+    omega (arith, (formed c.r.invariant).high, length-take-le _ c.args.out.now room.1)
 
 pub returns : goal.returns
 returns c K L =
     let e : c.args.r.now ≡ lent c.r.inside.shape c.r.inside.elements.now = sym (c.r.view_is ∙ c.in_ok-r.ensures.operand) in
     let f = one-fine c.ranges.g c.early_one.result c.early_one.ensures.number c.in_ok-r.was e c.r.invariant in
     let v = shape-vector f.operand in
+    let room = (vector-room _ _ c.late.ensures (asked_ok c.in_ok-late.was)).1 in
     rw e
     (given-replied (shape-ready f K L) _ (sym (asked_ok c.in_ok-late.was) ∙ c.late.ensures) (vector-counted _ (omega (arith, f.operand.high))) refl
-    (vector-shape v c.vector.ensures) (vector-put v c.args.out.now (vector-room _ _ c.late.ensures (asked_ok c.in_ok-late.was)).1
-    (c.put_lengths.ensures ∙ ap (λ o. tab (length (take c.r.inside.shape.rank c.args.out.now)) (λ i. pos (get_or o.shape.lens i 0))) (sym c.r.view_is))))
+    (vector-shape v c.vector.ensures)
+    (vector-put v c.args.out.now room (lengths-put f.operand _ (length-take-le _ c.args.out.now room) c.put_lengths.ensures)))
