@@ -1,5 +1,5 @@
 -- 31: what it asks.
-use mathlib.Core.Path.{◌≡◌, refl, sym, ap₂, ◌∙◌}
+use mathlib.Core.Path.{◌≡◌, refl, sym, ◌∙◌}
 use mathlib.Core.List.{List}
 use mathlib.Core.Bool.{Bool, true, false, not, cond}
 use Prim.Native.Nat.{ℕ}
@@ -7,12 +7,8 @@ use native.Mathlib.Omega.{arith}
 use borrow.Author.Tests.{ne_eqb}
 use lib.ListN.{get_or}
 use lib.IntN.{ℤ, ◌-ℤ◌}
-use mir.Syntax.{w32}
-use mir.Val.{SFits, to_z, of_z}
-use Rattle.std.specs.Prelude.{Result}
 use Rattle.shape.specs.declared.Shape.{Shape}
 use Rattle.signed.proofs.Finding.{IsAt}
-use Rattle.signed.proofs.Reading.{read32}
 use Rattle.meaning.specs.Array.{Operand, array_of}
 use Rattle.meaning.specs.Refusal.{number, precedence}
 use Rattle.meaning.specs.Refusal.Refusal.{RANK, AXIS, INDEX}
@@ -20,8 +16,6 @@ use Rattle.meaning.specs.Terms.{rank, axis, is_scalar, is_list, int_same, within
 use Rattle.meaning.specs.Primitives.{select}
 use Rattle.meaning.specs.Reply.{primitives, named}
 use Rattle.answer.specs.Answer.{lent, own}
-use Rattle.answer.specs.Refused.{asked as asks}
-use Rattle.answer.specs.declared.refusal.Refusal as code
 use Rattle.answer.proofs.Lent.{Lent, axis-is}
 use Rattle.answer.proofs.Order.{Names, own_first}
 
@@ -56,11 +50,3 @@ pub select-rest : (G K : ℤ) (L : Operand) {s : Shape} {b : List ℤ} {n k : �
 select-rest G K L {s} {b} {n} {k} g h e a =
     select-on G K L (lent s b) (λ z. omega (arith, a.below, e))
     ∙ rw (h, sym e, a.inside, ← a.is, axis-is s b k (omega (arith, a.below, e, g.rank_is))) refl
-
--- What `chosen_axis` asks for, of numbers that the call has read from locals.
-pub chosen-read : {G K : ℤ} (f : SFits w32 G) (h : SFits w32 K) {A : Type 0} (x : Result A code.Refusal) {L R l r : Operand}
-    → asks x ≡ own 31 (select (to_z w32 (of_z w32 G)) (to_z w32 (of_z w32 K)) (array_of l) (array_of r)).refusals
-    → l ≡ L → r ≡ R → asks x ≡ own 31 (select G K (array_of L) (array_of R)).refusals
-chosen-read {G} {K} f h x {l = l} {r = r} e p q =
-    e ∙ ap₂ (λ g k. own 31 (select g k (array_of l) (array_of r)).refusals) (read32 G f) (read32 K h)
-    ∙ ap₂ (λ l r. own 31 (select G K (array_of l) (array_of r)).refusals) p q

@@ -1,13 +1,10 @@
-use Rattle.std.proofs.Common.{◌≡◌, ◌∙◌, sym, ℕ, true, false}
-use mathlib.Core.Path.{refl, ap}
-use mathlib.Core.Bool.{not, cond}
+use Rattle.std.proofs.Common.{◌≡◌, ◌∙◌, sym, true, false}
+use mathlib.Core.Path.{refl}
 use lib.IntN.{◌-ℤ◌}
 use borrow.Author.Tests.{eq-eqb}
 use Rattle.meaning.specs.Array.{array_of}
-use Rattle.meaning.specs.Primitives.{select}
 use Rattle.meaning.specs.Terms.{rank, within, is_list}
 use Rattle.signed.proofs.Reading.{read32}
-use Rattle.answer.specs.Answer.{lent, own}
 use Rattle.answer.specs.Refused.{asked}
 use Rattle.answer.proofs.Axes.{axis-none, axis-refused, axis-found}
 use Rattle.answer.proofs.Exits.{asked_on}
@@ -36,20 +33,22 @@ returns-in_err-axis-clause-number c =
     ∙ sym (select-on c.args.g c.args.k c.args.l.now c.args.r.now (λ z. c.if-rank-eq0.false (c.rank.ensures ∙ z)) ∙ rw (l, none) refl)
 
 -- What is left is INDEX.
-rest : (c : After-all_within)
-    → own 31 (select c.args.g c.args.k (array_of c.args.l.now) (array_of c.args.r.now)).refusals ≡ cond {A = ℕ} (not c.all_within.result) 8 0
-rest c =
-    let e : c.args.r.now ≡ lent c.r.inside.shape c.r.inside.elements.now = sym c.r.view_is in
-    let a = axis-found c.ranges.k c.ranges.g c.rank-2.result c.axis.result c.axis.ensures.number c.in_ok-axis.was c.axis.ensures.axis in
-    let l : is_list (array_of c.args.l.now) ≡ true = sym c.if-not-is_list.ensures in
-    ap (λ o. own 31 (select c.args.g c.args.k (array_of c.args.l.now) (array_of o)).refusals) e
-    ∙ select-rest c.args.g c.args.k c.args.l.now (formed c.r.invariant) l (c.rank-2.ensures ∙ ap (λ o. rank (array_of o)) e) a
-    ∙ rw (c.all_within.ensures, read32 _ c.ranges.g, c.elements.ensures) refl
-
 pub returns-then-not-all_within-clause-number : goal.returns-then-not-all_within-clause-number
 unfolding asked
-returns-then-not-all_within-clause-number c = sym (rest c.before ∙ rw c.if-not-all_within.true refl)
+returns-then-not-all_within-clause-number c =
+    let a = axis-found c.ranges.k c.ranges.g c.rank-2.result c.axis.result c.axis.ensures.number c.in_ok-axis.was c.axis.ensures.axis in
+    let n = rw (← c.r.view_is) at c.rank-2.ensures in
+    let all = rw (c.of-choice.ensures, read32 _ c.ranges.g) at c.all_within.ensures in
+    rw (← c.r.view_is)
+    (sym (select-rest c.args.g c.args.k c.args.l.now (formed c.r.invariant) (sym c.if-not-is_list.ensures) n a
+    ∙ rw (← all, c.if-not-all_within.true) refl))
 
 pub returns-clause-number : goal.returns-clause-number
 unfolding asked
-returns-clause-number c = sym (rest c.before ∙ rw c.if-not-all_within.false refl)
+returns-clause-number c =
+    let a = axis-found c.ranges.k c.ranges.g c.rank-2.result c.axis.result c.axis.ensures.number c.in_ok-axis.was c.axis.ensures.axis in
+    let n = rw (← c.r.view_is) at c.rank-2.ensures in
+    let all = rw (c.of-choice.ensures, read32 _ c.ranges.g) at c.all_within.ensures in
+    rw (← c.r.view_is)
+    (sym (select-rest c.args.g c.args.k c.args.l.now (formed c.r.invariant) (sym c.if-not-is_list.ensures) n a
+    ∙ rw (← all, c.if-not-all_within.false) refl))

@@ -4,4 +4,4 @@ use Rattle.selects.specs.Steps.{blocks_at}
 use Rattle.selects.proofs.select_blocks.Given as goal
 
 abbrev pub invariant-loop-o : goal.invariant-loop-o
-invariant-loop-o l = Blockwise l.outer (length l.l * l.inner) (blocks_at l.g l.l l.n l.inner l.r) l.initial.out l.out l.at l.o
+invariant-loop-o l = Blockwise l.a.outer (length l.choice.numbers * l.a.inner) (blocks_at l.choice l.a l.r) l.initial.out l.out l.at l.o
