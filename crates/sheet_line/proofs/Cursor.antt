@@ -1,13 +1,13 @@
 -- The numbers of a line, byte by byte.
-use Rattle.std.proofs.Common.{◌≡◌, ℕ, ◌+◌, ◌*◌, ◌^◌, ◌<◌, Bool, true, false, cond, eqb, List, [], ◌∷◌, ℤ, refl, ◌∙◌, Option, Some, None}
+use Rattle.std.proofs.Common.{◌≡◌, ℕ, ◌+◌, ◌*◌, ◌^◌, ◌<◌, Bool, true, false, cond, eqb, List, [], ◌∷◌, ℤ, refl, ◌∙◌, Option, Some}
 use Rattle.std.proofs.Common.{◌≤◌, ◌-◌, length, sym, ap, Bor, arith, ne_eqb, eqb-true, le-leb}
 use mathlib.Core.Option as maybe
 use mathlib.Core.Option.{none, some}
 use borrow.Author.Tests.{eqb-false, lt-leb}
 use Rattle.sheet_line.specs.Text as Text
 use Rattle.sheet_line.specs.Numbers.{and_then, Begun, nothing, minus, magnitude, digit_of, first, more, ended, scan, numbers}
-use Rattle.sheet_line.specs.Call.{next_number}
-use Rattle.sheet_line.specs.Steps.{left, found, with_rest}
+use Rattle.sheet_line.specs.Call.{give, next_number}
+use Rattle.sheet_line.specs.Steps.{left}
 use Rattle.sheet_line.proofs.Magnitudes.{magnitude-over}
 use Rattle.sheet_line.proofs.Options.{none-some}
 use Rattle.sheet_line.proofs.Scan.{scan-on, scan-blank, sign, more-sign}
@@ -17,23 +17,24 @@ abbrev pub number_of : maybe.Option (List ℤ) → maybe.Option (ℤ × List ℤ
 number_of l = and_then l next_number
 
 -- A number that ends at the end of the line, or at a blank.
-module _ (s : Begun) (r : Option ℤ) (e : ended s ≡ found r) where
-  pub end-ends : number_of (scan s []) ≡ with_rest (some []) r
+module _ (s : Begun) where
+  pub end-ends : number_of (scan s []) ≡ and_then (ended s) (λ z. some (z, []))
   unfolding scan
-  end-ends = rw e (by-case r)
+  end-ends = by-case (ended s)
     where
-      by-case : (o : Option ℤ) → number_of (and_then (found o) (λ z. some (z ∷ []))) ≡ with_rest (some []) o
-      by-case None = refl
-      by-case (Some z) = refl
+      by-case : (o : maybe.Option ℤ) → number_of (and_then o (λ z. some (z ∷ []))) ≡ and_then o (λ z. some (z, []))
+      by-case none = refl
+      by-case (some z) = refl
 
-  pub blank-ends : (rest : List ℕ) → number_of (scan s (Text.blank ∷ rest)) ≡ with_rest (numbers rest) r
+  pub blank-ends : (rest : List ℕ) → number_of (scan s (Text.blank ∷ rest)) ≡ and_then (ended s) (λ z. and_then (numbers rest) (give z))
   unfolding numbers
-  blank-ends rest = ap number_of (scan-blank s rest) ∙ rw e (by-case r (scan nothing rest))
+  blank-ends rest = ap number_of (scan-blank s rest) ∙ by-case (ended s) (scan nothing rest)
     where
-      by-case : (o : Option ℤ) (l : maybe.Option (List ℤ)) → number_of (and_then (found o) (λ z. and_then l (λ zs. some (z ∷ zs)))) ≡ with_rest l o
-      by-case None l = refl
-      by-case (Some z) none = refl
-      by-case (Some z) (some zs) = refl
+      by-case : (o : maybe.Option ℤ) (l : maybe.Option (List ℤ))
+          → number_of (and_then o (λ z. and_then l (λ zs. some (z ∷ zs)))) ≡ and_then o (λ z. and_then l (give z))
+      by-case none l = refl
+      by-case (some z) none = refl
+      by-case (some z) (some zs) = refl
 
 digit-not-blank : (b d : ℕ) → digit_of b ≡ some d → b ≡ Text.blank → ⊥
 unfolding digit_of

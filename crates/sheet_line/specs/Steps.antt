@@ -1,12 +1,12 @@
 -- What the private functions' contracts cite: what is left of a line, and what was taken from it.
-use Rattle.std.specs.Prelude.{◌≡◌, ℕ, List, [], take, ℤ, Option, Some, None}
+use Rattle.std.specs.Prelude.{◌≡◌, ℕ, Bool, List, [], take, ℤ, Option, Some, None}
 use Rattle.std.specs.Borrow.{Bor}
 use Rattle.std.proofs.Math.Option as maybe
 use Rattle.shape.specs.declared.Shape.{Shape}
 use Rattle.shape.specs.Shape.{count, counted}
 use Rattle.meaning.specs.Array.{Array}
 use Rattle.sheet_line.specs.declared.Head as Found
-use Rattle.sheet_line.specs.Numbers.{and_then, numbers}
+use Rattle.sheet_line.specs.Numbers.{and_then, Begun, ended, numbers}
 use Rattle.sheet_line.specs.Call.{Reader, give, Head}
 
 -- The numbers that are left of a line; none are after the last number.
@@ -23,6 +23,10 @@ found (Some a) = maybe.some a
 abbrev pub with_rest : {A : Type 0} → maybe.Option (List ℤ) → Option A → maybe.Option (A × List ℤ)
 with_rest after None = maybe.none
 with_rest after (Some a) = and_then after (give a)
+
+-- The same of a magnitude: with its sign it makes a number, where it fits.
+abbrev pub with_sign : Bool → maybe.Option (List ℤ) → Option ℕ → maybe.Option (ℤ × List ℤ)
+with_sign negative after r = and_then (found r) (λ n. and_then (ended (Begun.magnitude negative n)) (λ z. and_then after (give z)))
 
 -- To read p from what was left before is to take this.
 pub record Takes {A : Type 0} (p : Reader A) (before after : maybe.Option (List ℤ)) (r : Option A) : Type 0 where

@@ -1,9 +1,9 @@
 // The numbers of a line, from left to right.
-ghost use Rattle.std.specs.Prelude.{◌≡◌, ◌<◌, ◌↔◌, false, List, [], ℤ, IsTrue};
+ghost use Rattle.std.specs.Prelude.{◌≡◌, ◌<◌, ◌↔◌, false, Bool, List, [], ℤ, IsTrue};
 ghost use Rattle.std.proofs.Math.Option.{Option, some};
 ghost use Rattle.sheet_line.specs.Numbers.{and_then, Begun, digit_of, first, ended, scan, numbers};
 ghost use Rattle.sheet_line.specs.Call.{next_number};
-ghost use Rattle.sheet_line.specs.Steps.{left, found, with_rest, Takes};
+ghost use Rattle.sheet_line.specs.Steps.{left, found, with_rest, with_sign, Takes};
 
 use std::marker::Model;
 
@@ -19,8 +19,8 @@ impl<'a> Model for Reader<'a> {
     ghost view = { λ r. left r.rest };
 }
 
-// The number of a sign and a magnitude. The least number has no opposite in 32 bits. The sign goes down as a bool, since the text says it: a const
-// parameter would be chosen in `number` all the same, and make the loop over the digits twice.
+// The number of a sign and a magnitude. The least number has no opposite in 32 bits. The sign comes as a bool, since the text says it: a const
+// parameter would be chosen in `number` all the same, and make its callers' code twice.
 fn whole(negative: bool, magnitude: u32) -> Option<i32>
     ensures { ended (Begun.magnitude negative magnitude) ≡ found result }
 {
@@ -69,10 +69,11 @@ impl<'a> Reader<'a> {
         Some(0)
     }
 
-    // The digits after the first one, which is not 0. A magnitude that is too large stays so.
-    fn after_digit(&mut self, negative: bool, first: u32, rest: &'a [u8]) -> Option<i32>
+    // The magnitude from the digits after the first one, which is not 0. One that is too large stays so.
+    fn after_digit(&mut self, first: u32, rest: &'a [u8]) -> Option<u32>
         requires { 0 < first }
-        ensures { and_then (scan (Begun.magnitude negative first) rest.now) next_number ≡ with_rest self.new result }
+        ensures { (negative : Bool)
+            → and_then (scan (Begun.magnitude negative first) rest.now) next_number ≡ with_sign negative self.new result }
     {
         let mut n = first;
         for (i, b) in rest.iter().enumerate() {
@@ -81,13 +82,13 @@ impl<'a> Reader<'a> {
                     return None;
                 }
                 self.rest = Some(&rest[i + 1..]);
-                return whole(negative, n);
+                return Some(n);
             };
             // One test a digit; `checked_mul` and `checked_add` are two.
             n = u32::try_from(u64::from(n) * 10 + u64::from(d)).ok()?;
         }
         self.rest = None;
-        whole(negative, n)
+        Some(n)
     }
 
     // A number from its first digit on, whose byte is b.
@@ -96,7 +97,8 @@ impl<'a> Reader<'a> {
     {
         let d = digit_value(b)?;
         if 0 < d {
-            return self.after_digit(negative, d, rest);
+            let magnitude = self.after_digit(d, rest)?;
+            return whole(negative, magnitude);
         }
         if negative {
             return None;
