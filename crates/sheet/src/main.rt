@@ -1,11 +1,11 @@
 // The sheet program: reads lines from standard input and answers each on standard output.
 #![tactic(auto)]
 
-ghost use Rattle.std.specs.Prelude.{◌≡◌, ◌==◌, List, [], ◌∷◌, ◌++◌, ℕ, Some, ◌+◌, ◌-◌, ◌≤◌, length, option_map, MatchOption, IsTrue, ◌↔◌, OnOk, IfErr};
+ghost use Rattle.std.specs.Prelude.{◌≡◌, ◌==◌, List, [], ◌∷◌, ◌++◌, ℕ, Some, ◌+◌, ◌-◌, ◌≤◌, length, option_map, IsTrue, ◌↔◌, OnOk, IfErr};
 ghost use Rattle.std.specs.List.{position};
 ghost use Rattle.std.specs.Io.KnownBytes.{Appends, Consumes};
 ghost use Rattle.sheet_line.specs.Text.{newline};
-ghost use Rattle.sheet_line.specs.Call.{max_line, max_held};
+ghost use Rattle.sheet_line.specs.Call.{max_line};
 ghost use Rattle.sheet_answer.specs.Answer.{bad_line, reply_line, result_in};
 ghost use Rattle.sheet_answer.specs.Sheet.{sheet_answer};
 ghost use Rattle.sheet.specs.Lines.{next, lines_from};
@@ -138,7 +138,8 @@ impl Text {
         self.len += n;
     }
 
-    // The answer to a call's reply.
+    // The answer to a call's reply. It is put as that to a bad line: one function for both would take the call that prints as a closure, of whose contract
+    // its own would have to speak.
     fn put_reply(&mut self, line: u64, reply: Answer, out: &[i32; MAX_HELD])
         requires { length self.old + max_line ≤ ROOM }
         ensures { self.new ≡ self.old ++ reply_line line reply.number (result_in reply.shape out.now) }
@@ -166,16 +167,17 @@ struct Begun {
 
 impl Model for Begun {
     ghost use Rattle.std.specs.Prelude.{List, ℕ, ◌≤◌, take, Option, option_map, IfSome};
+    ghost use Rattle.sheet_line.specs.Call.{max_line};
 
     ghost Value = { Option (List ℕ) };
 
     ghost view = { λ b. option_map (λ n. take n b.bytes) b.len };
 
-    ghost invariant = { λ b. IfSome b.len (λ n. n ≤ 16384) };
+    ghost invariant = { λ b. IfSome b.len (λ n. n ≤ max_line) };
 }
 
 impl Begun {
-    fn is_none(&self) -> bool
+    fn is_empty(&self) -> bool
         ensures { IsTrue result ↔ (self.now ≡ Some []) }
     {
         matches!(self.len, Some(0))
@@ -332,7 +334,7 @@ impl Sheet {
         ensures short { IfErr result
             (λ s. Short (W.contents sink.old) (W.contents sink.new) self.old.answers.text self.old.answers.line s.whole) }
     {
-        if self.begun.is_none() {
+        if self.begun.is_empty() {
             return self.answers.end_line(sink, Some(run));
         }
         self.begun.hold_run(run);
@@ -368,7 +370,7 @@ impl Sheet {
         ensures short { IfErr result (λ s. (bytes : List ℕ) → Holds self.old.begun bytes
             → ShortIn (W.contents sink.old) (W.contents sink.new) self.old.answers.line bytes [] (newline ∷ []) s.whole) }
     {
-        if self.begun.is_none() {
+        if self.begun.is_empty() {
             return Ok(());
         }
         self.answers.end_line(sink, self.begun.bytes())?;
@@ -409,7 +411,8 @@ fn tell(rt: &impl Eprint, failure: &str, last: u64) {
 const READER_GONE: u8 = 141;
 
 // The status is 0 where every line was answered; 1 where a read or a write failed, which is told; and where the reader of the answers went away, who
-// did not want the others, the program ends quietly. A match and no Termination: that would tell the failure as `Error: ..`, and cannot end quietly.
+// did not want the others, the program ends quietly. A match here, and no From or Termination: each failure is told too, so that a From would match it
+// again, and Termination would tell it as `Error: ..`.
 fn main(rt: HostRuntime) -> ExitCode {
     match answer_all(&mut rt.stdin(), &mut rt.stdout()) {
         Ok(()) => ExitCode::SUCCESS,

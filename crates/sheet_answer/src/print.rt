@@ -1,6 +1,6 @@
 // Text written from its end to its start, so that a digit is written as soon as it is known. By hand, and not by Display and `write!`: a formatter writes
 // from the front, so it puts a number's digits, of which the last comes first, into a buffer of its own and copies them, and each call may fail.
-ghost use Rattle.std.specs.Prelude.{◌≡◌, suc, ◌+◌, ◌*◌, ◌/◌, ◌%◌, ◌^◌, ◌≤◌, ◌<◌, ℕ, List, cond, [], ◌∷◌, map, leb, length};
+ghost use Rattle.std.specs.Prelude.{◌≡◌, suc, ◌+◌, ◌*◌, ◌/◌, ◌%◌, ◌^◌, ◌≤◌, ◌<◌, ℕ, List, [], ◌∷◌, map, length};
 ghost use Rattle.sheet_line.specs.Text.{blank, digit, digits, decimal, following};
 
 // The two digits of each number below 100.
