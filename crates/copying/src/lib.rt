@@ -2,11 +2,11 @@
 // elements.
 #![tactic(auto)]
 
-ghost use Rattle.std.specs.Prelude.{◌≡◌, ◌++◌, true, min, ◌+◌, ◌*◌, ◌≤◌, ◌<◌, length, replicate, take, drop, ltb};
+ghost use Rattle.std.specs.Prelude.{◌≡◌, ◌++◌, true, cond, min, ◌+◌, ◌-◌, ◌*◌, ◌≤◌, ◌<◌, length, List, replicate, take, drop, ltb};
 ghost use Rattle.shape.specs.Shape.{max_count};
 ghost use Rattle.meaning.specs.Array.{tab};
 ghost use Rattle.meaning.specs.Terms.{every};
-ghost use Rattle.copying.specs.Runs.{copied, reversed};
+ghost use Rattle.copying.specs.Runs.{copied, reversed, ordered, arranged};
 ghost use Rattle.copying.specs.Steps.{filled};
 ghost use Rattle.copying.specs.Gather.{small_blocks, gathers, gathered_at, gathered, rows_by, RowsBy};
 
@@ -22,7 +22,9 @@ pub fn min(a: usize, b: usize) -> usize
 // Runs from this length on are copied by way of a buffer.
 const LONG: usize = 32;
 
-// As many elements as both have; the rest of `out` stays.
+// As many elements as both have; the rest of `out` stays. The ways to copy promise the same, and each takes the two slices apart: a struct of both
+// would be made at every call and taken apart at once. Inlined: as a call, catenate of rows of 2 and 3 took 2.4 times as long.
+#[inline(always)]
 #[tactic(auto, using(crate::proofs::Runs::copied_front))]
 pub fn copy_run(src: &[i32], out: &mut [i32])
     ensures { out.new ≡ copied src.now out.old }
@@ -31,71 +33,109 @@ pub fn copy_run(src: &[i32], out: &mut [i32])
     if LONG <= n && n <= Shape::MAX_COUNT {
         copy_long(&src[..n], out);
     } else {
-        copy_each(src, out);
+        copy_row(src, out);
     }
 }
 
-// The compiler knows that nothing else overlaps this buffer. So it makes one move of both copies, the C library's, and no buffer is left. By
-// copy_from_slice, which first asks whether the two overlap, catenate of rows of 2 and 3 took 1.35 times as long and compress of rows up to 1.24.
-#[tactic(auto, using(crate::proofs::Runs::copied_through))]
+// The compiler knows that nothing else overlaps this buffer. So it makes one move of both copies, the C library's, and no buffer is left. Inlined:
+// a call of its own keeps the buffer, and take of 1,000 elements took 11 times as long. By copy_from_slice for every run, which first asks whether the
+// two overlap, catenate of rows of 2 and 3 took 1.35 times as long and compress of rows up to 1.24. The bound is the buffer's, and of this call alone.
+#[inline(always)]
 fn copy_long(src: &[i32], out: &mut [i32])
     requires { length src.now ≤ max_count }
     ensures { out.new ≡ copied src.now out.old }
 {
     let mut held = [0; Shape::MAX_COUNT];
-    copy_each(src, &mut held);
-    copy_each(&held[..src.len()], out);
+    copy_each::<i32, false>(src, &mut held);
+    copy_each::<i32, false>(&held[..src.len()], out);
 }
 
-// One after another: by two iterators side by side short runs took up to 1.4 times as long.
-fn copy_each<T: Copy>(src: &[T], out: &mut [T])
-    ensures { out.new ≡ copied src.now out.old }
+// The place in a run of n elements of the element that comes at i + k: in their order, or the last of them first. A constant says which, so that one
+// copy serves both ways and neither asks.
+fn place<const BACK: bool>(n: usize, i: usize, k: usize) -> usize
+    requires { i + k < n }
+    ensures { result ≡ cond BACK (n - 1 - (i + k)) (i + k) }
+{
+    if BACK { n - i - 1 - k } else { i + k }
+}
+
+// One after another, by their places: of what a slice holds after a loop over its `iter_mut` beside another iterator std says nothing.
+fn copy_each<T: Copy, const BACK: bool>(src: &[T], out: &mut [T])
+    ensures { out.new ≡ arranged BACK src.now out.old }
 {
     let n = src.len().min(out.len());
     for i in 0..n {
-        out[i] = src[i];
+        out[i] = src[place::<BACK>(n, i, 0)];
     }
 }
 
 // Four elements, all read before any is written, so that they are moved as one. By an array and copy_from_slice they went one by one: rows of 10 and
 // more took up to 2.3 times as long.
-fn move_4<T: Copy>(src: &[T], out: &mut [T], i: usize)
+fn move_4<T: Copy, const BACK: bool>(src: &[T], out: &mut [T], i: usize)
     requires { (i + 4 ≤ length src.now) × (i + 4 ≤ length out.old) }
-    ensures { out.new ≡ take i out.old ++ take 4 (drop i src.now) ++ drop (i + 4) out.old }
+    ensures { out.new ≡ take i out.old ++ take 4 (drop i (ordered BACK src.now)) ++ drop (i + 4) out.old }
 {
-    let a0 = src[i];
-    let a1 = src[i + 1];
-    let a2 = src[i + 2];
-    let a3 = src[i + 3];
+    let n = src.len();
+    let a0 = src[place::<BACK>(n, i, 0)];
+    let a1 = src[place::<BACK>(n, i, 1)];
+    let a2 = src[place::<BACK>(n, i, 2)];
+    let a3 = src[place::<BACK>(n, i, 3)];
     out[i] = a0;
     out[i + 1] = a1;
     out[i + 2] = a2;
     out[i + 3] = a3;
 }
 
-// Eight at a time, while that many of the first n are left: how many are copied. By a `for` over the eights select took up to twice as long.
-fn copy_eights<T: Copy>(src: &[T], out: &mut [T], n: usize) -> usize
-    requires { (n ≤ length src.now) × (n ≤ length out.old) }
-    ensures { (result ≤ n) × (out.new ≡ take result src.now ++ drop result out.old) }
+// Eight at a time, while more than that are left: how many are copied. By a `for` over the eights select took up to twice as long. That the run fits
+// is asked by these two, which copy_moves alone calls.
+fn copy_eights<T: Copy, const BACK: bool>(src: &[T], out: &mut [T]) -> usize
+    requires { length src.now ≤ length out.old }
+    ensures left { (result ≤ length src.now) × (length src.now ≤ result + 8) }
+    ensures copied { out.new ≡ take result (ordered BACK src.now) ++ drop result out.old }
 {
     let mut done = 0;
-    while 8 <= n - done {
-        move_4(src, out, done);
-        move_4(src, out, done + 4);
+    while 8 < src.len() - done {
+        move_4::<T, BACK>(src, out, done);
+        move_4::<T, BACK>(src, out, done + 4);
         done += 8;
     }
     done
 }
 
-// As copy_run, for runs that are short: the compiler need not test whether the buffers overlap.
+// Up to eight elements that are left of four or more. The last four go as one, some of them a second time.
+fn copy_last<T: Copy, const BACK: bool>(src: &[T], out: &mut [T], done: usize)
+    requires { (4 ≤ length src.now) × (length src.now ≤ length out.old) × (done ≤ length src.now) × (length src.now ≤ done + 8) }
+    ensures { (out₀ : List T) → out.old ≡ take done (ordered BACK src.now) ++ drop done out₀ → out.new ≡ ordered BACK src.now ++ drop (length src.now) out₀ }
+{
+    let last = src.len() - 4;
+    if done < last {
+        move_4::<T, BACK>(src, out, done);
+    }
+    move_4::<T, BACK>(src, out, last);
+}
+
+// Four elements or more by moves of four: no test whether the buffers overlap, and no loop over what is left of eight. One after another catenate of
+// rows of 2 and 3 took 2.3 times as long, rotate of rows of 5 up to 3.2 and reverse 1.7.
+#[inline(always)]
+fn copy_moves<T: Copy, const BACK: bool>(src: &[T], out: &mut [T])
+    ensures { out.new ≡ arranged BACK src.now out.old }
+{
+    let n = src.len().min(out.len());
+    if n < 4 {
+        copy_each::<T, BACK>(src, out);
+        return;
+    }
+    let done = copy_eights::<T, BACK>(&src[..n], out);
+    copy_last::<T, BACK>(&src[..n], out, done);
+}
+
+// As copy_run, for runs that are short.
+#[inline(always)]
+#[tactic(auto, unfolding(crate::specs::Runs::copied))]
 pub fn copy_row<T: Copy>(src: &[T], out: &mut [T])
     ensures { out.new ≡ copied src.now out.old }
 {
-    let n = src.len().min(out.len());
-    let done = copy_eights(src, out, n);
-    for i in done..n {
-        out[i] = src[i];
-    }
+    copy_moves::<T, false>(src, out);
 }
 
 // By the library's fill 8 to 64 elements took up to 1.9 times as long.
@@ -108,13 +148,11 @@ pub fn fill_run<T: Copy>(x: T, out: &mut [T])
 }
 
 // As many elements as both have, the last of them first; the rest of `out` stays.
+#[tactic(auto, unfolding(crate::specs::Runs::reversed))]
 pub fn reverse_run<T: Copy>(src: &[T], out: &mut [T])
     ensures { out.new ≡ reversed src.now out.old }
 {
-    let n = src.len().min(out.len());
-    for j in 0..n {
-        out[j] = src[n - 1 - j];
-    }
+    copy_moves::<T, true>(src, out);
 }
 
 // How many positions a caller notes at a time: a few cache lines of them. With half as many a vector takes an eighth longer.

@@ -19,7 +19,7 @@ use Rattle.shape.proofs.Places.{row_in}
 use Rattle.turns.specs.declared.Turn.{Turn}
 use Rattle.turns.specs.declared.Turn.TheVariants.{Back, By}
 use Rattle.turns.specs.Steps.{turn_position, back_at}
-use Rattle.copying.proofs.Steps.{get_d_reverse}
+use Rattle.std.proofs.lemmas.List.{get_or-reverse}
 
 -- One row less.
 pub row_before : (i c : ℕ) → 0 < i → i * c ≡ (i - 1) * c + c
@@ -44,7 +44,7 @@ line-reversed r out n c one a b =
     (λ i l.
     let q : (n - 1 - i / c) * c + i % c ≡ length r - 1 - i =
     ap (λ k. (n - 1 - i / k) * k + i % k) one ∙ (rw (div-one i, mod-one i, mul-one) (omega arith)) in
-    ap (λ k. get_or r k (pos 0)) q ∙ sym (get_d_reverse r i (pos 0) (omega arith)))
+    ap (λ k. get_or r k (pos 0)) q ∙ sym (get_or-reverse r i (pos 0) (omega arith)))
 
 -- A turn stays among the positions.
 pub turn-lt : (turn : Turn) (n i : ℕ) → i < n → turn_position turn n i < n

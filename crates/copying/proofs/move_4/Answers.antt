@@ -1,6 +1,18 @@
-use Rattle.copying.proofs.Moves.{stored-4}
+use Rattle.std.proofs.Common.{arith, ◌∙◌, ◌-◌, ap, cond, length}
+use native.Mathlib.Nat.{add-zero}
+use denote.Param.{number}
+use Rattle.copying.specs.Runs.{ordered}
+use Rattle.copying.proofs.Moves.{placed, stored-4, length_ordered}
+use Rattle.copying.specs.contracts.move_4.{BACK-type}
 use Rattle.copying.proofs.move_4.Goals as goal
 
 pub returns : goal.returns
 returns g c =
-    stored-4 c.args.src.now c.args.out.now c.args.i c.requires.0 c.requires.1 c.index-src-i.is c.index-src-i-2.is c.index-src-i-3.is c.index-src-i-4.is
+    let back = BACK-type g.row.T (number g.row.BACK) in
+    let src = c.args.src.now in
+    let first = c.place.ensures ∙ ap (λ m. cond back (length src - 1 - m) m) (add-zero c.args.i) in
+    stored-4 (ordered back src) c.args.out.now c.args.i (omega (arith, length_ordered back src)) c.requires.1
+    (placed back src c.index-src-place.is first (omega arith))
+    (placed back src c.index-src-place-2.is c.place-2.ensures (omega arith))
+    (placed back src c.index-src-place-3.is c.place-3.ensures (omega arith))
+    (placed back src c.index-src-place-4.is c.place-4.ensures (omega arith))
