@@ -3,7 +3,7 @@ use mathlib.Core.Path.{◌≡◌, refl, sym, ap, ◌∙◌}
 use mathlib.Core.List.{List, ◌++◌}
 use mathlib.Core.Bool.{cond}
 use Prim.Native.Nat.{ℕ, ◌+◌, ◌*◌, ◌-◌, ◌/◌, ◌%◌, ◌≤◌, ◌<◌}
-use native.Mathlib.Nat.{mod-eq_of_lt, mod-lt, add-mod_right, div-add-mod'}
+use native.Mathlib.Nat.{mul-le-mul_right, mod-eq_of_lt, mod-lt, add-mod_right, div-add-mod'}
 use native.Mathlib.Omega.{arith}
 use lib.Arith.{digits_lt, digits_div, digits_mod}
 use borrow.Rule.Slice.PartMut.{put_mid, mid_of, post_of, same_len_mid, drop_put}
@@ -23,7 +23,7 @@ use Rattle.turns.specs.Steps.{Lie, turn_position, turned_at, cut_blocks, Shifts}
 use Rattle.turns.specs.Steps.Shifts.{down, up}
 use Rattle.shape.proofs.Places.{row_fits, row_in}
 use Rattle.copying.proofs.Parts.{filled_on, part-long, part_filled}
-use Rattle.copying.proofs.Blockwise.{Blockwise}
+use Rattle.copying.proofs.Blockwise.{Blockwise, blockwise-room}
 use Rattle.turns.proofs.Rows.{row_cut}
 
 -- What the run over all blocks leaves: the elements of r from `from` on stand at `to .. end`, and those after the blocks as they were.
@@ -96,6 +96,11 @@ pub bounds : {size from to before after : ℕ} → Shifts size from to before af
 bounds (down e f h) = record { source_in = omega arith; target-in = omega arith; cut_in = omega arith }
 bounds (up e f h) = record { source_in = omega arith; target-in = omega arith; cut_in = omega arith }
 
+-- A block is no longer than all of them.
+pub limits : {size from to before after outer m n : ℕ} → Shifts size from to before after → Lie outer size m n
+    → Bounds size from to before after × (size ≤ outer * size)
+limits {size} {outer = outer} shifts lie = (bounds shifts, omega (arith, row_fits 0 outer size lie.some))
+
 -- A block more: its part is written, and its other part stands already.
 module _ {r out₀ out₁ out : List ℤ} {outer size from to before after o at : ℕ} (shifts : Shifts size from to before after)
     (lie : Lie outer size (length r) (length out₀)) (m : Moved r out₀ out₁ from to (to + (outer * size - (from + to))) (outer * size))
@@ -141,6 +146,17 @@ module _ {r out₀ out₁ out : List ℤ} {outer size from to before after o at 
           (λ i v. high (target + part + i) (at + i) (omega arith) (omega arith) (omega arith)
           ∙ sym (m.run _ (at + i) (omega arith) (omega arith) (omega arith)))
           ∙ ap (λ k. filled turned k out₁) (omega arith)
+
+-- A block more lies within both buffers.
+pub block-lies : {outer size m at o : ℕ} {g : ℕ → ℤ} {out₀ out : List ℤ} → Blockwise outer size g out₀ out at o → o < outer
+    → Lie outer size m (length out₀) → (at + size ≤ m) × (at + size ≤ length out)
+block-lies b l lie = (blockwise-room b _ l lie.source, rw b.long (blockwise-room b _ l lie.space))
+
+-- A group of some blocks more lies within both buffers.
+pub group-lies : {outer size m n at : ℕ} (o some : ℕ) → Lie outer size m n → at ≡ o * size → o + some ≤ outer → (at + some * size ≤ m) × (at + some * size ≤ n)
+group-lies {outer} {size} o some lie e h =
+    let k = mul-le-mul_right {m = o + some} {n = outer} size h in
+    (omega (arith, e, k, lie.source), omega (arith, e, k, lie.space))
 
 -- After the blocks the buffer is as it was.
 pub moved_all : {r : List ℤ} (outer size : ℕ) {from to end : ℕ} {out out₀ out₁ : List ℤ} (g : ℕ → ℤ) → Moved r out₀ out₁ from to end (outer * size)

@@ -5,4 +5,4 @@ use Rattle.turns.specs.Steps.{turned_at}
 use Rattle.turns.proofs.reverse_blocks.Given as goal
 
 abbrev pub invariant-loop : goal.invariant-loop
-invariant-loop l = Blockwise l.outer (l.n * l.inner) (turned_at Back l.r l.n l.inner) l.initial.out l.out l.at l.counter
+invariant-loop l = Blockwise l.w.outer (l.w.length * l.w.inner) (turned_at Back l.r l.w.length l.w.inner) l.initial.out l.out l.at l.counter

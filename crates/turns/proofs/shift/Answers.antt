@@ -3,19 +3,15 @@ use borrow.Rule.Slice.PartMut.{same_len_mid}
 use Rattle.shape.proofs.Places.{row_fits}
 use Rattle.copying.proofs.Blockwise.{blockwise-none, blockwise-room, blockwise-all}
 use Rattle.turns.specs.Steps.{cut_blocks}
-use Rattle.turns.proofs.Groups.{first_run, Bounds, bounds, shift-step, moved_all}
+use Rattle.turns.proofs.Groups.{first_run, Bounds, bounds, limits, shift-step, moved_all}
 use Rattle.turns.proofs.shift.Goals as goal
-use Rattle.turns.proofs.shift.Goals.{Start, In-loop}
-
--- The parts lie within the blocks.
-limits : (c : Start) → Bounds c.args.size c.args.from c.args.to c.args.before c.args.after × (c.args.size ≤ c.args.outer * c.args.size)
-limits c = (bounds c.requires.0, omega (arith, row_fits 0 c.args.outer c.args.size c.requires.1.some))
+use Rattle.turns.proofs.shift.Goals.{In-loop}
 
 -- The block lies within both.
 room : (c : In-loop)
-    → (c.loop.at + c.args.size ≤ length c.args.r.now)
-    × (c.loop.at + c.args.size ≤ length c.loop.out)
-    × Bounds c.args.size c.args.from c.args.to c.args.before c.args.after
+    → (c.loop.at + c.args.w.length * c.args.w.inner ≤ length c.args.r.now)
+    × (c.loop.at + c.args.w.length * c.args.w.inner ≤ length c.loop.out)
+    × Bounds (c.args.w.length * c.args.w.inner) c.args.from c.args.to c.args.before c.args.after
 room c =
     let b = c.loop.invariant in
     let s = blockwise-room b _ c.loop-test.true c.requires.1.source in
@@ -23,13 +19,13 @@ room c =
     (s, omega (arith, t, c.loop.auto.out), bounds c.requires.0)
 
 pub offset_bounds-r-from : goal.offset_bounds-r-from
-offset_bounds-r-from c = omega (arith, limits c, c.requires.1)
+offset_bounds-r-from c = omega (arith, limits c.requires.0 c.requires.1, c.requires.1)
 
 pub offset_bounds-out-to : goal.offset_bounds-out-to
-offset_bounds-out-to c = omega (arith, limits c.before, c.requires.1)
+offset_bounds-out-to c = omega (arith, limits c.requires.0 c.requires.1, c.requires.1)
 
 pub slice_bounds-copy_run-end-2 : goal.slice_bounds-copy_run-end-2
-slice_bounds-copy_run-end-2 c = omega (arith, limits c.before, c.requires.1)
+slice_bounds-copy_run-end-2 c = omega (arith, limits c.requires.0 c.requires.1, c.requires.1)
 
 pub loop-init : goal.loop-init
 loop-init c = blockwise-none _ _ _ _
@@ -67,7 +63,8 @@ pub loop-preserved : goal.loop-preserved
 loop-preserved c =
     let a = c.args in
     let k = bounds c.requires.0 in
-    let n = row_fits 0 a.outer a.size c.requires.1.some in
+    let size = a.w.length * a.w.inner in
+    let n = row_fits 0 a.w.outer size c.requires.1.some in
     let first =
     first_run {r = a.r.now} {from = a.from} _ (omega (arith, k, n, c.requires.1.source)) (omega (arith, k, n)) c.requires.1.space
     c.copy_run.ensures in
@@ -86,8 +83,9 @@ pub returns : goal.returns
 returns c =
     let a = c.args in
     let k = bounds c.requires.0 in
-    let n = row_fits 0 a.outer a.size c.requires.1.some in
+    let size = a.w.length * a.w.inner in
+    let n = row_fits 0 a.w.outer size c.requires.1.some in
     let first =
     first_run {r = a.r.now} {from = a.from} _ (omega (arith, k, n, c.requires.1.source)) (omega (arith, k, n)) c.requires.1.space
     c.copy_run.ensures in
-    moved_all a.outer a.size (cut_blocks a.r.now a.size (a.from + a.before)) first (blockwise-all c.loop.invariant (omega arith))
+    moved_all a.w.outer size (cut_blocks a.r.now size (a.from + a.before)) first (blockwise-all c.loop.invariant (omega arith))
