@@ -46,7 +46,7 @@ pub fn rotate(
     Ok(r.shape.as_result())
 }
 
-// RANK, AXIS and LENGTH, or else the axis and the amount.
+// RANK, AXIS and LENGTH, or else the axis and the amount. That the axis is K's number from 0 is said by each function that finds one, in one word.
 fn rotation(g: i32, k: i32, l: &Formed<'_>, r: &Formed<'_>) -> Result<(usize, i32), Refusal>
     ensures number { asked result ≡ own 25 (rotate g k (array_of l.now) (array_of r.now)).refusals }
     ensures found { IfOk result (λ t. (t.0 ≡ from_zero g k) × (t.1 ≡ get_or (array_of l.now).elements 0 (pos 0))) }
@@ -71,7 +71,8 @@ enum Turn {
     By(i32),
 }
 
-// Turns an axis of R, `total` elements in all. A scalar has no axis to go around, and without elements there is no block.
+// Turns an axis of R, `total` elements in all: they were counted for LIMIT and SPACE, and no Formed is handed on, which would count them again. A scalar
+// has no axis to go around, and without elements there is no block.
 fn turn_into(turn: Turn, s: Shape, axis: usize, total: usize, r: &[i32], out: &mut [i32])
     requires { Turns s axis total r.now (length out.old) }
     ensures { out.new
