@@ -71,6 +71,10 @@ module _ {b : AxisBlocks} where
         inner = leb-true _ _ (both _ _ made.1).0;
       }
 
+  pub small_by : Small b → small_blocks b ≡ true
+  unfolding small_blocks every
+  small_by s = rw (le-leb b.outer _ s.outer, le-leb b.taken _ s.taken, le-leb b.made _ s.made, le-leb b.inner _ s.inner)
+
   module _ {at : List ℕ} {first n m : ℕ} where
     pub gathers-is : gathers at first b n m ≡ true → Gathers at first b n m
     unfolding gathers

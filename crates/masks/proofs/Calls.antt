@@ -29,44 +29,42 @@ use Rattle.answer.specs.declared.refusal.Refusal as code
 use Rattle.answer.proofs.Exits.{number-some}
 use Rattle.answer.proofs.Lent.{Lent, formed, rank-of}
 use Rattle.answer.proofs.Order.{Names, Own, own_first, Ready, Roomy}
-use Rattle.masks.specs.declared.Action.{Action}
-use Rattle.masks.specs.declared.Action.TheVariants.{Compress, Expand}
 use Rattle.masks.specs.Steps.Actions.{action_number, masking, vector_shape, repeats, mask_fits, mask_rules, mask_of, suits, width, takes_at, taken}
 use Rattle.masks.specs.Steps.Actions.{mask_element, Masked}
 use Rattle.masks.proofs.Vectors.{read-good, read-long, read-lent, read-array, read-alone}
 
 -- In turn: L is a list, K names an axis, and what the mask can meet.
-abbrev pub mask_order : Action → Bool → Bool → List Rule → ℕ
+abbrev pub mask_order : Bool → Bool → Bool → List Rule → ℕ
 mask_order a list inside rules = or_else (first_met (RANK unless list ∷ AXIS unless inside ∷ [])) (own (action_number a) rules)
 
 in-turn : (n : ℕ) (front rest : List Rule) → Own n (front ++ rest) → Own n rest → own n (front ++ rest) ≡ or_else (first_met front) (own n rest)
 in-turn n front rest h k = own_first n (front ++ rest) h ∙ first-append front rest ∙ ap (or_else (first_met front)) (sym (own_first n rest k))
 
 -- What the two tests of a mask come to: 27 asks LENGTH first, 28 DOMAIN.
-abbrev mask-asks : Action → Bool → Bool → ℕ
+abbrev mask-asks : Bool → Bool → Bool → ℕ
 mask-asks a fits bits = own (action_number a) (LENGTH unless fits ∷ DOMAIN unless bits ∷ [])
 
-compress-turn : (f d : Bool) → or_else (cond f 0 (number LENGTH)) (cond d 0 (number DOMAIN)) ≡ mask-asks Compress f d
+compress-turn : (f d : Bool) → or_else (cond f 0 (number LENGTH)) (cond d 0 (number DOMAIN)) ≡ mask-asks false f d
 unfolding precedence winner meets
 compress-turn true true = refl
 compress-turn true false = refl
 compress-turn false d = refl
 
-expand-turn : (f d : Bool) → or_else (cond d 0 (number DOMAIN)) (cond f 0 (number LENGTH)) ≡ mask-asks Expand f d
+expand-turn : (f d : Bool) → or_else (cond d 0 (number DOMAIN)) (cond f 0 (number LENGTH)) ≡ mask-asks true f d
 unfolding precedence winner meets
 expand-turn true true = refl
 expand-turn false true = refl
 expand-turn true false = refl
 expand-turn false false = refl
 
-module _ {a : Action} {f d : Bool} (repeated : Bool) (l : List ℤ) (n : ℕ) (fits : f ≡ mask_fits a repeated l n) (bits : d ≡ every is_bit l) where
-  told : {x : Action} → a ≡ x → mask-asks x f d ≡ own (action_number a) (mask_rules a repeated l n)
-  told is = ap (λ (y : Action). mask-asks y f d) (sym is) ∙ ap₂ (mask-asks a) fits bits
+module _ {a : Bool} {f d : Bool} (repeated : Bool) (l : List ℤ) (n : ℕ) (fits : f ≡ mask_fits a repeated l n) (bits : d ≡ every is_bit l) where
+  told : {x : Bool} → a ≡ x → mask-asks x f d ≡ own (action_number a) (mask_rules a repeated l n)
+  told is = ap (λ (y : Bool). mask-asks y f d) (sym is) ∙ ap₂ (mask-asks a) fits bits
 
-  pub compress-told : a ≡ Compress → or_else (cond f 0 (number LENGTH)) (cond d 0 (number DOMAIN)) ≡ own (action_number a) (mask_rules a repeated l n)
+  pub compress-told : a ≡ false → or_else (cond f 0 (number LENGTH)) (cond d 0 (number DOMAIN)) ≡ own (action_number a) (mask_rules a repeated l n)
   compress-told is = compress-turn f d ∙ told is
 
-  pub expand-told : a ≡ Expand → or_else (cond d 0 (number DOMAIN)) (cond f 0 (number LENGTH)) ≡ own (action_number a) (mask_rules a repeated l n)
+  pub expand-told : a ≡ true → or_else (cond d 0 (number DOMAIN)) (cond f 0 (number LENGTH)) ≡ own (action_number a) (mask_rules a repeated l n)
   expand-told is = expand-turn f d ∙ told is
 
 -- Two tests, one after the other.
@@ -76,7 +74,7 @@ and-asked (Ok u) y = refl
 and-asked (Err e) y = sym (else-first (number (meant e)) _ (number-some e))
 
 -- What is known where nothing of that is met.
-pub record Accepts (a : Action) (repeated inside : Bool) (l : List ℤ) (n : ℕ) : Type 0 where
+pub record Accepts (a : Bool) (repeated inside : Bool) (l : List ℤ) (n : ℕ) : Type 0 where
   pub has : inside ≡ true
   pub fitting : mask_fits a repeated l n ≡ true
 
@@ -93,37 +91,37 @@ module _ (G K : ℤ) (L R : Operand) where
   abbrev first : List Rule
   first = RANK unless is_list (array_of L) ∷ AXIS unless within (K -ℤ G) (rank w) ∷ []
 
-  pub mask-names : (a : Action) → Names (action_number a) 2 G K L R (masking a G K (array_of L) (array_of R))
+  pub mask-names : (a : Bool) → Names (action_number a) 2 G K L R (masking a G K (array_of L) (array_of R))
   unfolding primitives named int_same masking compress expand precedence
-  mask-names Compress = record { number = refl; arity = refl; meaning = refl; own = refl }
-  mask-names Expand = record { number = refl; arity = refl; meaning = refl; own = refl }
+  mask-names false = record { number = refl; arity = refl; meaning = refl; own = refl }
+  mask-names true = record { number = refl; arity = refl; meaning = refl; own = refl }
 
   -- What it asks, in turn, and what the result is.
-  pub masking-own : (a : Action) → own (action_number a) (masking a G K (array_of L) (array_of R)).refusals
+  pub masking-own : (a : Bool) → own (action_number a) (masking a G K (array_of L) (array_of R)).refusals
       ≡ mask_order a (is_list (array_of L)) (within (K -ℤ G) (rank w)) (mask_rules a (repeats a (rank (array_of R))) l (axis w (from_zero G K)))
   unfolding masking compress expand mask_fits precedence winner meets
-  masking-own Compress = in-turn 27 first (drop 2 (masking Compress G K (array_of L) (array_of R)).refusals) (mask-names Compress).own refl
-  masking-own Expand = in-turn 28 first (drop 2 (masking Expand G K (array_of L) (array_of R)).refusals) (mask-names Expand).own refl
+  masking-own false = in-turn 27 first (drop 2 (masking false G K (array_of L) (array_of R)).refusals) (mask-names false).own refl
+  masking-own true = in-turn 28 first (drop 2 (masking true G K (array_of L) (array_of R)).refusals) (mask-names true).own refl
 
-  accepts : (a : Action) → own (action_number a) (masking a G K (array_of L) (array_of R)).refusals ≡ 0
+  accepts : (a : Bool) → own (action_number a) (masking a G K (array_of L) (array_of R)).refusals ≡ 0
       → Accepts a (repeats a (rank (array_of R))) (within (K -ℤ G) (rank w)) l (axis w (from_zero G K))
   unfolding masking compress expand mask_fits meets
-  accepts Compress h = record { has = holds _ (unmet 27 _ h AXIS); fitting = holds _ (unmet 27 _ h LENGTH) }
-  accepts Expand h = record { has = holds _ (unmet 28 _ h AXIS); fitting = holds _ (unmet 28 _ h LENGTH) }
+  accepts false h = record { has = holds _ (unmet 27 _ h AXIS); fitting = holds _ (unmet 27 _ h LENGTH) }
+  accepts true h = record { has = holds _ (unmet 28 _ h AXIS); fitting = holds _ (unmet 28 _ h LENGTH) }
 
-  masking-lengths : (a : Action) → (masking a G K (array_of L) (array_of R)).lengths
+  masking-lengths : (a : Bool) → (masking a G K (array_of L) (array_of R)).lengths
       ≡ set w.lengths (from_zero G K) (width a (mask_of a l (axis w (from_zero G K))))
   unfolding masking compress expand mask_of width
-  masking-lengths Compress = refl
-  masking-lengths Expand = refl
+  masking-lengths false = refl
+  masking-lengths true = refl
 
-  masking-element : (a : Action) → (masking a G K (array_of L) (array_of R)).element ≡ mask_element a (repeats a (rank (array_of R))) l w (from_zero G K)
+  masking-element : (a : Bool) → (masking a G K (array_of L) (array_of R)).element ≡ mask_element a (repeats a (rank (array_of R))) l w (from_zero G K)
   unfolding masking compress expand mask_of takes_at taken
-  masking-element Compress = refl
-  masking-element Expand = refl
+  masking-element false = refl
+  masking-element true = refl
 
 -- What it asks, by the shape s that R is read with.
-pub mask-own : (a : Action) (G K : ℤ) (L : Operand) {R : Operand} {rs s : Shape} {b : List ℤ} → WellFormed rs b → lent rs b ≡ R → s ≡ vector_shape rs
+pub mask-own : (a : Bool) (G K : ℤ) (L : Operand) {R : Operand} {rs s : Shape} {b : List ℤ} → WellFormed rs b → lent rs b ≡ R → s ≡ vector_shape rs
     → own (action_number a) (masking a G K (array_of L) (array_of R)).refusals
     ≡ mask_order a (is_list (array_of L)) (within (K -ℤ G) s.rank)
     (mask_rules a (repeats a rs.rank) (array_of L).elements (get_or (counted s) (from_zero G K) 0))
@@ -138,25 +136,25 @@ mask-own a G K L {R} {rs} {s} {b} f v read =
     (rank-of s b (read-long rs read g.long) (read-good rs read g.good))
 
 -- A mask that fits suits the axis with an element for each position.
-mask-suits : (a : Action) (l : List ℤ) (n : ℕ) → mask_fits a false l n ≡ true → suits a (mask_of a l n) n ≡ true
+mask-suits : (a : Bool) (l : List ℤ) (n : ℕ) → mask_fits a false l n ≡ true → suits a (mask_of a l n) n ≡ true
 unfolding mask_fits suits mask_of
-mask-suits Expand l n h = h
-mask-suits Compress l n h = by (eqb (length l) 1) h
+mask-suits true l n h = h
+mask-suits false l n h = by (eqb (length l) 1) h
   where
     by : (b : Bool) → (b || eqb n 1 || eqb (length l) n) ≡ true → (eqb n 1 || eqb (length (cond b (replicate n (get_or l 0 (pos 0))) l)) n) ≡ true
     by true h = rw (eq-eqb _ n (length-replicate n (get_or l 0 (pos 0)))) (or-true (eqb n 1))
     by false h = h
 
-repeats-alone : (a : Action) (n : ℕ) → repeats a n ≡ true → (a ≡ Expand) × (n ≡ 0)
-repeats-alone Compress n h = no_way h
-repeats-alone Expand n h = (refl, eqb-true n 0 h)
+repeats-alone : (a : Bool) (n : ℕ) → repeats a n ≡ true → (a ≡ true) × (n ≡ 0)
+repeats-alone false n h = no_way h
+repeats-alone true n h = (refl, eqb-true n 0 h)
 
 alike : (P : List ℤ → ℕ → Array → ℕ → Type 0) {l l' : List ℤ} {n n' : ℕ} {w w' : Array} {k k' : ℕ} → l ≡ l' → n ≡ n' → w ≡ w' → k ≡ k'
     → P l n w k → P l' n' w' k'
 alike P e f g h p = rw (e, f, g, h) at p
 
 -- What is known of a call where FORM, ORIGIN and its own refusals are not met: s is the shape that R is read with, l the mask.
-pub record Known (a : Action) (G K : ℤ) (L : Operand) (rs : Shape) (l r : List ℤ) (s : Shape) (axis : ℕ) : Type 0 where
+pub record Known (a : Bool) (G K : ℤ) (L : Operand) (rs : Shape) (l r : List ℤ) (s : Shape) (axis : ℕ) : Type 0 where
   pub fine : early (good_form L && good_form (lent rs r)) G ≡ 0
   pub right : Lent rs r
   pub none : own (action_number a) (masking a G K (array_of L) (array_of (lent rs r))).refusals ≡ 0
@@ -164,7 +162,7 @@ pub record Known (a : Action) (G K : ℤ) (L : Operand) (rs : Shape) (l r : List
   pub axis-is : axis ≡ from_zero G K
   pub mask : l ≡ (array_of L).elements
 
-module _ {a : Action} {G K : ℤ} {L : Operand} {rs : Shape} {l r : List ℤ} {s : Shape} {axis : ℕ} (d : Known a G K L rs l r s axis) where
+module _ {a : Bool} {G K : ℤ} {L : Operand} {rs : Shape} {l r : List ℤ} {s : Shape} {axis : ℕ} (d : Known a G K L rs l r s axis) where
   abbrev given : Meaning
   given = masking a G K (array_of L) (array_of (lent rs r))
 

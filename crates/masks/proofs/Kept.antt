@@ -19,7 +19,7 @@ use Rattle.masks.specs.Steps.Actions.{one_at}
 use Rattle.masks.specs.Steps.Rows.{kept_rows, Stretch}
 use Rattle.masks.proofs.Ones.{before, before-none, before-few, before-all, before-most, before-one, before-other, one-at}
 use Rattle.masks.proofs.Filling.{one-is, RowsFrom, rows_more}
-use Rattle.masks.proofs.Stretches.{ones-add, ones-pass, others-pass, rows-size}
+use Rattle.masks.proofs.Stretches.{from_first, ones-add, ones-pass, others-pass, rows-size}
 use Rattle.masks.proofs.Written.{Written, written_none, MoreRuns}
 
 pub record Kept (l r : List ℤ) (c : ℕ) (out₀ out : List ℤ) (to i : ℕ) : Type 0 where
@@ -50,6 +50,9 @@ module _ {l r : List ℤ} {c : ℕ} {out₀ out : List ℤ} {to i : ℕ} (k : Ke
       omega (arith, k.written.at)))
       (λ q. q)
       (eq-or-lt_of_le s.within)
+
+  pub kept-ones : {first next : ℕ} → to < length out₀ → Stretch false l i first → Stretch true l (first + 1) next → Stretch true l first next
+  kept-ones h a b = from_first a (kept-first h a) b
 
   -- Positions without a one, and then neighbouring ones.
   module _ {first next : ℕ} (a : Stretch false l i first) (b : Stretch true l first next) where

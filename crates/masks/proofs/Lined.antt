@@ -3,7 +3,7 @@ use mathlib.Core.Path.{◌≡◌, refl, sym, ap, ap₂, ◌∙◌}
 use mathlib.Core.List.{List, ◌++◌}
 use mathlib.Core.Bool.{Bool, true, false, cond}
 use Prim.Native.Nat.{ℕ, ◌*◌, ◌-◌, ◌/◌, ◌%◌, ◌≤◌, ◌<◌}
-use native.Mathlib.Nat.{sub-zero}
+use native.Mathlib.Nat.{sub-zero, mul-le-mul}
 use native.Mathlib.Omega.{arith}
 use borrow.Author.Tests.{eqb-true}
 use lib.ListN.{length, get_or, take, drop, set, replicate}
@@ -20,22 +20,22 @@ use Rattle.meaning.specs.Terms.{along}
 use Rattle.meaning.proofs.Arrays.{none_made, build-ext, build-at}
 use Rattle.copying.specs.Runs.{copied}
 use Rattle.copying.specs.Steps.{filled, source}
+use Rattle.copying.specs.Gather.{blocks_of}
 use Rattle.copying.proofs.Runs.{copied-fits}
+use Rattle.copying.proofs.Gathering.{Small, small_by}
 use Rattle.answer.specs.Answer.{lent}
 use Rattle.answer.proofs.Lent.{Lent, lent-good}
 use Rattle.answer.proofs.Moved.{along-where}
-use Rattle.masks.specs.declared.Action.{Action}
-use Rattle.masks.specs.declared.Action.TheVariants.{Compress, Expand}
 use Rattle.masks.specs.Steps.Actions.{mask_of, suits, width, one_at, takes_at, taken, mask_element, Masked}
 use Rattle.masks.specs.Steps.Rows.{placed_in, InBlocks}
 use Rattle.masks.proofs.Ones.{kept-all, kept-no}
 use Rattle.masks.proofs.Actions.{taken-lt, taken-same}
 
 -- A mask of one element keeps all or nothing; any other has an element for each position.
-mask-whole : (a : Action) (l : List ℤ) (n m : ℕ) → m ≡ width a (mask_of a l n) → 0 < m → (m ≡ n → ⊥) → mask_of a l n ≡ l
+mask-whole : (a : Bool) (l : List ℤ) (n m : ℕ) → m ≡ width a (mask_of a l n) → 0 < m → (m ≡ n → ⊥) → mask_of a l n ≡ l
 unfolding mask_of width
-mask-whole Expand l n m w some other = refl
-mask-whole Compress l n m w some other = by (eqb (length l) 1) refl
+mask-whole true l n m w some other = refl
+mask-whole false l n m w some other = by (eqb (length l) 1) refl
   where
     single : length l ≡ 1 → (b : Bool) → one_at l 0 ≡ b → ⊥
     single h true e = other (w ∙ sym (kept-all l n h e))
@@ -45,7 +45,7 @@ mask-whole Compress l n m w some other = by (eqb (length l) 1) refl
     by true e = absurd (single (eqb-true (length l) 1 e) _ refl)
     by false e = refl
 
-module _ {a : Action} {l : List ℤ} {s : Shape} {axis m total : ℕ} {r : List ℤ} {room : ℕ} (k : Masked a false l s axis m total r room) where
+module _ {a : Bool} {l : List ℤ} {s : Shape} {axis m total : ℕ} {r : List ℤ} {room : ℕ} (k : Masked a false l s axis m total r room) where
   abbrev n : ℕ
   n = get_or (counted s) axis 0
 
@@ -107,25 +107,41 @@ module _ {a : Action} {l : List ℤ} {s : Shape} {axis m total : ℕ} {r : List 
       mask_is : mask ≡ l
       mask_is = mask-whole a l n m k.wide around.some (λ e. other (e ∙ sym length-is))
 
-      pub lined-blocks : InBlocks a l v.outer v.length m v.inner (length r) room
+      -- No count is above the limit.
+      lined-small : Small (blocks_of v m)
+      lined-small =
+          let b : Around = around_of s axis in
+          let lines = mul-le-mul (let h : 1 ≤ b.outer = omega (arith, around.outer-some) in h) (let h : b.length ≤ b.length = omega arith in h) in
+          let rows = mul-le-mul (let h : b.length ≤ b.outer * b.length = omega (arith, lines) in h) (let h : 1 ≤ b.inner = omega (arith, around.inner-some) in h) in
+          rw w (record {
+            outer = omega (arith, around.outer-small, k.small);
+            taken = omega (arith, rows, around.source, good.count_small);
+            made = omega (arith, around.small, k.small);
+            inner = omega (arith, around.inner-small, k.small);
+          })
+
+      pub lined-blocks : InBlocks a l (blocks_of v m) (length r) room
       lined-blocks = record {
         fitting = ap₂ (suits a) (sym mask_is) length-is ∙ k.fitting refl;
         wide = k.wide ∙ ap (width a) mask_is;
         some = rw w around.outer-some;
         row = rw w around.inner-some;
-        source = rw w (omega (arith, good.room, around.source));
-        room = rw w (omega (arith, k.space, around.whole));
+        lie = record {
+          small = small_by lined-small;
+          source = rw w (omega (arith, good.room, around.source));
+          room = rw w (omega (arith, k.space, around.whole));
+        };
       }
 
       low : (i : ℕ) → i < m → takes_at a mask i ≡ true → taken a mask n i < (around_of s axis).length
       low i h t = rw around.length-is (taken-lt a mask n i (k.fitting refl) (omega (arith, k.wide)) t)
 
-      pub lined-all : (out : List ℤ) → placed_in a l v.outer v.length m v.inner r out ≡ lined ++ drop total out
+      pub lined-all : (out : List ℤ) → placed_in a l (blocks_of v m) r out ≡ lined ++ drop total out
       lined-all out =
           let b : Around = around_of s axis in
           let here : ℕ → ℕ → ℤ =
           λ x j. cond (takes_at a mask (j / b.inner % m)) (get_or r (source m b.length b.inner (taken a mask x) j) (pos 0)) (pos 0) in
           let size : b.outer * (m * b.inner) ≡ total = omega (arith, around.whole) in
-          ap₂ (λ (x : Around) y. placed_in a y x.outer x.length m x.inner r out) w (sym mask_is)
+          ap₂ (λ (x : Around) y. placed_in a y (blocks_of x m) r out) w (sym mask_is)
           ∙ ap₂ (λ x y. filled (here x) y out) around.length-is size
           ∙ ap (λ x. x ++ drop total out) (sym (along-where s r axis m total (takes_at a mask) (taken a mask n) good k.has around low))

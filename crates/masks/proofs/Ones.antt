@@ -9,21 +9,23 @@ use native.Mathlib.Omega.{arith}
 use lib.ListN.{length, get_or, take, drop, replicate, length-append, length-take, length-drop, take-append-drop}
 use lib.Seq.{take-suc, split_at, take_all, get_or_at, length-take-le}
 use lib.IntN.{ℤ, pos}
-use lib.Dec.{lit<}
+use lib.Dec.{eqb, lit<}
 use mir.Syntax.{w32}
 use mir.Val.{SFits, of_z}
 use Rattle.signed.proofs.Equal.{int_same-key}
 use borrow.Author.Tests.{eq-eqb, ne_eqb}
 use Rattle.meaning.specs.Terms.{int_same, ones_from, ones}
-use Rattle.masks.specs.declared.Action.TheVariants.{Compress}
 use Rattle.masks.specs.Steps.Actions.{mask_of, one_at}
 
 -- What the code's test `z == 1` tells.
+pub read-one : (z : ℤ) → SFits w32 z → int_same z (pos 1) ≡ eqb (of_z w32 z) 1
+read-one z f = sym (int_same-key z 1 f (lit< tt))
+
 pub test-one : (z : ℤ) → SFits w32 z → of_z w32 z ≡ 1 → int_same z (pos 1) ≡ true
-test-one z f e = sym (int_same-key z 1 f (lit< tt)) ∙ eq-eqb (of_z w32 z) 1 e
+test-one z f e = read-one z f ∙ eq-eqb (of_z w32 z) 1 e
 
 pub test-other : (z : ℤ) → SFits w32 z → (of_z w32 z ≡ 1 → ⊥) → int_same z (pos 1) ≡ false
-test-other z f h = sym (int_same-key z 1 f (lit< tt)) ∙ ne_eqb (of_z w32 z) 1 h
+test-other z f h = read-one z f ∙ ne_eqb (of_z w32 z) 1 h
 
 pub ones-append : (i : ℕ) (xs ys : List ℤ) → ones_from i (xs ++ ys) ≡ ones_from i xs ++ ones_from (i + length xs) ys
 unfolding ones_from
@@ -142,19 +144,19 @@ ones-no k zero x e = refl
 ones-no k (suc n) x e = rw e (ones-no (suc k) n x e)
 
 module _ (l : List ℤ) (n : ℕ) where
-  pub mask-single : length l ≡ 1 → mask_of Compress l n ≡ replicate n (get_or l 0 (pos 0))
+  pub mask-single : length l ≡ 1 → mask_of false l n ≡ replicate n (get_or l 0 (pos 0))
   unfolding mask_of
   mask-single h = rw (eq-eqb (length l) 1 h)
 
-  pub mask-list : (length l ≡ 1 → ⊥) → mask_of Compress l n ≡ l
+  pub mask-list : (length l ≡ 1 → ⊥) → mask_of false l n ≡ l
   unfolding mask_of
   mask-list h = rw (ne_eqb (length l) 1 h)
 
-  pub kept-list : (length l ≡ 1 → ⊥) → length (ones l) ≡ length (ones (mask_of Compress l n))
+  pub kept-list : (length l ≡ 1 → ⊥) → length (ones l) ≡ length (ones (mask_of false l n))
   kept-list h = ap (λ x. length (ones x)) (sym (mask-list h))
 
-  pub kept-all : length l ≡ 1 → one_at l 0 ≡ true → n ≡ length (ones (mask_of Compress l n))
+  pub kept-all : length l ≡ 1 → one_at l 0 ≡ true → n ≡ length (ones (mask_of false l n))
   kept-all h e = sym (ap (λ x. length (ones x)) (mask-single h) ∙ ones-all 0 n (get_or l 0 (pos 0)) e)
 
-  pub kept-no : length l ≡ 1 → one_at l 0 ≡ false → 0 ≡ length (ones (mask_of Compress l n))
+  pub kept-no : length l ≡ 1 → one_at l 0 ≡ false → 0 ≡ length (ones (mask_of false l n))
   kept-no h e = sym (ap (λ x. length (ones x)) (mask-single h) ∙ ones-no 0 n (get_or l 0 (pos 0)) e)

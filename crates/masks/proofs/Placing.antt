@@ -1,107 +1,114 @@
 -- Blocks written one after another.
 use mathlib.Core.Path.{◌≡◌, refl, sym, ap, ◌∙◌}
 use mathlib.Core.List.{List, ◌++◌}
+use mathlib.Core.Bool.{Bool, false}
 use Prim.Native.Nat.{ℕ, ◌+◌, ◌*◌, ◌-◌, ◌≤◌, ◌<◌}
-use native.Mathlib.Nat.{zero-add, zero-mul, mul-le-mul_right}
+use native.Mathlib.Nat.{zero-add, zero-mul}
 use native.Mathlib.Omega.{arith}
 use lib.ListN.{length, get_or, take, drop, replicate, get_or-append}
 use lib.Seq.{drop_at}
 use lib.IntN.{ℤ, pos}
 use borrow.Rule.Slice.PartMut.{put_mid}
+use borrow.Author.Tests.{ne_eqb}
+use Rattle.shape.proofs.Places.{row_fits}
 use Rattle.meaning.specs.Array.{tab}
+use Rattle.meaning.specs.Terms.{ones}
 use Rattle.meaning.proofs.Tab.{length-tab, get_or-tab, get_or_part}
 use Rattle.copying.specs.Steps.{filled}
 use Rattle.copying.proofs.Runs.{filled_none, length-filled, put-filled}
 use Rattle.copying.proofs.Parts.{part-long, part_room}
 use Rattle.copying.proofs.Blocks.{put-block}
-use Rattle.masks.specs.declared.Action.{Action}
-use Rattle.masks.specs.Steps.Actions.{takes_at, taken}
-use Rattle.masks.specs.Steps.Rows.{rows_of, placed, placed_in, Block, InBlocks, Zeros, ByNotes}
+use Rattle.copying.proofs.Blockwise.{Blockwise, blockwise-none, blockwise-at, blockwise-next, blockwise-all}
+use Rattle.copying.proofs.Gathered.{gathered_none, gathered_next, gathered-all}
+use Rattle.copying.specs.declared.AxisBlocks.{AxisBlocks}
+use Rattle.copying.specs.Gather.{gathered, PositionsNoted}
+use Rattle.masks.specs.Steps.Actions.{width, takes_at, taken}
+use Rattle.masks.specs.Steps.Rows.{rows_of, placed, placed_in, Block, InBlocks, Noted, Zeros, ByNotes}
+use Rattle.masks.proofs.Ones.{ones-le}
 use Rattle.masks.proofs.Actions.{taken-lt}
-use Rattle.masks.proofs.Written.{run_inside, Written, written_none, written-front, written-rest, written-room, written-more}
 
--- The loop over the blocks: those that were passed stand in front.
-pub record BlocksPlaced (a : Action) (l r : List ℤ) (outer n m c : ℕ) (out₀ out : List ℤ) (from to o : ℕ) : Type 0 where
-  pub within : o ≤ outer
-  pub source-at : from ≡ o * (n * c)
-  pub written : Written (placed a l n m c r) (m * c) out₀ out to o
+-- Block o of all that are read and written.
+module _ {a : Bool} {l : List ℤ} {b : AxisBlocks} (r out₀ : List ℤ) (k : InBlocks a l b (length r) (length out₀)) (o : ℕ) (h : o < b.outer) where
+  pub block_inside : o * (b.taken * b.inner) + b.taken * b.inner ≤ length r
+  block_inside = omega (arith, row_fits o b.outer (b.taken * b.inner) h, k.lie.source)
 
-pub placed-none : (a : Action) (l r : List ℤ) (outer n m c : ℕ) (out₀ : List ℤ) → BlocksPlaced a l r outer n m c out₀ out₀ 0 0 0
-placed-none a l r outer n m c out₀ = record { within = omega arith; source-at = sym (zero-mul (n * c)); written = written_none _ (m * c) out₀ }
+  pub block_room : o * (b.made * b.inner) + b.made * b.inner ≤ length out₀
+  block_room = omega (arith, row_fits o b.outer (b.made * b.inner) h, k.lie.room)
 
-module _ {a : Action} {l r : List ℤ} {outer n m c : ℕ} {out₀ out : List ℤ} {from to o : ℕ} (k : BlocksPlaced a l r outer n m c out₀ out from to o) where
-  pub placed-all : outer ≤ o → out ≡ placed_in a l outer n m c r out₀
-  placed-all h = written-front k.written outer (omega (arith, k.within))
-
-  module _ (b : InBlocks a l outer n m c (length r) (length out₀)) (h : o < outer) where
-    pub placed-inside : from + n * c ≤ length r
-    placed-inside = run_inside (n * c) from o outer (length r) k.source-at h b.source
-
-    pub placed-room : to + m * c ≤ length out₀
-    placed-room = written-room k.written outer h b.room
-
-    pub placed-block : Block a l n m c (length (take (from + n * c - from) (drop from r))) (length (take (to + m * c - to) (drop to out)))
+  module _ {out : List ℤ} (w : Blockwise b.outer (b.made * b.inner) (placed a l b r) out₀ out (o * (b.made * b.inner)) o) where
+    pub placed-block : Block a l b (length (take (o * (b.taken * b.inner) + b.taken * b.inner - o * (b.taken * b.inner)) (drop (o * (b.taken * b.inner)) r))) (length (take (o * (b.made * b.inner) + b.made * b.inner - o * (b.made * b.inner)) (drop (o * (b.made * b.inner)) out)))
     placed-block = record {
-      fitting = b.fitting;
-      wide = b.wide;
-      source = part-long r from (n * c) placed-inside;
-      room = part_room out to (m * c) (length out₀) k.written.long placed-room;
+      fitting = k.fitting;
+      wide = k.wide;
+      row = k.row;
+      source = part-long r (o * (b.taken * b.inner)) (b.taken * b.inner) block_inside;
+      room = part_room out (o * (b.made * b.inner)) (b.made * b.inner) (length out₀) w.long block_room;
     }
 
-    pub placed-notes : {at : List ℕ} → ByNotes a l at n c (outer * (m * c)) out₀
-        → let part = take (to + m * c - to) (drop to out) in ByNotes a l at n c (length part) part
+    pub placed-more : (last : List ℤ) → last ≡ tab (b.made * b.inner) (rows_of a l b.taken b.inner (take (o * (b.taken * b.inner) + b.taken * b.inner - o * (b.taken * b.inner)) (drop (o * (b.taken * b.inner)) r)))
+        → Blockwise b.outer (b.made * b.inner) (placed a l b r) out₀ (put_mid (o * (b.made * b.inner)) (o * (b.made * b.inner) + b.made * b.inner - o * (b.made * b.inner)) out last) ((o + 1) * (b.made * b.inner)) (o + 1)
+    placed-more last e =
+        blockwise-at
+        (blockwise-next w last h (ap length e ∙ length-tab (b.made * b.inner) _ ∙ sym (part_room out (o * (b.made * b.inner)) (b.made * b.inner) (length out₀) w.long block_room))
+        (put-block (takes_at a l) (taken a l b.taken) b.taken b.made b.inner r o (λ i q. taken-lt a l b.taken i k.fitting (omega (arith, k.wide))) out out₀ last
+        (o * (b.taken * b.inner)) (o * (b.made * b.inner)) w.done refl refl e))
+
+    -- The zeros that single elements go into.
+    pub placed-notes : {at : List ℕ} → ByNotes l at b.inner (b.outer * (b.made * b.inner)) out₀
+        → let block = take (o * (b.made * b.inner) + b.made * b.inner - o * (b.made * b.inner)) (drop (o * (b.made * b.inner)) out) in ByNotes l at b.inner (length block) block
     placed-notes by =
-        let long = part_room out to (m * c) (length out₀) k.written.long placed-room in
-        let below = run_inside (m * c) to o outer (outer * (m * c)) k.written.at h (omega arith) in
+        let long = part_room out (o * (b.made * b.inner)) (b.made * b.inner) (length out₀) w.long block_room in
+        let below = row_fits o b.outer (b.made * b.inner) h in
+        let rest : drop (o * (b.made * b.inner)) out ≡ drop (o * (b.made * b.inner)) out₀ =
+        ap (drop (o * (b.made * b.inner))) w.done ∙ drop_at (tab (o * (b.made * b.inner)) (placed a l b r)) (drop (o * (b.made * b.inner)) out₀) (o * (b.made * b.inner)) (length-tab (o * (b.made * b.inner)) (placed a l b r)) in
         record {
           short = by.short;
           notes = by.notes;
-          other = by.other;
-          blank = λ e s j i.
-              ap (λ x. get_or (take (to + m * c - to) x) j (pos 0)) (written-rest k.written)
-              ∙ get_or_part out₀ to (to + m * c - to) j (pos 0) (omega arith)
-              ∙ by.blank e s (to + j) (omega arith);
+          blank = λ s j i.
+              ap (λ x. get_or (take (o * (b.made * b.inner) + b.made * b.inner - o * (b.made * b.inner)) x) j (pos 0)) rest
+              ∙ get_or_part out₀ (o * (b.made * b.inner)) (o * (b.made * b.inner) + b.made * b.inner - o * (b.made * b.inner)) j (pos 0) (omega arith)
+              ∙ by.blank s (o * (b.made * b.inner) + j) (omega arith);
         }
 
-    pub placed-more : (last : List ℤ) → last ≡ tab (m * c) (rows_of a l n c (take (from + n * c - from) (drop from r)))
-        → BlocksPlaced a l r outer n m c out₀ (put_mid to (to + m * c - to) out last) (from + n * c) (to + m * c) (o + 1)
-    placed-more last w = record {
-      within = omega arith;
-      source-at = omega (arith, k.source-at);
-      written =
-          written-more k.written placed-room
-          (put-block (takes_at a l) (taken a l n) n m c r o (λ i q. taken-lt a l n i b.fitting (omega (arith, b.wide))) out out₀ last from to
-          k.written.filling k.written.at k.source-at w);
-    }
-
-module _ {a : Action} {l : List ℤ} {outer n m c from to : ℕ} (b : InBlocks a l outer n m c from to) where
-  pub size_in : n * c ≤ from
-  size_in = omega (arith, b.source, mul-le-mul_right {m = 1} {n = outer} (n * c) b.some)
-
-  pub part_in : m * c ≤ to
-  part_in = omega (arith, b.room, mul-le-mul_right {m = 1} {n = outer} (m * c) b.some)
-
 -- A block alone.
-module _ {a : Action} {l : List ℤ} {outer n m c : ℕ} (r out : List ℤ) (b : InBlocks a l outer n m c (length r) (length out)) where
-  none : BlocksPlaced a l r outer n m c out out 0 0 0
-  none = placed-none a l r outer n m c out
+module _ {a : Bool} {l : List ℤ} {b : AxisBlocks} (r out : List ℤ) (k : InBlocks a l b (length r) (length out)) where
+  none : Blockwise b.outer (b.made * b.inner) (placed a l b r) out out (0 * (b.made * b.inner)) 0
+  none = blockwise-at (blockwise-none b.outer (b.made * b.inner) (placed a l b r) out)
 
-  pub alone : Block a l n m c (length (take (n * c - 0) r)) (length (take (m * c - 0) out))
-  alone = rw (zero-add (n * c), zero-add (m * c)) at (placed-block none b b.some)
+  pub alone : Block a l b (length (take (b.taken * b.inner - 0) r)) (length (take (b.made * b.inner - 0) out))
+  alone = rw (zero-mul (b.taken * b.inner), zero-mul (b.made * b.inner), zero-add (b.taken * b.inner), zero-add (b.made * b.inner)) at (placed-block r out k 0 k.some none)
 
-  pub alone-placed : outer ≡ 1 → (last : List ℤ) → last ≡ tab (m * c) (rows_of a l n c (take (n * c - 0) r))
-      → put_mid 0 (m * c - 0) out last ≡ placed_in a l outer n m c r out
+  pub alone-placed : b.outer ≡ 1 → (last : List ℤ) → last ≡ tab (b.made * b.inner) (rows_of a l b.taken b.inner (take (b.taken * b.inner - 0) r))
+      → put_mid 0 (b.made * b.inner - 0) out last ≡ placed_in a l b r out
   alone-placed e last w =
-      let one = rw (zero-add (n * c), zero-add (m * c)) at (placed-more none b b.some last) in
-      placed-all (one w) (omega arith)
+      let one =
+      rw (zero-mul (b.taken * b.inner), zero-mul (b.made * b.inner), zero-add (b.taken * b.inner), zero-add (b.made * b.inner))
+      at (placed-more r out k 0 k.some none last) in
+      blockwise-all (one w) (omega arith)
 
--- Blocks that are called with what they are: the action x, and rows of d elements.
-module _ {a x : Action} {c d : ℕ} (u : a ≡ x) (s : c ≡ d) where
-  pub blocks-by : {l : List ℤ} {outer n m from to : ℕ} → InBlocks a l outer n m c from to → InBlocks x l outer n m d from to
-  blocks-by b = rw (u, s) at b
+-- By the noted ones of a mask that compresses: its rows are gathered.
+module _ (l : List ℤ) (b : AxisBlocks) (r out : List ℤ) (k : InBlocks false l b (length r) (length out)) (o : b.taken ≡ 1 → ⊥)
+    (at : List ℕ) (short : length l ≤ length at) (notes : Noted l at) where
+  wide-kept : b.made ≡ length (ones l)
+  unfolding width
+  wide-kept = k.wide
 
-  pub placed_by : (l r : List ℤ) (outer n m : ℕ) (out : List ℤ) → placed_in x l outer n m d r out ≡ placed_in a l outer n m c r out
-  placed_by l r outer n m out = rw (u, s)
+  kept-is : (i : ℕ) → taken false l b.taken i ≡ get_or (ones l) i 0
+  unfolding taken
+  kept-is i = rw (ne_eqb b.taken 1 o)
+
+  pub gathered-in : b.made ≤ length at
+  gathered-in = omega (arith, wide-kept, ones-le 0 l, short)
+
+  pub gathered-placed : (last : List ℤ) → last ≡ gathered (take (b.made - 0) at) 0 b r out → last ≡ placed_in false l b r out
+  unfolding takes_at
+  gathered-placed last e =
+      let low : (i : ℕ) → i < b.made → taken false l b.taken i < b.taken = λ i q. taken-lt false l b.taken i k.fitting (omega (arith, k.wide)) refl in
+      let start = gathered_none (taken false l b.taken) b r out k.lie low in
+      let noted : PositionsNoted (λ q. taken false l b.taken (0 + q)) b.made at =
+      λ q i. notes q (omega (arith, wide-kept)) ∙ sym (ap (λ x. taken false l b.taken x) (zero-add q) ∙ kept-is q) in
+      gathered-all (taken false l b.taken) b r out k.lie low
+      (rw (zero-add b.made) at (gathered_next (taken false l b.taken) b r out k.lie low start at b.made gathered-in (omega arith) noted e))
 
 -- Zeros written over the first k elements.
 module _ (k : ℕ) (out last : List ℤ) (room : k ≤ length out) (w : last ≡ replicate (length (take (k - 0) out)) (pos 0)) where

@@ -13,4 +13,5 @@ loop-q-preserved c =
     let q = c.loop-q.q in
     let x = get_or r (get_or at q 0) (pos 0) in
     let held : to_z w32 (of_z w32 x) ≡ x = search rules in
-    blockwise-one c.loop-q.invariant (omega arith) (omega (arith, c.requires.room)) _ (held ∙ one-row at r q)
+    rw c.from-x.ensures
+    (blockwise-one c.loop-q.invariant (omega arith) (omega (arith, c.requires.room)) _ (held ∙ one-row at r q))

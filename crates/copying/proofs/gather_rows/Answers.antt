@@ -11,4 +11,4 @@ loop-x-preserved c =
     let inv = c.loop-x.invariant in
     blockwise-next inv c.copy_run.new.out (omega arith) c.copy_run.auto.out
     (row_more c.args.at.now c.args.r.now c.args.inner inv (c.requires.inside c.loop-x.x-index (omega arith))
-    (blockwise-room inv _ (omega arith) (omega (arith, c.requires.room))) _ c.copy_run.ensures)
+    (blockwise-room inv _ (omega arith) (omega (arith, c.requires.room))) _ (rw c.from.ensures at c.copy_run.ensures))

@@ -21,11 +21,6 @@ overflow_mul-b-then-b-n-2 c =
     let e : small_blocks c.args.b ≡ true = grind (arith, common_steps) in
     let s = small_is e in product-three s.outer s.made s.inner
 
-pub all_below-requires : goal.all_below-requires
-all_below-requires c =
-    let e : small_blocks c.args.b ≡ true = grind (arith, common_steps) in
-    (small_is e).taken
-
 pub returns-then-at-b : goal.returns-then-at-b
 unfolding gathers
 returns-then-at-b c = grind (arith, common_steps)

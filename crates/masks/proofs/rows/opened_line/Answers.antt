@@ -14,12 +14,13 @@ bounds-at-q c = omega (arith, count-few c.loop-q.invariant c.requires.source (om
 pub bounds-out-x : goal.bounds-out-x
 bounds-out-x c =
     let noted = c.requires.notes c.loop-q.q (one_left c.loop-q.invariant c.requires.source (omega arith)) in
-    omega (arith, row_room c.loop-q.invariant c.requires.source (omega arith) noted)
+    omega (arith, c.from-x.ensures, row_room c.loop-q.invariant c.requires.source (omega arith) noted)
 
 pub loop-q-preserved : goal.loop-q-preserved
 loop-q-preserved c =
     let noted = c.requires.notes c.loop-q.q (one_left c.loop-q.invariant c.requires.source (omega arith)) in
-    scattered-one c.loop-q.invariant c.requires.source (omega arith) noted _ (read32 (get_or c.args.r.now c.loop-q.q (pos 0)) (search rules))
+    rw c.from-x.ensures
+    (scattered-one c.loop-q.invariant c.requires.source (omega arith) noted _ (read32 (get_or c.args.r.now c.loop-q.q (pos 0)) (search rules)))
 
 pub returns : goal.returns
 returns c = scattered-all c.loop-q.invariant c.requires.source (omega arith) (omega arith)

@@ -16,19 +16,19 @@ pub bounds-at-q : goal.bounds-at-q
 bounds-at-q c = note-inside c.loop-q.invariant c.requires (omega arith)
 
 pub overflow_mul-to : goal.overflow_mul-to
-overflow_mul-to c = omega (arith, noted-room c.loop-q.invariant c.requires (omega arith))
+overflow_mul-to c = rw c.from-x.ensures (omega (arith, noted-room c.loop-q.invariant c.requires (omega arith)))
 
 pub overflow_add-end : goal.overflow_add-end
-overflow_add-end c = omega (arith, noted-room c.loop-q.invariant c.requires (omega arith))
+overflow_add-end c = rw c.from-x.ensures (omega (arith, noted-room c.loop-q.invariant c.requires (omega arith)))
 
 pub offset_bounds-out-to : goal.offset_bounds-out-to
-offset_bounds-out-to c = omega (arith, noted-room c.loop-q.invariant c.requires (omega arith))
+offset_bounds-out-to c = rw c.from-x.ensures (omega (arith, noted-room c.loop-q.invariant c.requires (omega arith)))
 
 pub slice_bounds-copy_run-end-in-loop-q : goal.slice_bounds-copy_run-end-in-loop-q
-slice_bounds-copy_run-end-in-loop-q c = omega (arith, noted-room c.loop-q.invariant c.requires (omega arith))
+slice_bounds-copy_run-end-in-loop-q c = rw c.from-x.ensures (omega (arith, noted-room c.loop-q.invariant c.requires (omega arith)))
 
 pub loop-q-preserved : goal.loop-q-preserved
-loop-q-preserved c = rows-next c.loop-q.invariant c.requires (omega arith) _ c.copy_run.ensures
+loop-q-preserved c = rw c.from-x.ensures (rows-next c.loop-q.invariant c.requires (omega arith) _ (rw c.from-x.ensures at c.copy_run.ensures))
 
 pub returns : goal.returns
 returns c = rows-all c.loop-q.invariant c.requires (omega arith)
