@@ -51,7 +51,7 @@ fn copy_long(src: &[i32], out: &mut [i32])
 }
 
 // The place in a run of n elements of the element that comes at i + k: in their order, or the last of them first. A constant says which, so that one
-// copy serves both ways and neither asks.
+// function serves both ways and neither asks.
 fn place<const BACK: bool>(n: usize, i: usize, k: usize) -> usize
     requires { i + k < n }
     ensures { result ≡ cond BACK (n - 1 - (i + k)) (i + k) }
@@ -87,7 +87,7 @@ fn move_4<T: Copy, const BACK: bool>(src: &[T], out: &mut [T], i: usize)
 }
 
 // Eight at a time, while more than that are left: how many are copied. By a `for` over the eights select took up to twice as long. That the run fits
-// is asked by these two, which copy_moves alone calls.
+// is asked by this and by copy_last, which copy_moves alone calls.
 fn copy_eights<T: Copy, const BACK: bool>(src: &[T], out: &mut [T]) -> usize
     requires { length src.now ≤ length out.old }
     ensures left { (result ≤ length src.now) × (length src.now ≤ result + 8) }
@@ -114,8 +114,8 @@ fn copy_last<T: Copy, const BACK: bool>(src: &[T], out: &mut [T], done: usize)
     move_4::<T, BACK>(src, out, last);
 }
 
-// Four elements or more by moves of four: no test whether the buffers overlap, and no loop over what is left of eight. One after another catenate of
-// rows of 2 and 3 took 2.3 times as long, rotate of rows of 5 up to 3.2 and reverse 1.7.
+// Four elements or more by moves of four: no test whether the buffers overlap, and no loop over what is left of eight. By one loop for every
+// length catenate of rows of 2 and 3 took 2.3 times as long, rotate of rows of 5 up to 2.3 and reverse of them 1.8.
 #[inline(always)]
 fn copy_moves<T: Copy, const BACK: bool>(src: &[T], out: &mut [T])
     ensures { out.new ≡ arranged BACK src.now out.old }
