@@ -50,7 +50,8 @@ struct Along {
     ghost has: { axis < shape.rank },
 }
 
-// RANK, AXIS and LENGTH, or else what the operands are joined along. No element is looked at. G and K go with each other here alone, to name the axis.
+// RANK, AXIS and LENGTH, or else what the operands are joined along. No element is looked at. G and K name the axis
+// here alone, so what the contract says of them is in no type.
 fn joint(g: i32, k: i32, l: &Formed<'_>, r: &Formed<'_>) -> Result<Along, Refusal>
     ensures number { asked result ≡ own 22 (catenate g k (array_of l.now) (array_of r.now)).refusals }
     ensures found { IfOk result (λ t. Joins g k l.now r.now t.shape t.axis) }
@@ -193,7 +194,7 @@ fn put_runs(run: &Run<'_>, first: usize, size: usize, outer: usize, out: &mut [i
     }
 }
 
-// The run of block o. The flag is read here alone: by two types of runs, or a constant, all that a run goes through would stand twice for these two calls.
+// The run of block o. The flag is read here alone: as a constant or a type of the run it would be chosen in `catenate`, for each of four pairs of operands.
 fn put_run(run: &Run<'_>, o: usize, out: &mut [i32])
     requires { (length out.old ≡ run.now.width) × RunFits run.now o }
     ensures { out.new ≡ filled (λ i. side_at run.now.scalar run.now.elements (o * run.now.width + i)) run.now.width out.old }
