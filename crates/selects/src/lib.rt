@@ -136,7 +136,7 @@ fn selected(l: &Formed<'_>, r: &Formed<'_>, axis: usize) -> Shape
     }
 }
 
-// The result's elements, `total` in number. A function of its own: within `select` rows of one element took up to 1.5 times as long. Where there are none,
+// The result's elements, `total` in number. A function of its own: within `select` rows of one element took up to 1.4 times as long. Where there are none,
 // the counts around the axis are not read: they are held, and need not fit. It is shared with no other primitive: what another crate can call asks
 // nothing, and the blocks of each need something else to fit.
 #[inline(never)]
