@@ -172,7 +172,7 @@ fn select_blocks(choice: Choice<'_>, a: Around, r: &[i32], out: &mut [i32])
     }
 }
 
-// Where a row is one element, one loop over the line: by select_rows it took up to 1.6 times as long. Neither goes by `copying::gather`: positions would be
+// Where a row is one element, one loop over the line: by select_rows it took up to 1.7 times as long. Neither goes by `copying::gather`: positions would be
 // noted there as u16, and tested once more, since what another crate can call asks nothing.
 fn select_block(choice: &Choice<'_>, inner: usize, r: &[i32], out: &mut [i32])
     requires { RowsFit choice.now inner (length r.now) (length out.old) }
