@@ -19,8 +19,8 @@ impl<'a> Model for Reader<'a> {
     ghost view = { λ r. left r.rest };
 }
 
-// The number of a sign and a magnitude. The least number has no opposite in 32 bits. The sign comes as a bool, since the text says it: a const
-// parameter would be chosen in `number` all the same, and make its callers' code twice.
+// The number of a sign and a magnitude. The least number has no opposite in 32 bits. The sign comes as a bool, since the text says it: as a
+// const parameter it would be chosen in `number` all the same, for two copies of `from_digit`.
 fn whole(negative: bool, magnitude: u32) -> Option<i32>
     ensures { ended (Begun.magnitude negative magnitude) ≡ found result }
 {
