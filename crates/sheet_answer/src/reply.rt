@@ -1,6 +1,6 @@
 // The output for a line: written only if all of it fits. The functions take the line's number and the text apart, since a struct of the two would be made
 // for one call each; and they give how many bytes are written and not those bytes, as the public functions promise. What is printed stands in each
-// contract, by `count` and `text`: it is another line's each time, and no type could hold it.
+// contract, by `count` and `text`, and by `room` that it is no longer than the longest line: it is another line each time, so that no type holds it.
 ghost use Rattle.std.specs.Prelude.{◌≡◌, ◌≤◌, ◌<◌, length};
 ghost use Rattle.shape.specs.Shape.{max_rank, max_count};
 ghost use Rattle.sheet_line.specs.Call.{max_line, max_held};
