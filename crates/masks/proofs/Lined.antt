@@ -112,7 +112,8 @@ module _ {a : Bool} {l : List ℤ} {s : Shape} {axis m total : ℕ} {r : List �
       lined-small =
           let b : Around = around_of s axis in
           let lines = mul-le-mul (let h : 1 ≤ b.outer = omega (arith, around.outer-some) in h) (let h : b.length ≤ b.length = omega arith in h) in
-          let rows = mul-le-mul (let h : b.length ≤ b.outer * b.length = omega (arith, lines) in h) (let h : 1 ≤ b.inner = omega (arith, around.inner-some) in h) in
+          let all : b.length ≤ b.outer * b.length = omega (arith, lines) in
+          let rows = mul-le-mul all (let h : 1 ≤ b.inner = omega (arith, around.inner-some) in h) in
           rw w (record {
             outer = omega (arith, around.outer-small, k.small);
             taken = omega (arith, rows, around.source, good.count_small);

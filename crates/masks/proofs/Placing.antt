@@ -27,6 +27,10 @@ use Rattle.masks.specs.Steps.Rows.{rows_of, placed, placed_in, Block, InBlocks, 
 use Rattle.masks.proofs.Ones.{ones-le}
 use Rattle.masks.proofs.Actions.{taken-lt}
 
+-- Block o of a buffer that has blocks of n elements.
+abbrev block-of : List ℤ → ℕ → ℕ → List ℤ
+block-of buffer o n = take (o * n + n - o * n) (drop (o * n) buffer)
+
 -- Block o of all that are read and written.
 module _ {a : Bool} {l : List ℤ} {b : AxisBlocks} (r out₀ : List ℤ) (k : InBlocks a l b (length r) (length out₀)) (o : ℕ) (h : o < b.outer) where
   pub block_inside : o * (b.taken * b.inner) + b.taken * b.inner ≤ length r
@@ -36,7 +40,7 @@ module _ {a : Bool} {l : List ℤ} {b : AxisBlocks} (r out₀ : List ℤ) (k : I
   block_room = omega (arith, row_fits o b.outer (b.made * b.inner) h, k.lie.room)
 
   module _ {out : List ℤ} (w : Blockwise b.outer (b.made * b.inner) (placed a l b r) out₀ out (o * (b.made * b.inner)) o) where
-    pub placed-block : Block a l b (length (take (o * (b.taken * b.inner) + b.taken * b.inner - o * (b.taken * b.inner)) (drop (o * (b.taken * b.inner)) r))) (length (take (o * (b.made * b.inner) + b.made * b.inner - o * (b.made * b.inner)) (drop (o * (b.made * b.inner)) out)))
+    pub placed-block : Block a l b (length (block-of r o (b.taken * b.inner))) (length (block-of out o (b.made * b.inner)))
     placed-block = record {
       fitting = k.fitting;
       wide = k.wide;
@@ -45,22 +49,27 @@ module _ {a : Bool} {l : List ℤ} {b : AxisBlocks} (r out₀ : List ℤ) (k : I
       room = part_room out (o * (b.made * b.inner)) (b.made * b.inner) (length out₀) w.long block_room;
     }
 
-    pub placed-more : (last : List ℤ) → last ≡ tab (b.made * b.inner) (rows_of a l b.taken b.inner (take (o * (b.taken * b.inner) + b.taken * b.inner - o * (b.taken * b.inner)) (drop (o * (b.taken * b.inner)) r)))
-        → Blockwise b.outer (b.made * b.inner) (placed a l b r) out₀ (put_mid (o * (b.made * b.inner)) (o * (b.made * b.inner) + b.made * b.inner - o * (b.made * b.inner)) out last) ((o + 1) * (b.made * b.inner)) (o + 1)
+    pub placed-more : (last : List ℤ) → last ≡ tab (b.made * b.inner) (rows_of a l b.taken b.inner (block-of r o (b.taken * b.inner)))
+        → Blockwise b.outer (b.made * b.inner) (placed a l b r) out₀
+        (put_mid (o * (b.made * b.inner)) (o * (b.made * b.inner) + b.made * b.inner - o * (b.made * b.inner)) out last)
+        ((o + 1) * (b.made * b.inner)) (o + 1)
     placed-more last e =
         blockwise-at
-        (blockwise-next w last h (ap length e ∙ length-tab (b.made * b.inner) _ ∙ sym (part_room out (o * (b.made * b.inner)) (b.made * b.inner) (length out₀) w.long block_room))
+        (blockwise-next w last h
+        (ap length e ∙ length-tab (b.made * b.inner) _ ∙ sym (part_room out (o * (b.made * b.inner)) (b.made * b.inner) (length out₀) w.long block_room))
         (put-block (takes_at a l) (taken a l b.taken) b.taken b.made b.inner r o (λ i q. taken-lt a l b.taken i k.fitting (omega (arith, k.wide))) out out₀ last
         (o * (b.taken * b.inner)) (o * (b.made * b.inner)) w.done refl refl e))
 
     -- The zeros that single elements go into.
     pub placed-notes : {at : List ℕ} → ByNotes l at b.inner (b.outer * (b.made * b.inner)) out₀
-        → let block = take (o * (b.made * b.inner) + b.made * b.inner - o * (b.made * b.inner)) (drop (o * (b.made * b.inner)) out) in ByNotes l at b.inner (length block) block
+        → let block = block-of out o (b.made * b.inner) in ByNotes l at b.inner (length block) block
     placed-notes by =
         let long = part_room out (o * (b.made * b.inner)) (b.made * b.inner) (length out₀) w.long block_room in
         let below = row_fits o b.outer (b.made * b.inner) h in
         let rest : drop (o * (b.made * b.inner)) out ≡ drop (o * (b.made * b.inner)) out₀ =
-        ap (drop (o * (b.made * b.inner))) w.done ∙ drop_at (tab (o * (b.made * b.inner)) (placed a l b r)) (drop (o * (b.made * b.inner)) out₀) (o * (b.made * b.inner)) (length-tab (o * (b.made * b.inner)) (placed a l b r)) in
+        ap (drop (o * (b.made * b.inner))) w.done
+        ∙ drop_at (tab (o * (b.made * b.inner)) (placed a l b r)) (drop (o * (b.made * b.inner)) out₀) (o * (b.made * b.inner))
+        (length-tab (o * (b.made * b.inner)) (placed a l b r)) in
         record {
           short = by.short;
           notes = by.notes;
@@ -76,7 +85,9 @@ module _ {a : Bool} {l : List ℤ} {b : AxisBlocks} (r out : List ℤ) (k : InBl
   none = blockwise-at (blockwise-none b.outer (b.made * b.inner) (placed a l b r) out)
 
   pub alone : Block a l b (length (take (b.taken * b.inner - 0) r)) (length (take (b.made * b.inner - 0) out))
-  alone = rw (zero-mul (b.taken * b.inner), zero-mul (b.made * b.inner), zero-add (b.taken * b.inner), zero-add (b.made * b.inner)) at (placed-block r out k 0 k.some none)
+  alone =
+      rw (zero-mul (b.taken * b.inner), zero-mul (b.made * b.inner), zero-add (b.taken * b.inner), zero-add (b.made * b.inner))
+      at (placed-block r out k 0 k.some none)
 
   pub alone-placed : b.outer ≡ 1 → (last : List ℤ) → last ≡ tab (b.made * b.inner) (rows_of a l b.taken b.inner (take (b.taken * b.inner - 0) r))
       → put_mid 0 (b.made * b.inner - 0) out last ≡ placed_in a l b r out

@@ -148,7 +148,7 @@ fn all_bits(l: &[i32]) -> bool
     all
 }
 
-// A loop, which is compiled to tests of many elements: `filter` and `count` test one at a time.
+// A loop, which is compiled to tests of many elements: by `filter` and `count` compress of 16384 took 1.8 to 4.2 times as long, and expand 2.0 to 3.0.
 fn count_ones(l: &[i32]) -> usize
     ensures { result ≡ length (ones l.now) }
 {
