@@ -171,7 +171,8 @@ pub fn early_two<'a>(
     Ok((l.formed(), right))
 }
 
-// AXIS, or else the axis of n that K names.
+// AXIS, or else the axis of n that K names. Its clause says which, here and where it is handed on: a type for it would keep the same two facts, of K and of
+// n, and its number would be taken out at once.
 pub fn axis(g: i32, k: i32, n: usize) -> Result<usize, Refusal>
     ensures number { asked result ≡ cond (not (within (k -ℤ g) n)) (number AXIS) 0 }
     ensures axis { IfOk result (λ axis. (axis < n) × (axis ≡ from_zero g k)) }

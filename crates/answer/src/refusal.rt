@@ -18,7 +18,7 @@ pub enum Refusal {
 }
 
 impl Refusal {
-    // Its number is that of the definitions.
+    // Its number is that of the definitions; a cast is how an enum's is read.
     pub fn number(self) -> usize
         ensures { result ≡ number (meant self) }
     {
