@@ -3,7 +3,7 @@ use Prim.Native.Nat.{ℕ, zero, suc, ◌<◌, ◌≤◌, ◌^◌}
 use native.Mathlib.Omega.{arith}
 use mathlib.Core.Path.{◌≡◌, refl, sym, ap, ◌∙◌}
 use mathlib.Core.Bool.{Bool, true, false, ◌||◌}
-use lib.Dec.{eqb}
+use lib.Dec.{eqb, lit<}
 use lib.IntN.{ℤ, pos, negsuc, nat_abs}
 use mir.Syntax.{w32}
 use mir.Val.{SFits, of_z}
@@ -42,6 +42,10 @@ int_same-bits x y f g = by-test (int_same x y) refl
 -- The code's test of a number and a literal.
 pub int_same-key : (z : ℤ) (n : ℕ) → SFits w32 z → n < 2 ^ 31 → eqb (of_z w32 z) n ≡ int_same z (pos n)
 int_same-key z n f b = int_same-bits z (pos n) f (record { sfits = omega arith })
+
+-- So are the tests of a bit.
+pub bit_bits : (z : ℤ) → SFits w32 z → is_bit z ≡ (eqb (of_z w32 z) 0 || eqb (of_z w32 z) 1)
+bit_bits z f = rw (int_same-key z 0 f (lit< tt), int_same-key z 1 f (lit< tt)) refl
 
 -- 0 and 1, and so an origin, are their own sizes.
 pub bit_is : (z : ℤ) → is_bit z ≡ true → (z ≡ pos (nat_abs z)) × (nat_abs z ≤ 1)

@@ -5,6 +5,7 @@ ghost use Rattle.std.specs.Prelude.{◌≡◌, cond, eqb, leb, pos, nat_abs, ◌
 ghost use Rattle.meaning.specs.Terms.{negative, within, from_zero, modulo, int_same, is_bit};
 ghost use Rattle.meaning.specs.Reply.{is_origin};
 
+// Public, as are `same` and `is_one`, and so they stay with what they promise; the crates here write the operators.
 pub fn negative(z: i32) -> bool
     ensures { result ≡ negative z }
 {
@@ -30,13 +31,14 @@ pub fn is_one(z: i32) -> bool
     z == 1
 }
 
-// Two words, as the definitions have them.
+#[tactic(auto, using(crate::proofs::Equal::bit_bits))]
 pub fn is_bit(z: i32) -> bool
     ensures { result ≡ is_bit z }
 {
     z == 0 || z == 1
 }
 
+// By its own name, as the definitions have it: the contracts of calls speak of origins and not of bits.
 pub fn is_origin(g: i32) -> bool
     ensures { result ≡ is_origin g }
 {
@@ -70,11 +72,8 @@ pub fn modulo(z: i32, n: usize) -> usize
         return 0;
     }
     let m = magnitude(z);
-    if negative(z) {
-        n - 1 - (m - 1) % n
-    } else {
-        m % n
-    }
+    let negative = z < 0;
+    if negative { n - 1 - (m - 1) % n } else { m % n }
 }
 
 // A length or a position as an element; 0 for one that is too large to be an element. No Option: callers have lengths within the limit,
