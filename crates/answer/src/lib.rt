@@ -13,7 +13,7 @@ ghost use Rattle.meaning.specs.Refusal.Refusal.{AXIS};
 ghost use Rattle.answer.specs.Answer.{lent, WellFormed, early, late, accepted, refused};
 ghost use Rattle.answer.specs.Refused.{answered, asked};
 
-pub use refusal::Refusal;
+pub use refusal::{Refusal, numbers};
 use shape::Shape;
 use std::marker::Model;
 

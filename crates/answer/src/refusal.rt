@@ -1,6 +1,6 @@
 // The refusals and their numbers, in the order in which they win.
-ghost use Rattle.std.specs.Prelude.{◌≡◌};
-ghost use Rattle.meaning.specs.Refusal.{number};
+ghost use Rattle.std.specs.Prelude.{◌≡◌, map};
+ghost use Rattle.meaning.specs.Refusal.{in_order, number};
 ghost use Rattle.answer.specs.Refused.{meant};
 
 #[derive(Clone, Copy, Debug, PartialEq, Eq)]
@@ -24,4 +24,22 @@ impl Refusal {
     {
         self as usize
     }
+}
+
+// All of them, as the definitions have them.
+pub fn numbers() -> [usize; 10]
+    ensures { result ≡ map number in_order }
+{
+    [
+        Refusal::Number as usize,
+        Refusal::Form as usize,
+        Refusal::Origin as usize,
+        Refusal::Rank as usize,
+        Refusal::Axis as usize,
+        Refusal::Length as usize,
+        Refusal::Domain as usize,
+        Refusal::Index as usize,
+        Refusal::Limit as usize,
+        Refusal::Space as usize,
+    ]
 }

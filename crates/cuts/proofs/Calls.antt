@@ -35,7 +35,7 @@ use Rattle.answer.proofs.Order.{Names, own_first, Ready, given-replied, Roomy, l
 use Rattle.cuts.specs.declared.CutKind.{CutKind}
 use Rattle.cuts.specs.declared.CutKind.TheVariants.{Take, Drop}
 use Rattle.cuts.specs.Steps.{cut_number, cut_meaning, read_lengths, cut_lengths, cut_shape, table_of, cut_at, Parts}
-use Rattle.cuts.proofs.Over.{over-replied}
+use Rattle.answer.proofs.Over.{over-limit}
 use Rattle.cuts.proofs.Building.{lengths-long}
 use Rattle.cuts.proofs.Bridges.{read, cut-lengths, cut-elements}
 
@@ -230,7 +230,7 @@ module _ {kind : CutKind} {G : ℤ} {L R : Operand} {rs : Shape} {r zs : List �
       → Replied a out (reply (pos (cut_number kind)) G K L R out)
   limit o K out e =
       let m = over k.cuts is o in
-      over-replied (cut-names kind G K L R) k.fine k.none
+      over-limit (cut-names kind G K L R) k.fine k.none
       (subst (λ p. max_rank < length (cut_meaning kind (array_of L) (array_of p)).lengths) (sym k.is) m.0) out e m.1
 
   module _ {s : Shape} (o : x ≡ Ok s) where

@@ -57,12 +57,6 @@ module _ (G K : ℤ) (L R : Operand) where
   unfolding primitives named int_same reshape precedence
   reshape-names = record { number = refl; arity = refl; meaning = refl; own = refl }
 
--- FORM and ORIGIN, as `?` hands them on.
-pub early-exit : {n operands : ℕ} {G K : ℤ} {L R : Operand} {m : Meaning} → Names n operands G K L R m → SFits w32 G → (out : List ℤ) → {A : Type 0}
-    {x : Result A code.Refusal} {d : code.Refusal} → asked x ≡ early_of operands (to_z w32 (of_z w32 G)) L R → x ≡ Err d
-    → (r : Result Shape code.Refusal) → IsErrAnd r (λ y. y ≡ d) → Replied (answered r) out (reply (pos n) G K L R out)
-early-exit names f out {x = x} is was r h = early-replied names out (exit was r h) (early-read f x _ is)
-
 -- The number whose interval 13 gives.
 abbrev pub ends : Array → ℤ
 ends a = get_or a.elements 0 (pos 0)

@@ -1,30 +1,27 @@
 -- More lengths than a shape has: LIMIT.
 use mathlib.Core.Path.{◌≡◌, refl, sym, ap, ◌∙◌}
-use mathlib.Core.List.{List, []}
+use mathlib.Core.List.{List}
 use mathlib.Core.Bool.{Bool, true, false, cond}
-use Prim.Native.Nat.{ℕ, ◌<◌}
+use Prim.Native.Nat.{ℕ}
 use native.Mathlib.Omega.{arith}
-use borrow.Author.Tests.{lt-leb, leb-false}
+use borrow.Author.Tests.{leb-false}
 use lib.ListN.{length}
 use lib.Dec.{leb}
 use lib.IntN.{ℤ, pos}
 use Rattle.std.specs.Prelude.{Result, Ok, Err}
 use Rattle.shape.specs.declared.Shape.{Shape}
-use Rattle.shape.specs.Shape.{max_rank, max_count, count_of, good_shape, shape_of}
-use Rattle.shape.proofs.Bools.{refuted}
-use Rattle.shape.proofs.Counts.{good-rank, count-bad}
-use Rattle.shape.proofs.Made.{Stands}
+use Rattle.shape.specs.Shape.{max_rank, shape_of}
 use Rattle.meaning.specs.Array.{Operand}
 use Rattle.meaning.specs.Primitives.{Meaning}
-use Rattle.meaning.specs.Refusal.{number}
 use Rattle.meaning.specs.Refusal.Refusal.{LIMIT}
 use Rattle.meaning.specs.Reply.{reply}
-use Rattle.answer.specs.Answer.{own, late, Replied}
+use Rattle.answer.specs.Answer.{own, Replied}
 use Rattle.answer.specs.Refused.{asked}
 use Rattle.answer.specs.declared.Answer.{Answer}
 use Rattle.answer.specs.declared.refusal.Refusal as code
 use Rattle.answer.proofs.Exits.{Refuses}
-use Rattle.answer.proofs.Order.{early_of, Names, late-first, late-replied}
+use Rattle.answer.proofs.Order.{early_of, Names}
+use Rattle.answer.proofs.Over.{over-limit}
 use Rattle.vectors.specs.Steps.{shape_or_limit}
 
 -- As many as it has, or fewer.
@@ -41,17 +38,8 @@ module _ {n operands : ℕ} {G K : ℤ} {L R : Operand} {m : Meaning} (names : N
   unfolding asked
   over-replied fine none out {x} {d} is o {a} e = by (leb (length m.lengths) max_rank) refl (sym o ∙ is)
     where
-      s : Shape
-      s = record { rank = length m.lengths; lens = [] }
-
       by : (b : Bool) → leb (length m.lengths) max_rank ≡ b
           → ◌≡◌ {A = Result Shape code.Refusal} (Err d) (cond b (Ok (shape_of m.lengths)) (Err code.TheVariants.Limit))
           → Replied a out (reply (pos n) G K L R out)
       by true q h = absurd (let no : ⊥ = cc in no)
-      by false q h =
-          let more : max_rank < length m.lengths = omega (arith, leb-false _ _ q) in
-          let bad : good_shape s ≡ false = refuted (good_shape s) (λ g. omega (arith, good-rank s g)) in
-          let stands : Stands s m.lengths = record { rank = refl; lengths = λ l. absurd (omega (arith, l, more)) } in
-          let limit : late (count_of s) (length out) ≡ number LIMIT =
-          late-first _ _ ∙ rw (lt-leb (count_of s) max_count (omega (arith, count-bad s bad))) in
-          late-replied (record { names = names; fine = fine; none = none; stands = stands }) out (ap asked (o ∙ h) ∙ sym limit) refl e
+      by false q h = over-limit names fine none (omega (arith, leb-false _ _ q)) out e (ap asked (o ∙ h))

@@ -3,18 +3,16 @@ use mathlib.Core.Path.{ap, ap₂}
 use Rattle.shape.specs.Shape.{max_rank}
 use Rattle.meaning.specs.Array.{array_of}
 use Rattle.answer.specs.Answer.{own}
-use Rattle.answer.proofs.Early.{early-read}
+use Rattle.answer.proofs.Early.{early-read, early-exit}
 use Rattle.answer.proofs.Exits.{exit, asked_ok}
-use Rattle.answer.proofs.Order.{early-replied, own-replied, late-replied, late-fine}
+use Rattle.answer.proofs.Order.{own-replied, late-replied, late-fine}
 use Rattle.cuts.specs.Steps.{cut_number, cut_meaning}
 use Rattle.cuts.proofs.Calls.{cut-names, known, limit, ready, parts_are, replied}
 use Rattle.cuts.proofs.take_or_drop.Goals as goal
 
 pub returns-in_err-l : goal.returns-in_err-l
 returns-in_err-l c K =
-    early-replied (cut-names c.args.kind _ K c.args.l.now c.args.r.now) _
-    (exit c.in_err-l.was c.from_residual.result c.from_residual.ensures.1)
-    (early-read c.ranges.g c.early_two.result _ c.early_two.ensures.number)
+    early-exit (cut-names c.args.kind _ K c.args.l.now c.args.r.now) c.ranges.g _ c.early_two.ensures.number c.in_err-l.was _ c.from_residual.ensures.1
 
 pub returns-in_err-numbers : goal.returns-in_err-numbers
 returns-in_err-numbers c K =

@@ -1,9 +1,9 @@
 use Rattle.std.proofs.Common.{◌∙◌, sym}
 use native.Mathlib.Omega.{arith}
 use mathlib.Core.Path.{refl}
-use Rattle.answer.proofs.Early.{early-read}
+use Rattle.answer.proofs.Early.{early-read, early-exit}
 use Rattle.answer.proofs.Exits.{exit, asked_ok}
-use Rattle.answer.proofs.Order.{early-replied, own-replied, late-replied, given-replied, Roomy, late-fine}
+use Rattle.answer.proofs.Order.{own-replied, late-replied, given-replied, Roomy, late-fine}
 use Rattle.joins.proofs.Blocks.{wide}
 use Rattle.joins.proofs.Heights.{catenate-names}
 use Rattle.joins.proofs.Catenating.{extent-small, joint-asked, joint-found, shape-made, catenate-ready, catenate-total, joinable, catenate-out}
@@ -11,8 +11,7 @@ use Rattle.joins.proofs.catenate.Goals as goal
 
 pub returns-in_err-l : goal.returns-in_err-l
 returns-in_err-l c =
-    early-replied (catenate-names _ _ c.args.l.now c.args.r.now) _ (exit c.in_err-l.was c.from_residual.result c.from_residual.ensures.1)
-    (early-read c.ranges.g c.early_two.result _ c.early_two.ensures.number)
+    early-exit (catenate-names _ _ c.args.l.now c.args.r.now) c.ranges.g _ c.early_two.ensures.number c.in_err-l.was _ c.from_residual.ensures.1
 
 pub returns-in_err-along : goal.returns-in_err-along
 returns-in_err-along c =

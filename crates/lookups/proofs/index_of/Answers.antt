@@ -6,18 +6,16 @@ use Rattle.signed.proofs.Reading.{read32}
 use Rattle.signed.proofs.Equal.{origin-is}
 use Rattle.meaning.specs.Array.{array_of}
 use Rattle.meaning.specs.Terms.{rank}
-use Rattle.answer.proofs.Early.{early-read}
+use Rattle.answer.proofs.Early.{early-read, early-exit}
 use Rattle.answer.proofs.Exits.{exit, refuses, asked_ok}
-use Rattle.answer.proofs.Order.{early-replied, own-replied, as-result, late-replied, given-replied, Roomy, late-fine}
+use Rattle.answer.proofs.Order.{own-replied, as-result, late-replied, given-replied, Roomy, late-fine}
 use Rattle.answer.specs.declared.refusal.Refusal.TheVariants.{Rank}
 use Rattle.lookups.proofs.Calls.{index-names, index-own, index-ready, index-out, few, known}
 use Rattle.lookups.proofs.index_of.Goals as goal
 
 pub returns-in_err-l : goal.returns-in_err-l
 returns-in_err-l c K =
-    early-replied (index-names _ K c.args.l.now c.args.r.now) _
-    (exit c.in_err-l.was c.from_residual.result c.from_residual.ensures.1)
-    (early-read c.ranges.g c.early_two.result _ c.early_two.ensures.number)
+    early-exit (index-names _ K c.args.l.now c.args.r.now) c.ranges.g _ c.early_two.ensures.number c.in_err-l.was _ c.from_residual.ensures.1
 
 pub returns-then-rank-ne1 : goal.returns-then-rank-ne1
 returns-then-rank-ne1 c K =

@@ -1,17 +1,15 @@
 use Rattle.std.proofs.Common.{arith, ◌∙◌, sym, length}
 use mathlib.Core.Path.{refl, ap}
 use Rattle.meaning.specs.Array.{array_of}
-use Rattle.answer.proofs.Early.{early-read}
+use Rattle.answer.proofs.Early.{early-exit}
 use Rattle.answer.proofs.Exits.{exit, asked_ok}
-use Rattle.answer.proofs.Order.{early-replied, as-result, late-replied, given-replied, Roomy, late-fine}
+use Rattle.answer.proofs.Order.{as-result, late-replied, given-replied, Roomy, late-fine}
 use Rattle.lookups.proofs.Calls.{member-names, member-ready, member-out, few, known}
 use Rattle.lookups.proofs.member.Goals as goal
 
 pub returns-in_err-l : goal.returns-in_err-l
 returns-in_err-l c K =
-    early-replied (member-names _ K c.args.l.now c.args.r.now) _
-    (exit c.in_err-l.was c.from_residual.result c.from_residual.ensures.1)
-    (early-read c.ranges.g c.early_two.result _ c.early_two.ensures.number)
+    early-exit (member-names _ K c.args.l.now c.args.r.now) c.ranges.g _ c.early_two.ensures.number c.in_err-l.was _ c.from_residual.ensures.1
 
 pub returns-in_err-late : goal.returns-in_err-late
 returns-in_err-late c K =

@@ -6,10 +6,10 @@ use Rattle.signed.proofs.Reading.{read32}
 use Rattle.meaning.specs.Array.{array_of, good_form}
 use Rattle.answer.specs.Answer.{lent, early, own}
 use Rattle.answer.specs.Refused.{asked}
-use Rattle.answer.proofs.Early.{early-read}
+use Rattle.answer.proofs.Early.{early-read, early-exit}
 use Rattle.answer.proofs.Exits.{exit, asked_ok}
 use Rattle.answer.proofs.Lent.{formed}
-use Rattle.answer.proofs.Order.{early-replied, own-replied, late-replied, given-replied, Roomy, late-fine}
+use Rattle.answer.proofs.Order.{own-replied, late-replied, given-replied, Roomy, late-fine}
 use Rattle.masks.specs.Steps.Actions.{action_number, masking, vector_shape}
 use Rattle.masks.proofs.Calls.{mask-names, Known, known-has, known-high, shape_is, known-ready, known-masked, known_out}
 use Rattle.masks.specs.contracts.masked.{EXPANDS-type}
@@ -23,8 +23,7 @@ expands g = EXPANDS-type (number g.row.EXPANDS)
 
 pub returns-in_err-l : goal.returns-in_err-l
 returns-in_err-l g c =
-    early-replied (mask-names _ _ c.args.l.now c.args.r.now (expands g)) _ (exit c.in_err-l.was c.from_residual.result c.from_residual.ensures.1)
-    (early-read c.ranges.g c.early_two.result _ c.early_two.ensures.number)
+    early-exit (mask-names _ _ c.args.l.now c.args.r.now (expands g)) c.ranges.g _ c.early_two.ensures.number c.in_err-l.was _ c.from_residual.ensures.1
 
 -- FORM and ORIGIN were not met, and what RANK, AXIS, LENGTH and DOMAIN came to.
 fine : (g : given.Over) (c : After-mask_refusal g) → early (good_form c.args.l.now && good_form c.args.r.now) c.args.g ≡ 0

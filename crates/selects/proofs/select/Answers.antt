@@ -2,17 +2,16 @@ use Rattle.std.proofs.Common.{arith, ◌∙◌, sym}
 use mathlib.Core.Path.{refl}
 use Rattle.shape.proofs.Made.{stands-count}
 use Rattle.signed.proofs.Reading.{read32}
-use Rattle.answer.proofs.Early.{early-read}
+use Rattle.answer.proofs.Early.{early-read, early-exit}
 use Rattle.answer.proofs.Exits.{exit, asked_ok}
-use Rattle.answer.proofs.Order.{early-replied, own-replied, late-replied, given-replied, Roomy, late-fine}
+use Rattle.answer.proofs.Order.{own-replied, late-replied, given-replied, Roomy, late-fine}
 use Rattle.selects.proofs.Calls.{select-names}
 use Rattle.selects.proofs.Selecting.{chosen-asked, chosen-found, selected-is, select-ready, chooses, select-out}
 use Rattle.selects.proofs.select.Goals as goal
 
 pub returns-in_err-l : goal.returns-in_err-l
 returns-in_err-l c =
-    early-replied (select-names _ _ c.args.l.now c.args.r.now) _ (exit c.in_err-l.was c.from_residual.result c.from_residual.ensures.1)
-    (early-read c.ranges.g c.early_two.result _ c.early_two.ensures.number)
+    early-exit (select-names _ _ c.args.l.now c.args.r.now) c.ranges.g _ c.early_two.ensures.number c.in_err-l.was _ c.from_residual.ensures.1
 
 pub returns-in_err-axis : goal.returns-in_err-axis
 returns-in_err-axis c =

@@ -1,14 +1,12 @@
 use Rattle.std.proofs.Common.{sym, ◌∙◌}
-use Rattle.answer.proofs.Early.{early-read}
-use Rattle.answer.proofs.Exits.{exit, asked_ok}
-use Rattle.answer.proofs.Order.{early-replied}
+use Rattle.answer.proofs.Early.{early-read, early-exit}
+use Rattle.answer.proofs.Exits.{asked_ok}
 use Rattle.transposes.proofs.Calls.{transpose-names, transpose-own, transpose-means, sent-replied}
 use Rattle.transposes.proofs.transpose.Goals as goal
 
 pub returns-in_err-r : goal.returns-in_err-r
 returns-in_err-r c K L =
-    early-replied (transpose-names _ K L c.args.r.now) _ (exit c.in_err-r.was c.from_residual.result c.from_residual.ensures.1)
-    (early-read c.ranges.g c.early_one.result _ c.early_one.ensures.number)
+    early-exit (transpose-names _ K L c.args.r.now) c.ranges.g _ c.early_one.ensures.number c.in_err-r.was _ c.from_residual.ensures.1
 
 pub returns : goal.returns
 returns c K L =

@@ -1,15 +1,14 @@
 use Rattle.std.proofs.Common.{sym, ◌∙◌}
 use Rattle.std.proofs.lemmas.Result.{IfOk-at_ok}
-use Rattle.answer.proofs.Early.{early-read}
+use Rattle.answer.proofs.Early.{early-read, early-exit}
 use Rattle.answer.proofs.Exits.{exit, asked_ok}
-use Rattle.answer.proofs.Order.{early-replied, own-replied}
+use Rattle.answer.proofs.Order.{own-replied}
 use Rattle.transposes.proofs.Calls.{by_names, by-means, sent-replied, sending-at}
 use Rattle.transposes.proofs.transpose_by.Goals as goal
 
 pub returns-in_err-l : goal.returns-in_err-l
 returns-in_err-l c K =
-    early-replied (by_names _ K c.args.l.now c.args.r.now) _ (exit c.in_err-l.was c.from_residual.result c.from_residual.ensures.1)
-    (early-read c.ranges.g c.early_two.result _ c.early_two.ensures.number)
+    early-exit (by_names _ K c.args.l.now c.args.r.now) c.ranges.g _ c.early_two.ensures.number c.in_err-l.was _ c.from_residual.ensures.1
 
 pub returns-in_err-sent : goal.returns-in_err-sent
 returns-in_err-sent c K =

@@ -5,18 +5,17 @@ use Rattle.meaning.specs.Terms.{rank, as_vector}
 use Rattle.meaning.proofs.Scalars.{vector-rank}
 use Rattle.answer.specs.Answer.{lent}
 use Rattle.answer.proofs.Axes.{axis-none, axis-refused, axis-found}
-use Rattle.answer.proofs.Early.{early-read, one-fine}
+use Rattle.answer.proofs.Early.{early-read, one-fine, early-exit}
 use Rattle.answer.proofs.Exits.{exit, asked_ok}
 use Rattle.answer.proofs.Lent.{formed}
-use Rattle.answer.proofs.Order.{early-replied, own-replied, as-result, late-replied, given-replied, Roomy, late-fine}
+use Rattle.answer.proofs.Order.{own-replied, as-result, late-replied, given-replied, Roomy, late-fine}
 use Rattle.turns.proofs.Calls.{reverse-names, reverse-own, reverse-ready, reverse-out}
 use Rattle.turns.proofs.reverse.Goals as goal
 use Rattle.turns.proofs.reverse.Goals.{After-axis, In_ok-axis, In_ok-late}
 
 pub returns-in_err-r : goal.returns-in_err-r
 returns-in_err-r c L =
-    early-replied (reverse-names _ _ L c.args.r.now) _ (exit c.in_err-r.was c.from_residual.result c.from_residual.ensures.1)
-    (early-read c.ranges.g c.early_one.result _ c.early_one.ensures.number)
+    early-exit (reverse-names _ _ L c.args.r.now) c.ranges.g _ c.early_one.ensures.number c.in_err-r.was _ c.from_residual.ensures.1
 
 pub returns-in_err-axis : goal.returns-in_err-axis
 returns-in_err-axis c L =

@@ -3,10 +3,10 @@ use mathlib.Core.Path.{refl, ap}
 use Rattle.meaning.specs.Array.{array_of}
 use Rattle.meaning.specs.Primitives.{rotate}
 use Rattle.answer.specs.Answer.{lent}
-use Rattle.answer.proofs.Early.{early-read}
+use Rattle.answer.proofs.Early.{early-read, early-exit}
 use Rattle.answer.proofs.Exits.{exit, asked_ok}
 use Rattle.answer.proofs.Lent.{formed}
-use Rattle.answer.proofs.Order.{early-replied, own-replied, as-result, late-replied, given-replied, Ready, Roomy, late-fine}
+use Rattle.answer.proofs.Order.{own-replied, as-result, late-replied, given-replied, Ready, Roomy, late-fine}
 use mir.Syntax.{w32}
 use mir.Val.{SFits}
 use borrow.Author.Rules.{rules}
@@ -18,8 +18,7 @@ use Rattle.turns.proofs.rotate.Goals.{After-count-total, In_ok-late}
 
 pub returns-in_err-l : goal.returns-in_err-l
 returns-in_err-l c =
-    early-replied (rotate-names _ _ c.args.l.now c.args.r.now) _ (exit c.in_err-l.was c.from_residual.result c.from_residual.ensures.1)
-    (early-read c.ranges.g c.early_two.result _ c.early_two.ensures.number)
+    early-exit (rotate-names _ _ c.args.l.now c.args.r.now) c.ranges.g _ c.early_two.ensures.number c.in_err-l.was _ c.from_residual.ensures.1
 
 pub returns-in_err-axis : goal.returns-in_err-axis
 returns-in_err-axis c =

@@ -12,7 +12,8 @@ use Rattle.answer.proofs.Exits.{exit, asked_ok}
 use Rattle.answer.proofs.Lent.{early-fine}
 use Rattle.answer.proofs.Order.{own-replied, Ready, late-replied, given-replied}
 use Rattle.vectors.proofs.Vector.{vector-late, vector-room, vector-shape, vector-put}
-use Rattle.vectors.proofs.Calls.{early-exit, ends, interval-names, interval-vector, interval-ready}
+use Rattle.answer.proofs.Early.{early-exit}
+use Rattle.vectors.proofs.Calls.{ends, interval-names, interval-vector, interval-ready}
 use Rattle.vectors.proofs.interval.Goals as goal
 use Rattle.vectors.proofs.interval.Goals.{After-interval_length, After-late}
 

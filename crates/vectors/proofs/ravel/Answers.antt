@@ -8,7 +8,8 @@ use Rattle.answer.proofs.Early.{early-read}
 use Rattle.answer.proofs.Exits.{exit, asked_ok}
 use Rattle.answer.proofs.Order.{late-replied, given-replied, late-fine}
 use Rattle.vectors.proofs.Vector.{vector-shape, vector-out}
-use Rattle.vectors.proofs.Calls.{early-exit, ravel-names, ravel-vector, ravel-ready, ravel-count, ravel-copied}
+use Rattle.answer.proofs.Early.{early-exit}
+use Rattle.vectors.proofs.Calls.{ravel-names, ravel-vector, ravel-ready, ravel-count, ravel-copied}
 use Rattle.vectors.proofs.ravel.Goals as goal
 use Rattle.vectors.proofs.ravel.Goals.{After-elements-elements}
 

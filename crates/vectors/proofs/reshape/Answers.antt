@@ -19,7 +19,8 @@ use Rattle.answer.proofs.Order.{own-replied, Ready, late-replied, given-replied,
 use Rattle.vectors.specs.Steps.{cycled, shape_or_limit}
 use Rattle.vectors.proofs.Over.{some_shape, over-replied}
 use Rattle.vectors.proofs.Cycling.{few-put}
-use Rattle.vectors.proofs.Calls.{early-exit, reshape-names, reshape-lengths, reshape-out}
+use Rattle.answer.proofs.Early.{early-exit}
+use Rattle.vectors.proofs.Calls.{reshape-names, reshape-lengths, reshape-out}
 use Rattle.vectors.proofs.reshape.Goals as goal
 use Rattle.vectors.proofs.reshape.Goals.{After-reshaped, After-shape_from, After-count-total, After-elements-elements}
 

@@ -7,7 +7,8 @@ use Rattle.answer.proofs.Exits.{exit, asked_ok}
 use Rattle.answer.proofs.Order.{late-replied, given-replied}
 use Rattle.vectors.proofs.Vector.{vector-counted, vector-room, vector-shape, vector-put}
 use Rattle.answer.proofs.Lent.{formed}
-use Rattle.vectors.proofs.Calls.{early-exit, shape-names, shape-vector, shape-ready, lengths-put}
+use Rattle.answer.proofs.Early.{early-exit}
+use Rattle.vectors.proofs.Calls.{shape-names, shape-vector, shape-ready, lengths-put}
 use Rattle.vectors.proofs.shape_of.Goals as goal
 
 pub returns-in_err-r : goal.returns-in_err-r

@@ -23,10 +23,10 @@ use Rattle.answer.proofs.Exits.{Refuses}
 use Rattle.answer.proofs.Order.{early_of, Names, late-first, late-replied}
 
 -- The reply to a call whose result would have more axes than a shape can have.
-pub over-replied : {n operands : ℕ} {G K : ℤ} {L R : Operand} {m : Meaning} → Names n operands G K L R m → early_of operands G L R ≡ 0
+pub over-limit : {n operands : ℕ} {G K : ℤ} {L R : Operand} {m : Meaning} → Names n operands G K L R m → early_of operands G L R ≡ 0
     → own n m.refusals ≡ 0 → max_rank < length m.lengths → (out : List ℤ) → {a : Answer} {w : ℕ} → Refuses a w → w ≡ number LIMIT
     → Replied a out (reply (pos n) G K L R out)
-over-replied {m = m} names fine none more out e q =
+over-limit {m = m} names fine none more out e q =
     let s : Shape = record { rank = length m.lengths; lens = [] } in
     let bad : good_shape s ≡ false = refuted (good_shape s) (λ g. omega (arith, good-rank s g)) in
     let stands : Stands s m.lengths = record { rank = refl; lengths = λ l. absurd (omega (arith, l, more)) } in
