@@ -231,7 +231,7 @@ fn gather_blocks(at: &[u16], first: usize, b: AxisBlocks, r: &[i32], out: &mut [
     }
 }
 
-// A row of one element is no run: one loop over the line. By `gather_rows` such rows take 3.8 to 4.3 times as long.
+// A row of one element is no run: one loop over the line. By `gather_rows` such rows take 3.8 to 4.0 times as long.
 fn gather_block(at: &[u16], inner: usize, r: &[i32], out: &mut [i32])
     requires { RowsBy at.now inner (length r.now) (length out.old) }
     ensures { out.new ≡ tab (length at.now * inner) (rows_by at.now inner r.now) }
