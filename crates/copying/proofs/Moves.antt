@@ -8,7 +8,7 @@ use native.Mathlib.Omega.{arith}
 use Rattle.std.proofs.lemmas.List.{get_or_default, get_or-reverse, take-append-le, take-take}
 use lib.ListN.{length, get_or, set, take, drop, length-drop, length-reverse}
 use lib.Seq.{paste, paste-zero, paste-suc, get_or-drop, get_or-take, take-add, drop-drop, drop_at, length-take-le}
-use Rattle.copying.specs.Runs.{ordered}
+use Rattle.copying.specs.Steps.{ordered}
 
 place-lt : (back : Bool) (n i : ℕ) → i < n → cond back (n - 1 - i) i < n
 place-lt true n i h = omega arith

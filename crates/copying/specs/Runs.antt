@@ -1,5 +1,5 @@
 -- A run is elements that stand one after another in a buffer: what it leaves in the buffer that it goes to.
-use Rattle.std.specs.Prelude.{ℕ, min, List, ◌++◌, reverse, length, take, drop, Bool, cond}
+use Rattle.std.specs.Prelude.{ℕ, min, List, ◌++◌, reverse, length, take, drop}
 
 -- As many elements as both have.
 abbrev pub common : {A : Type 0} → List A → List A → ℕ
@@ -12,10 +12,3 @@ copied src out = take (common src out) src ++ drop (common src out) out
 -- The same elements, the last of them first.
 unfoldable pub reversed : {A : Type 0} → List A → List A → List A
 reversed src out = reverse (take (common src out) src) ++ drop (common src out) out
-
--- A run in its order, or the last of its elements first; and what it then leaves.
-abbrev pub ordered : {A : Type 0} → Bool → List A → List A
-ordered back src = cond back (reverse src) src
-
-abbrev pub arranged : {A : Type 0} → Bool → List A → List A → List A
-arranged back src out = ordered back (take (common src out) src) ++ drop (common src out) out

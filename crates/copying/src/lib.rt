@@ -6,8 +6,8 @@ ghost use Rattle.std.specs.Prelude.{◌≡◌, ◌++◌, true, cond, min, ◌+�
 ghost use Rattle.shape.specs.Shape.{max_count};
 ghost use Rattle.meaning.specs.Array.{tab};
 ghost use Rattle.meaning.specs.Terms.{every};
-ghost use Rattle.copying.specs.Runs.{copied, reversed, ordered, arranged};
-ghost use Rattle.copying.specs.Steps.{filled};
+ghost use Rattle.copying.specs.Runs.{copied, reversed};
+ghost use Rattle.copying.specs.Steps.{filled, ordered, arranged};
 ghost use Rattle.copying.specs.Gather.{small_blocks, gathers, gathered_at, gathered, rows_by, RowsBy};
 
 use shape::Shape;

@@ -135,7 +135,8 @@ fn mask_fits<const EXPANDS: bool>(repeated: bool, l: &[i32], n: usize) -> bool
     }
 }
 
-// A loop that no element ends, so that it is compiled to tests of many elements: `all` tests one at a time, and the proof of a `fold` did not close.
+// A loop that no element ends, so that it is compiled to tests of many elements, as `copying::all_below` is (by `all` eight times as long); the proof of a
+// `fold` did not close.
 fn all_bits(l: &[i32]) -> bool
     ensures { result ≡ every is_bit l.now }
 {

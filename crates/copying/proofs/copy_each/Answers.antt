@@ -3,7 +3,8 @@ use native.Mathlib.Nat.{add-zero}
 use denote.Param.{number}
 use Rattle.std.proofs.Math.ListN.{set}
 use Rattle.shape.proofs.Shifted.{front-step}
-use Rattle.copying.specs.Runs.{common, ordered}
+use Rattle.copying.specs.Runs.{common}
+use Rattle.copying.specs.Steps.{ordered}
 use Rattle.copying.proofs.Moves.{placed_front, length_ordered}
 use Rattle.copying.specs.contracts.copy_each.{BACK-type}
 use Rattle.copying.proofs.copy_each.Goals as goal

@@ -1,6 +1,6 @@
 use Rattle.std.proofs.Common.{◌≡◌, ◌++◌, take, drop}
 use denote.Param.{number}
-use Rattle.copying.specs.Runs.{ordered}
+use Rattle.copying.specs.Steps.{ordered}
 use Rattle.copying.specs.contracts.copy_each.{BACK-type}
 use Rattle.copying.proofs.copy_each.Given as goal
 

@@ -1,6 +1,6 @@
 use Rattle.std.proofs.Common.{arith, ◌≡◌, ◌+◌}
 use denote.Param.{number}
-use Rattle.copying.specs.Runs.{ordered}
+use Rattle.copying.specs.Steps.{ordered}
 use Rattle.copying.proofs.Moves.{front-more, length_ordered}
 use Rattle.copying.specs.contracts.copy_eights.{BACK-type}
 use Rattle.copying.proofs.copy_eights.Goals as goal

@@ -1,6 +1,6 @@
 use Rattle.std.proofs.Common.{◌≡◌, ◌≤◌, ◌-◌, ◌++◌, take, drop, length}
 use denote.Param.{number}
-use Rattle.copying.specs.Runs.{ordered}
+use Rattle.copying.specs.Steps.{ordered}
 use Rattle.copying.specs.contracts.copy_eights.{BACK-type}
 use Rattle.copying.proofs.copy_eights.Given as goal
 

@@ -1,6 +1,6 @@
 use Rattle.std.proofs.Common.{arith, ◌≡◌, ◌∙◌, ◌++◌, ◌+◌, ◌-◌, ◌≤◌, length, take, drop, take_all, ℕ}
 use denote.Param.{number}
-use Rattle.copying.specs.Runs.{ordered}
+use Rattle.copying.specs.Steps.{ordered}
 use Rattle.copying.proofs.Moves.{front-more, front-over, length_ordered}
 use Rattle.copying.specs.contracts.copy_last.{BACK-type}
 use Rattle.copying.proofs.copy_last.Goals as goal

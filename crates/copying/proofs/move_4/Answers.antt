@@ -1,7 +1,7 @@
 use Rattle.std.proofs.Common.{arith, ◌∙◌, ◌-◌, ap, cond, length}
 use native.Mathlib.Nat.{add-zero}
 use denote.Param.{number}
-use Rattle.copying.specs.Runs.{ordered}
+use Rattle.copying.specs.Steps.{ordered}
 use Rattle.copying.proofs.Moves.{placed, stored-4, length_ordered}
 use Rattle.copying.specs.contracts.move_4.{BACK-type}
 use Rattle.copying.proofs.move_4.Goals as goal

@@ -10,7 +10,7 @@ use Rattle.masks.specs.Steps.Actions.{suits, width, one_at, takes_at, taken}
 abbrev pub rowed : (ℕ → Bool) → (ℕ → ℕ) → ℕ → List ℤ → ℕ → ℤ
 rowed t φ c r j = cond (t (j / c)) (get_or r (φ (j / c) * c + j % c) (pos 0)) (pos 0)
 
--- The rows at the positions of a list; the rows in order at the ones of a mask, zeros elsewhere; and what an expands makes of rows.
+-- The rows at the positions of a list; the rows in order at the ones of a mask, zeros elsewhere; and what a mask makes of rows.
 abbrev pub kept_rows : List ℕ → ℕ → List ℤ → ℕ → ℤ
 kept_rows at = rowed (λ i. true) (λ i. get_or at i 0)
 
