@@ -254,7 +254,7 @@ fn gather_line(at: &[u16], r: &[i32], out: &mut [i32])
     }
 }
 
-// Each row by itself: to join neighbours to one run took longer.
+// Each row by itself, whether or not it has neighbours among the others.
 fn gather_rows(at: &[u16], inner: usize, r: &[i32], out: &mut [i32])
     requires { RowsBy at.now inner (length r.now) (length out.old) }
     ensures { out.new ≡ tab (length at.now * inner) (rows_by at.now inner r.now) }

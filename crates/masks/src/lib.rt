@@ -180,7 +180,8 @@ fn kept_count(l: &[i32], n: usize) -> usize
 }
 
 // The lines along an axis, `total` elements of m positions: none, or one run where there are as many positions as before, or else blocks. Each primitive
-// has other ways between these two tests; what is known of the nine parameters is one record, `Masked`.
+// has other ways between these two tests; what is known of the nine parameters is one record, `Masked`: a struct
+// of them would be made for this one call and taken apart in it.
 fn mask_into<const EXPANDS: bool>(
     repeated: bool,
     l: &[i32],
@@ -218,7 +219,7 @@ fn mask_into<const EXPANDS: bool>(
 }
 
 // A block of up to so many elements stays in the first-level cache until the rows are written over its zeros. Not as lookups' constants of this name and
-// of FEW: those are numbers of tests.
+// of FEW: those count elements that are searched.
 const NEAR: usize = 2048;
 
 // Whether the ones are noted, for a mask of c places on an axis of length n, where a block of the result has `part` elements.

@@ -5,7 +5,7 @@ ghost use Rattle.std.specs.Prelude.{◌≡◌, cond, eqb, leb, pos, nat_abs, ◌
 ghost use Rattle.meaning.specs.Terms.{negative, within, from_zero, modulo, int_same, is_bit};
 ghost use Rattle.meaning.specs.Reply.{is_origin};
 
-// Public, as are `same` and `is_one`, and so they stay with what they promise; the crates here write the operators.
+// The sign by its definition's name, which its callers' proofs cite.
 pub fn negative(z: i32) -> bool
     ensures { result ≡ negative z }
 {
@@ -19,6 +19,7 @@ pub fn magnitude(z: i32) -> usize
     z.unsigned_abs() as usize
 }
 
+// Public, as is `is_one`, and so both stay with what they promise; the crates here write the operator.
 pub fn same(x: i32, y: i32) -> bool
     ensures { result ≡ int_same x y }
 {

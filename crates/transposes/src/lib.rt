@@ -341,9 +341,9 @@ fn walk_blocks(lens: &[usize], strides: &[usize], r: &[i32], out: &mut [i32])
     put_blocks(near, &lens[1..rank], &strides[1..rank], step, r, out);
 }
 
-// The part of the result for the axes in `lens`, whose first element is r's first: a line, blocks, or part by part. Which, the lengths and strides that are left
-// say, so that no caller could choose. The lengths are a part of the shape, whose form the C interface fixes: pairs of a length and a stride would be a third
-// array, and a loop that fills it.
+// The part of the result for the axes in `lens`, whose first element is r's first: a line, blocks, or part by part. Which, the lengths and strides that are
+// left say, so that no caller could choose. The lengths are a part of the shape, whose form the C interface fixes: pairs of a length and a stride would be a
+// third array, and a loop that fills it.
 fn walk(lens: &[usize], strides: &[usize], r: &[i32], out: &mut [i32])
     requires { Walk lens.now strides.now (length r.now) (length out.old) }
     ensures { out.new ≡ walked lens.now strides.now r.now }
