@@ -4,5 +4,4 @@ pub mod Tables
 pub mod Bridges
 pub mod Building
 pub mod Filling
-pub mod Over
 pub mod Calls
