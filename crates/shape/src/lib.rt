@@ -21,7 +21,8 @@ impl Shape {
 
     pub const MAX_COUNT: usize = 16384;
 
-    // What every count above the limit is held at. C reads this number, so no Option stands for it.
+    // What every count above the limit is held at. C reads this number of a bad shape, and Around's counts are held at it by their definition, so no Option
+    // stands for it.
     const OVER: usize = Shape::MAX_COUNT + 1;
 
     pub fn scalar() -> Shape
