@@ -114,7 +114,7 @@ fn names_one(z: i32, g: i32, n: usize) -> bool
 }
 
 // z less g, which is known not to be negative: a cast from 64 bits, where the difference fits, since a `try_from` tests it again for each element. By
-// `signed::from_zero`, which also takes the difference's size, rows of one element took up to 1.9 times as long.
+// `signed::from_zero`, which also takes the difference's size, rows of one element took up to 1.5 times as long.
 fn known_position(z: i32, g: i32) -> usize
     requires { negative (z -ℤ g) ≡ false }
     ensures { result ≡ from_zero g z }
