@@ -50,8 +50,8 @@ fn take_or_drop(
     Ok(shape)
 }
 
-// RANK and LENGTH: L is a list with one number for each axis of R, and a scalar R has as many as L has numbers. Or else L's numbers. The
-// kind is for the contract alone, which names the definition by it.
+// RANK and LENGTH: L is a list with one number for each axis of R, and a scalar R has as many as L has numbers. Or else L's numbers. The kind is for the
+// contract alone, which names the definition by it.
 fn cut_numbers<'a>(kind: CutKind, l: &Formed<'a>, r: &Formed<'_>) -> Result<&'a [i32], Refusal>
     ensures number { asked result
         ≡ own (cut_number kind) (cut_meaning kind (array_of l.now) (array_of r.now)).refusals }

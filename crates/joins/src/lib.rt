@@ -50,8 +50,8 @@ struct Along {
     ghost has: { axis < shape.rank },
 }
 
-// RANK, AXIS and LENGTH, or else what the operands are joined along. No element is looked at. G and K name the axis
-// here alone, so what the contract says of them is in no type.
+// RANK, AXIS and LENGTH, or else what the operands are joined along. No element is looked at. G and K name the axis here alone, so what the contract says of
+// them is in no type.
 fn joint(g: i32, k: i32, l: &Formed<'_>, r: &Formed<'_>) -> Result<Along, Refusal>
     ensures number { asked result ≡ own 22 (catenate g k (array_of l.now) (array_of r.now)).refusals }
     ensures found { IfOk result (λ t. Joins g k l.now r.now t.shape t.axis) }

@@ -8,9 +8,9 @@ ghost use Rattle.answer.specs.Refused.{answered};
 use answer::{Operand, Refusal};
 use shape::Shape;
 
-// A call by its primitive's number: 11 to 15 take one operand, 21 to 31 take two, and every other number is refused. The paper and C name a primitive
-// by its number, so the choice is a match on it and no enum. A primitive takes only what it looks at: a struct of the whole
-// call would hand it a K or an L as well, which its contract, for every one, would have to set aside.
+// A call by its primitive's number: 11 to 15 take one operand, 21 to 31 take two, and every other number is refused. The paper and C name a primitive by its
+// number, so the choice is a match on it and no enum. A primitive takes only what it looks at: a struct of the whole call would hand it a K or an L as well,
+// which its contract, for every one, would have to set aside.
 pub fn call(
     primitive: i32,
     g: i32,

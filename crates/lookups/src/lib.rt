@@ -15,9 +15,9 @@ mod table;
 
 use table::Chains;
 
-// As each primitive, both ask what is early, their own, what is late, and put the elements. By `?` that frame is a line a step: a function for it would
-// take what stands between as closures. Both take of a call
-// what they look at: a struct of it would hand them a K as well, for every one of which they promise the same.
+// As each primitive, both ask what is early, their own, what is late, and put the elements. By `?` that frame is a line a step: a function for it would take
+// what stands between as closures. Both take of a call what they look at: a struct of it would hand them a K as well, for every one of which they promise the
+// same.
 
 // 29, whatever K is: it is not looked at.
 pub fn index_of(g: i32, l: &Operand<'_>, r: &Operand<'_>, out: &mut [i32]) -> Result<Shape, Refusal>

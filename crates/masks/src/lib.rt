@@ -179,9 +179,9 @@ fn kept_count(l: &[i32], n: usize) -> usize
     if *z == 1 { n } else { 0 }
 }
 
-// The lines along an axis, `total` elements of m positions: none, or one run where there are as many positions as before, or else blocks. Each primitive
-// has other ways between these two tests; what is known of the nine parameters is one record, `Masked`: a struct
-// of them would be made for this one call and taken apart in it.
+// The lines along an axis, `total` elements of m positions: none, or one run where there are as many positions as before, or else blocks. Each primitive has
+// other ways between these two tests; what is known of the nine parameters is one record, `Masked`: a struct of them would be made for this one call and taken
+// apart in it.
 fn mask_into<const EXPANDS: bool>(
     repeated: bool,
     l: &[i32],

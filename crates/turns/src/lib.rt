@@ -129,8 +129,8 @@ fn blocks_in_group(size: usize) -> usize
     (GROUP / size.max(1)).max(1)
 }
 
-// By groups of blocks, the last of which may be smaller. A group is an Around of fewer blocks. That the cut lies in
-// a block is asked by this and by rotate_group alone.
+// By groups of blocks, the last of which may be smaller. A group is an Around of fewer blocks. That the cut lies in a block is asked by this and by
+// rotate_group alone.
 fn rotate_groups(r: &[i32], w: Around, cut: usize, out: &mut [i32])
     requires { (cut ≤ w.length * w.inner) × Lie w.outer (w.length * w.inner) (length r.now) (length out.old) }
     ensures { out.new ≡ filled (cut_blocks r.now (w.length * w.inner) cut) (w.outer * (w.length * w.inner)) out.old }
