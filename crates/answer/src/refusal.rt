@@ -26,7 +26,7 @@ impl Refusal {
     }
 }
 
-// All of them, as the definitions have them.
+// All of them, as the definitions have them. Written out: nothing lists the variants of an enum.
 pub fn numbers() -> [usize; 10]
     ensures { result ≡ map number in_order }
 {

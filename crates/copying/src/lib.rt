@@ -12,7 +12,7 @@ ghost use Rattle.copying.specs.Gather.{small_blocks, gathers, gathered_at, gathe
 
 use shape::Shape;
 
-// The smaller of two lengths.
+// The smaller of two lengths. Public, and so it stays; the crates here call the method.
 pub fn min(a: usize, b: usize) -> usize
     ensures { result ≡ min a b }
 {

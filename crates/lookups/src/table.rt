@@ -18,7 +18,7 @@ const ELEMENTS_TO_A_STEP: usize = 64;
 // Multiplicative hashing (Knuth, The Art of Computer Programming, vol. 3, 6.4): 2^32 divided by the golden ratio, rounded to an odd number.
 const FACTOR: u32 = 2654435769;
 
-// The bucket of a value: the upper sixteen bits of a product of 32.
+// The bucket of a value: the upper sixteen bits of a product of 32. A cast, since usize has no From<u32>.
 fn hash(x: i32) -> usize
     ensures { (result ≡ hash_of x) × (result < buckets) }
 {
@@ -27,7 +27,7 @@ fn hash(x: i32) -> usize
 }
 
 // A list with each bucket's first position, and after each position the next of its chain: arrays that the caller lends, since the kernel has no heap for
-// a map.
+// a map. `look` and `follow` give the list a name, since each reads it again and again.
 #[derive(Drop)]
 pub struct Chains<'a> {
     l: &'a [i32],

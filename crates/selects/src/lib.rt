@@ -98,6 +98,7 @@ impl<'a> Choice<'a> {
         requires { Known self.now i }
         ensures { result ≡ position_at self.now i }
     {
+        // The list has a name, since of an index into the field itself the proof did not close.
         let numbers = self.numbers;
         known_position(numbers[i], self.origin)
     }

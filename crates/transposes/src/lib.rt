@@ -45,7 +45,7 @@ pub fn transpose_by(
 }
 
 // R, and where its axes are sent: axis i to axis `to[i]`, of `axes` axes in all. There is no heap, so `to` is an array as R's lengths are, and R's rank
-// says how many count.
+// says how many count. What reads a field of R more than once, or at each axis, gives R or the field a name.
 #[derive(Drop)]
 struct Sent<'r, 'a> {
     r: &'r Formed<'a>,

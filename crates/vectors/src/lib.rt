@@ -20,7 +20,7 @@ pub fn shape_of(g: i32, r: &Operand<'_>, out: &mut [i32]) -> Result<Shape, Refus
     ensures { (K : ℤ) (L : Operand) → Replied (answered result) out.new (reply (pos 11) g K L r.now out.old) }
 {
     let r = answer::early_one(g, r)?;
-    let rank = r.shape.rank;
+    let rank = r.shape.rank; // Read three times.
     answer::late(rank, out.len())?;
     put_lengths(r.shape.lens, &mut out[..rank]);
     Ok(Shape::vector(rank))
@@ -83,7 +83,7 @@ fn count_up(first: i32, out: &mut [i32])
     requires { (is_origin first ≡ true) × (length out.old ≤ max_count) }
     ensures { out.new ≡ tab (length out.old) (λ i. first +ℤ pos i) }
 {
-    // The number is counted up beside the place: computed from it, each would be narrowed by itself.
+    // The number is counted up beside the place, and not made of it: i32 has no From<usize>.
     let mut x = first;
     for o in out.iter_mut() {
         *o = x;

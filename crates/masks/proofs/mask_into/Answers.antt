@@ -1,7 +1,6 @@
-use Rattle.std.proofs.Common.{arith, rules, ◌≡◌, ◌∙◌, false, length, get_or, pos}
+use Rattle.std.proofs.Common.{arith, rules, ◌∙◌, false, length, get_or, pos}
 use mathlib.Core.Path.{refl}
 use denote.Param.{number}
-use Rattle.shape.specs.Shape.{max_rank}
 use Rattle.signed.proofs.Reading.{read32}
 use Rattle.masks.specs.Steps.Actions.{Masked}
 use Rattle.masks.specs.contracts.mask_into.{EXPANDS-type}
@@ -33,12 +32,9 @@ plain g c = rw c.if-repeated.false at c.requires
 pub returns-then-total-eq0 : goal.returns-then-total-eq0
 returns-then-total-eq0 g c = rw c.if-repeated.false (lined-none (plain g c.before) c.if-total-eq0.true c.args.out.now)
 
-long : (g : given.Over) (c : After-around-a g) → length c.args.s.lens ≡ max_rank
-long g c = search rules
-
 pub slice_bounds-copy_run-end : goal.slice_bounds-copy_run-end
 slice_bounds-copy_run-end g c =
-    omega (arith, lined-inside (plain g c.before.before.before.before) (long g c.before.before) (omega arith) _ c.around-a.ensures c.if-m-a.true)
+    omega (arith, lined-inside (plain g c.before.before.before.before) (search rules) (omega arith) _ c.around-a.ensures c.if-m-a.true)
 
 pub returns-then-m-a : goal.returns-then-m-a
 returns-then-m-a g c =
