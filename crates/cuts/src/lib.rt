@@ -78,7 +78,7 @@ fn read_lengths(rs: Shape) -> [usize; Shape::MAX_RANK]
 }
 
 // What L's numbers say of an axis: how many positions are taken, or how many are dropped.
-// An enum: what it chooses are two short lines, and two types with a trait would go through as many functions.
+// An enum: what it chooses are two short lines, and a const parameter, or two types with a trait, would go through as many functions.
 #[derive(Clone, Copy)]
 enum CutKind {
     Take,
@@ -274,7 +274,7 @@ fn cut(table: &[Axis], r: &[i32], out: &mut [i32])
 }
 
 // Two axes: a run of the same length from each row of `r`, all in one loop. By `cut`, row by row, take along the last axis of 32 x 16 x 32 went from
-// 3.1 us to 6.2, and the limit there is 5.2, plain Rust's time.
+// 3.1 us to 6.2, and the limit there is 5.2, plain Rust's time. What the loop reads of an axis again and again has a name.
 fn cut_rows(rows: &Axis, runs: &Axis, r: &[i32], out: &mut [i32])
     requires { Fitting (rows.now ∷ (runs.now ∷ [])) (length r.now) (length out.old) }
     ensures { out.new ≡ tab (length out.old) (cut_at (rows.now ∷ (runs.now ∷ [])) r.now) }
