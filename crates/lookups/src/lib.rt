@@ -45,8 +45,8 @@ pub fn member(g: i32, l: &Operand<'_>, r: &Operand<'_>, out: &mut [i32]) -> Resu
 
 // What is written for each element of r, looked for in l: whether l has it, or its first position counted from `first`. The choice is a constant all
 // the way down, so that the compiler makes a loop for each: one loop for both, or an enum in the constant's place, took a tenth longer.
-// `Looks` is asked here and of both that are called: a struct of `first` and l would hold two of its facts, and the third is of r and out, of which
-// the second is lent the rest.
+// `Looks` is asked and `AllEntered` promised here and by both that are called: a struct of `first` and l would hold two facts of `Looks`; all else is of r
+// and out, of which the second is lent the rest.
 fn put_each<const BITS: bool>(first: usize, l: &[i32], r: &[i32], out: &mut [i32])
     requires { Looks first l.now r.now (length out.old) }
     ensures { AllEntered BITS first l.now r.now out.old out.new }

@@ -94,7 +94,7 @@ impl<'a> Chains<'a> {
         let n = l.len();
         let mut p = first;
         let mut left = n / ELEMENTS_TO_A_STEP;
-        // A while: the next position is the chain's, and no index is counted.
+        // A while: the next position is the chain's, and no index is counted. `left` is no range: a `for` would search where the chain ends with its last step.
         while p < n {
             if x == l[p] {
                 return Some(p);

@@ -22,7 +22,7 @@ use std::marker::Model;
 use std::process::ExitCode;
 
 // A write failed, after which nothing is answered or written: the last line whose answer was handed over whole, and whether the reader of the answers
-// went away.
+// went away. A flag, and no enum of the two: `whole` counts in both ways, and each contract speaks of it, so that each variant would have to give it.
 #[derive(Clone, Copy)]
 struct Stopped {
     whole: u64,
@@ -66,7 +66,7 @@ fn handed_over<W: Write>(sink: &mut W, text: &[u8], line: u64) -> Result<(), Sto
     ensures all { OnOk result (Appends (W.contents sink.old) (W.contents sink.new) text.now) }
     ensures short { IfErr result (λ s. Short (W.contents sink.old) (W.contents sink.new) text.now line s.whole) }
 {
-    // A while: each write takes as many bytes as it will.
+    // A while: each write takes as many bytes as it will; and not `write_all`, which does not say how many it took before it failed.
     let mut rest = text;
     while !rest.is_empty() {
         let gone = match sink.write(rest) {
@@ -128,7 +128,7 @@ impl Text {
         self.written(sink, line)
     }
 
-    // The answer to a bad line.
+    // The answer to a bad line. That there is room holds from `flushed` to the next answer only, so the contracts ask for it, and no invariant does.
     fn put_bad(&mut self, line: u64)
         requires { length self.old + max_line ≤ ROOM }
         ensures { self.new ≡ self.old ++ bad_line line }

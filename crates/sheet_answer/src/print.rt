@@ -77,7 +77,7 @@ impl<'a> Writer<'a> {
         self.put_byte(tens);
     }
 
-    // The digits of a number, two at a time, with half the divisions.
+    // The digits of a number, two at a time, with half the divisions. A while: a turn leaves a hundredth of the number, and no index is counted.
     #[inline(always)]
     pub fn put_digits(&mut self, n: usize)
         requires { length (digits n) ≤ self.old.at }

@@ -54,7 +54,7 @@ impl<'a> Reader<'a> {
         self.rest.is_none()
     }
 
-    // What follows a 0: the number ends here.
+    // What follows a 0: the number ends here. `rest` stands beside the Reader here and below: in it, it is an Option, which each would take apart again.
     fn after_zero(&mut self, rest: &'a [u8]) -> Option<i32>
         ensures { and_then (scan (Begun.magnitude false 0) rest.now) next_number ≡ with_rest self.new result }
     {
