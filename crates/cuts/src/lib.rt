@@ -234,7 +234,8 @@ struct Axis {
 // Rows from this length on have their zeros written one by one. Those of shorter rows are written all at once, under the runs too.
 const LONG_ROW: usize = 128;
 
-// Whether a table has two axes whose rows go in one loop: rows that are short, or rows without zeros.
+// Whether a table has two axes whose rows go in one loop: rows that are short, or rows without zeros. No Option of the two: its contract would have to say
+// that they are the table's, which their places in the table say by themselves.
 fn by_rows(table: &[Axis]) -> bool
     ensures { result ≡ true → length table.now ≡ 2 }
 {

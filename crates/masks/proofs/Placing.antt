@@ -3,7 +3,7 @@ use mathlib.Core.Path.{◌≡◌, refl, sym, ap, ◌∙◌}
 use mathlib.Core.List.{List, ◌++◌}
 use mathlib.Core.Bool.{Bool, false}
 use Prim.Native.Nat.{ℕ, ◌+◌, ◌*◌, ◌-◌, ◌≤◌, ◌<◌}
-use native.Mathlib.Nat.{zero-add, zero-mul}
+use native.Mathlib.Nat.{zero-add}
 use native.Mathlib.Omega.{arith}
 use lib.ListN.{length, get_or, take, drop, replicate, get_or-append}
 use lib.Seq.{drop_at}
@@ -18,7 +18,7 @@ use Rattle.copying.specs.Steps.{filled}
 use Rattle.copying.proofs.Runs.{filled_none, length-filled, put-filled}
 use Rattle.copying.proofs.Parts.{part-long, part_room}
 use Rattle.copying.proofs.Blocks.{put-block}
-use Rattle.copying.proofs.Blockwise.{Blockwise, blockwise-none, blockwise-at, blockwise-next, blockwise-all}
+use Rattle.copying.proofs.Blockwise.{Blockwise, blockwise-at, blockwise-next}
 use Rattle.copying.proofs.Gathered.{gathered_none, gathered_next, gathered-all}
 use Rattle.copying.specs.declared.AxisBlocks.{AxisBlocks}
 use Rattle.copying.specs.Gather.{gathered, PositionsNoted}
@@ -78,24 +78,6 @@ module _ {a : Bool} {l : List ℤ} {b : AxisBlocks} (r out₀ : List ℤ) (k : I
               ∙ get_or_part out₀ (o * (b.made * b.inner)) (o * (b.made * b.inner) + b.made * b.inner - o * (b.made * b.inner)) j (pos 0) (omega arith)
               ∙ by.blank s (o * (b.made * b.inner) + j) (omega arith);
         }
-
--- A block alone.
-module _ {a : Bool} {l : List ℤ} {b : AxisBlocks} (r out : List ℤ) (k : InBlocks a l b (length r) (length out)) where
-  none : Blockwise b.outer (b.made * b.inner) (placed a l b r) out out (0 * (b.made * b.inner)) 0
-  none = blockwise-at (blockwise-none b.outer (b.made * b.inner) (placed a l b r) out)
-
-  pub alone : Block a l b (length (take (b.taken * b.inner - 0) r)) (length (take (b.made * b.inner - 0) out))
-  alone =
-      rw (zero-mul (b.taken * b.inner), zero-mul (b.made * b.inner), zero-add (b.taken * b.inner), zero-add (b.made * b.inner))
-      at (placed-block r out k 0 k.some none)
-
-  pub alone-placed : b.outer ≡ 1 → (last : List ℤ) → last ≡ tab (b.made * b.inner) (rows_of a l b.taken b.inner (take (b.taken * b.inner - 0) r))
-      → put_mid 0 (b.made * b.inner - 0) out last ≡ placed_in a l b r out
-  alone-placed e last w =
-      let one =
-      rw (zero-mul (b.taken * b.inner), zero-mul (b.made * b.inner), zero-add (b.taken * b.inner), zero-add (b.made * b.inner))
-      at (placed-more r out k 0 k.some none last) in
-      blockwise-all (one w) (omega arith)
 
 -- By the noted ones of a mask that compresses: its rows are gathered.
 module _ (l : List ℤ) (b : AxisBlocks) (r out : List ℤ) (k : InBlocks false l b (length r) (length out)) (o : b.taken ≡ 1 → ⊥)

@@ -232,18 +232,14 @@ fn notes_pay<const EXPANDS: bool>(c: usize, n: usize, part: usize) -> bool
     if EXPANDS { part <= NEAR } else { n != 1 }
 }
 
-// All blocks; one alone is not looped over. What `InBlocks` says is of the mask, the counts and both buffers: a struct of all four would be made for each
-// call and taken apart in it.
+// All blocks. What `InBlocks` says is of the mask, the counts and both buffers: a struct of all four would be made for each call and taken apart in it.
 fn in_blocks<const EXPANDS: bool>(l: &[i32], b: AxisBlocks, r: &[i32], out: &mut [i32])
     requires { InBlocks EXPANDS l.now b (length r.now) (length out.old) }
     ensures { out.new ≡ placed_in EXPANDS l.now b r.now out.old }
 {
-    let size = b.taken * b.inner;
     let part = b.made * b.inner;
     if notes_pay::<EXPANDS>(l.len(), b.taken, part) {
         noted_blocks::<EXPANDS>(l, b, r, out);
-    } else if b.outer == 1 {
-        masked_block::<EXPANDS>(l, b, &r[0..size], &mut out[0..part]);
     } else {
         masked_blocks::<EXPANDS>(l, b, r, out);
     }

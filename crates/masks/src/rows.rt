@@ -11,8 +11,8 @@ ghost use Rattle.masks.specs.Steps.Rows.{few, Noted, rowed, kept_rows, opened_ro
 // A mask of up to so many positions is looked at once, and not again for each block.
 pub const FEW: usize = 64;
 
-// The positions of the ones in order; how many there are, the result's length along the axis says. There is no heap, so the array has room for any mask
-// that is noted. Every position is written, and the next over it if it is no one: a branch for each would be guessed wrong.
+// The positions of the ones in order; how many there are, a length along the axis says: the result's, or R's in expand. There is no heap, so the array has
+// room for any mask that is noted. Every position is written, and the next over it if it is no one: a branch for each would be guessed wrong.
 pub fn noted(l: &[i32]) -> [u16; FEW]
     requires { length l.now ≤ few }
     ensures { Noted l.now result }

@@ -53,6 +53,15 @@ lines_run n begun (b ∷ bs) f =
     (lines_run n (begun ++ b ∷ []) bs (λ k p. f (suc k) (omega arith))
     ∙ ap (λ l. record { printed = []; line = n; begun = l }) (append_assoc begun (b ∷ []) bs))
 
+-- Bytes after which no newline comes, and a run without one.
+pub run_on : (n : ℕ) (begun front run : List ℕ) → Free run → lines_from n begun (front ++ run)
+    ≡ (let s : Lines = lines_from n begun front in record { printed = s.printed; line = s.line; begun = s.begun ++ run })
+run_on n begun front run f =
+    let s : Lines = lines_from n begun front in
+    lines_append n begun front run
+    ∙ ap (after s.printed) (lines_run s.line s.begun run f)
+    ∙ ap (λ l. record { printed = l; line = s.line; begun = s.begun ++ run }) (append-nil s.printed)
+
 pub lines_end : (n : ℕ) (begun : List ℕ) → lines_from n begun (newline ∷ []) ≡ record { printed = sheet_answer n begun; line = next n; begun = [] }
 unfolding lines_from
 lines_end n begun = ap (λ l. record { printed = l; line = next n; begun = [] }) (append-nil (sheet_answer n begun))
@@ -152,7 +161,7 @@ module _ {start now : Sheet} {old new : Option (List ℕ)} {chunk rest : List �
     chunk_taken =
         let m = g.midway bytes o in
         let s : Lines = so_far bytes in
-        rw (← g.joined, lines_append start.answers.line bytes g.front rest, lines_run s.line s.begun rest (all_free rest e), append-nil s.printed)
+        rw (← g.joined, run_on start.answers.line bytes g.front rest (all_free rest e))
         (record { took = record { line = m.took.line; begun = holds s.begun m.took.begun }; sent = m.sent })
 
 -- The sheet ends, and a write fails before the last line is answered, or when its answer is written.

@@ -145,7 +145,7 @@ fn sent_shape(sent: &Sent<'_, '_>) -> Shape
     Shape::of_lengths(sent.axes, lens)
 }
 
-// The elements of the result, of that shape. Where there are none R has none either, and its strides need not fit.
+// The elements of the result, of that shape. Where there are none R has none either, and its strides need not fit. R has a name for its invariant's sake.
 fn transpose_into(sent: &Sent<'_, '_>, shape: Shape, out: &mut [i32])
     requires { Moves sent.now shape (length out.old) }
     ensures { out.new ≡ sent_elements sent.now.to (array_of sent.now.operand) }
@@ -343,7 +343,7 @@ fn walk_blocks(lens: &[usize], strides: &[usize], r: &[i32], out: &mut [i32])
 
 // The part of the result for the axes in `lens`, whose first element is r's first: a line, blocks, or part by part. Which, the lengths and strides that are
 // left say, so that no caller could choose. The lengths are a part of the shape, whose form the C interface fixes: pairs of a length and a stride would be a
-// third array, and a loop that fills it.
+// third array, and a loop that fills it. By `split_first` of both lists there would be an else for lists of two lengths, which never comes.
 fn walk(lens: &[usize], strides: &[usize], r: &[i32], out: &mut [i32])
     requires { Walk lens.now strides.now (length r.now) (length out.old) }
     ensures { out.new ≡ walked lens.now strides.now r.now }

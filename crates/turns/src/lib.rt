@@ -71,8 +71,8 @@ enum Turn {
     By(i32),
 }
 
-// Turns an axis of R, `total` elements in all: they were counted for LIMIT and SPACE, and no Formed is handed on, which would count them again. A scalar
-// has no axis to go around, and without elements there is no block.
+// Turns an axis of R, `total` elements in all, which were counted for LIMIT and SPACE. R's shape and buffer come apart: from the counts around the axis on
+// only the buffer is read, and a Formed would be taken apart here at once. A scalar has no axis to go around, and without elements there is no block.
 fn turn_into(turn: Turn, s: Shape, axis: usize, total: usize, r: &[i32], out: &mut [i32])
     requires { Turns s axis total r.now (length out.old) }
     ensures { out.new
@@ -139,7 +139,7 @@ fn rotate_groups(r: &[i32], w: Around, cut: usize, out: &mut [i32])
     let group = blocks_in_group(size);
     let mut at = 0;
     let mut o = 0;
-    // A while: its step is a number that is found, and the last step is smaller; a for over the groups' numbers would compute both again.
+    // A while: the last step is smaller, and the start goes with it; a for by step_by would count o alone, with the start beside it as here.
     while o < w.outer {
         let some = group.min(w.outer - o);
         let end = at + some * size;
