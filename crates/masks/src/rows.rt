@@ -167,8 +167,8 @@ pub fn expand_rows(l: &[i32], r: &[i32], inner: usize, out: &mut [i32])
     }
 }
 
-// x at ones, zeros elsewhere. In one pass: a fill of zeros first would write each place twice. Apart from `expand_line`, which takes the next element of R at
-// each one: a function of both would count the elements of a scalar, too.
+// x at ones, zeros elsewhere. In one loop: with a fill of zeros first there would be the same loop after it. Apart from `expand_line`, which takes the next
+// element of R at each one: a function of both would count the elements of a scalar, too.
 pub fn spread(x: i32, l: &[i32], out: &mut [i32])
     requires { length l.now ≤ length out.old }
     ensures { out.new ≡ filled (λ i. cond (one_at l.now i) x (pos 0)) (length l.now) out.old }
