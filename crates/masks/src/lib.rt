@@ -136,7 +136,9 @@ fn mask_fits<const EXPANDS: bool>(repeated: bool, l: &[i32], n: usize) -> bool
 }
 
 // A loop that no element ends, so that it is compiled to tests of many elements, as `copying::all_below` is (by `all` eight times as long); the proof of a
-// `fold` did not close.
+// `fold` did not close. A function of its own, whose loop the compiler lines up: as a part of its caller, where that put the loop's jump across 32 bytes,
+// expand by 1000 ones took 1.2 times as long.
+#[inline(never)]
 fn all_bits(l: &[i32]) -> bool
     ensures { result ≡ every is_bit l.now }
 {
@@ -150,6 +152,8 @@ fn all_bits(l: &[i32]) -> bool
 }
 
 // A loop, which is compiled to tests of many elements: by `filter` and `count` compress of 16384 took 1.8 to 4.2 times as long, and expand 2.0 to 3.0.
+// A function of its own, as `all_bits`.
+#[inline(never)]
 fn count_ones(l: &[i32]) -> usize
     ensures { result ≡ length (ones l.now) }
 {
@@ -245,7 +249,9 @@ fn in_blocks<const EXPANDS: bool>(l: &[i32], b: AxisBlocks, r: &[i32], out: &mut
     }
 }
 
-// The blocks by noted ones: to gather the rows takes 0.92 to 1.08 of the time that a loop for them in this crate took.
+// The blocks by noted ones: to gather the rows takes 0.36 to 1.08 of the time that a loop for them in this crate took. A function of its own: as a part of
+// its caller, with fewer registers, compress of lines of 4 to 64 took 1.2 to 1.6 times as long, and expand of lines of 4 and 5 1.4 to 1.7.
+#[inline(never)]
 fn noted_blocks<const EXPANDS: bool>(l: &[i32], b: AxisBlocks, r: &[i32], out: &mut [i32])
     requires { InBlocks EXPANDS l.now b (length r.now) (length out.old) × NotesPay EXPANDS (length l.now) b.taken }
     ensures { out.new ≡ placed_in EXPANDS l.now b r.now out.old }
