@@ -373,7 +373,8 @@ impl Sheet {
         if self.begun.is_empty() {
             return Ok(());
         }
-        self.answers.end_line(sink, self.begun.bytes())?;
+        let last = self.begun.bytes();
+        self.answers.end_line(sink, last)?;
         self.answers.write(sink)
     }
 }

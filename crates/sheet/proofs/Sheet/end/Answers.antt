@@ -11,4 +11,4 @@ pub returns-clause-short : goal.returns-clause-short
 returns-clause-short g c =
     let ended = c.in_ok-end_line.ensures in
     IfErr-weaker c.write.result _ _
-    (λ s short bytes o. cut_at_end bytes (rw c.requires at (ended.sent bytes (rw c.bytes.ensures o))) (rw ended.line at short)) c.write.ensures.short
+    (λ s short bytes o. cut_at_end bytes (rw c.requires at (ended.sent bytes (rw c.bytes-last.ensures o))) (rw ended.line at short)) c.write.ensures.short
