@@ -10,7 +10,7 @@ use std::marker::Model;
 // What is left of a line, seen as the numbers there. After a blank a number must follow; after the last number nothing is left.
 #[derive(Drop)]
 pub struct Reader<'a> {
-    rest: Option<&'a [u8]>,
+    pub rest: Option<&'a [u8]>,
 }
 
 impl<'a> Model for Reader<'a> {
@@ -113,6 +113,10 @@ impl<'a> Reader<'a> {
         ensures { Takes next_number self.old self.new result }
     {
         let (b, rest) = self.rest?.split_first()?;
+        // A 0 needs no value as a digit: by `from_digit` a line of zeros takes 1.28 of the instructions.
+        if *b == b'0' {
+            return self.after_zero(rest);
+        }
         if *b != b'-' {
             return self.from_digit(false, *b, rest);
         }

@@ -13,4 +13,4 @@ loop-z-preserved c =
 pub returns : goal.returns
 returns c =
     let all : length c.loop-z.out ≤ length c.args.out.now = omega arith in
-    rw (take_all _ c.loop-z.out all) at (so-far-all c.loop-z.invariant (omega arith))
+    rw (take_all _ c.loop-z.out all, ← c.reader.view_is) at (so-far-all c.loop-z.invariant (omega arith))
