@@ -91,7 +91,9 @@ impl<'a> Reader<'a> {
         Some(n)
     }
 
-    // A number from its first digit on, whose byte is b.
+    // A number from its first digit on, whose byte is b. Inlined: where its code ends is where `operand` begins, and 16 bytes further the loop's jumps end
+    // on borders of 32 bytes, so that a line of zeros takes 1.6 times as long.
+    #[inline(always)]
     fn from_digit(&mut self, negative: bool, b: u8, rest: &'a [u8]) -> Option<i32>
         ensures { and_then (and_then (first negative b) (λ t. scan t rest.now)) next_number ≡ with_rest self.new result }
     {
