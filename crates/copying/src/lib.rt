@@ -69,21 +69,22 @@ fn copy_each<T: Copy, const BACK: bool>(src: &[T], out: &mut [T])
     }
 }
 
-// Four elements, all read before any is written, so that they are moved as one. By an array and copy_from_slice they went one by one: rows of 10 and
-// more took up to 2.3 times as long.
-fn move_4<T: Copy, const BACK: bool>(src: &[T], out: &mut [T], i: usize)
-    requires { (i + 4 ≤ length src.now) × (i + 4 ≤ length out.old) }
-    ensures { out.new ≡ take i out.old ++ take 4 (drop i (ordered BACK src.now)) ++ drop (i + 4) out.old }
+// Four elements from i + k on, all read before any is written, so that they are moved as one. By an array and copy_from_slice they went one by one: rows of
+// 10 and more took up to 2.3 times as long. k comes beside i, a constant at each call: with i + 4 for i a reversal's second four are looked for anew, and a
+// reversed vector takes 1.25 times as long.
+fn move_4<T: Copy, const BACK: bool>(src: &[T], out: &mut [T], i: usize, k: usize)
+    requires { (i + k + 4 ≤ length src.now) × (i + k + 4 ≤ length out.old) }
+    ensures { out.new ≡ take (i + k) out.old ++ take 4 (drop (i + k) (ordered BACK src.now)) ++ drop (i + k + 4) out.old }
 {
     let n = src.len();
-    let a0 = src[place::<BACK>(n, i, 0)];
-    let a1 = src[place::<BACK>(n, i, 1)];
-    let a2 = src[place::<BACK>(n, i, 2)];
-    let a3 = src[place::<BACK>(n, i, 3)];
-    out[i] = a0;
-    out[i + 1] = a1;
-    out[i + 2] = a2;
-    out[i + 3] = a3;
+    let a0 = src[place::<BACK>(n, i, k)];
+    let a1 = src[place::<BACK>(n, i, k + 1)];
+    let a2 = src[place::<BACK>(n, i, k + 2)];
+    let a3 = src[place::<BACK>(n, i, k + 3)];
+    out[i + k] = a0;
+    out[i + k + 1] = a1;
+    out[i + k + 2] = a2;
+    out[i + k + 3] = a3;
 }
 
 // Eight at a time, while more than that are left: how many are copied. By a `for` over the eights select took up to twice as long. That the run fits
@@ -95,8 +96,8 @@ fn copy_eights<T: Copy, const BACK: bool>(src: &[T], out: &mut [T]) -> usize
 {
     let mut done = 0;
     while 8 < src.len() - done {
-        move_4::<T, BACK>(src, out, done);
-        move_4::<T, BACK>(src, out, done + 4);
+        move_4::<T, BACK>(src, out, done, 0);
+        move_4::<T, BACK>(src, out, done, 4);
         done += 8;
     }
     done
@@ -109,9 +110,9 @@ fn copy_last<T: Copy, const BACK: bool>(src: &[T], out: &mut [T], done: usize)
 {
     let last = src.len() - 4;
     if done < last {
-        move_4::<T, BACK>(src, out, done);
+        move_4::<T, BACK>(src, out, done, 0);
     }
-    move_4::<T, BACK>(src, out, last);
+    move_4::<T, BACK>(src, out, last, 0);
 }
 
 // Four elements or more by moves of four: no test whether the buffers overlap, and no loop over what is left of eight. By one loop for every
