@@ -19,7 +19,8 @@ returns g c out₀ e =
     let all : take n s ≡ s = take_all n s (omega (arith, long)) in
     let over : (m : ℕ) → m ≤ n → n ≤ m + 4 → c.if-done-last.out ≡ take m s ++ drop m out₀ → c.move_4-2.new.out ≡ s ++ drop n out₀ =
     λ m h k q.
-    rw (end, all) at (front-over s c.if-done-last.out out₀ m (omega (arith, long)) q (n - 4) 4 _ (omega arith) (omega arith) (rw (add-zero (n - 4)) at c.move_4-2.ensures)) in
+    let moved = rw (add-zero (n - 4)) at c.move_4-2.ensures in
+    rw (end, all) at (front-over s c.if-done-last.out out₀ m (omega (arith, long)) q (n - 4) 4 _ (omega arith) (omega arith) moved) in
     let more = front-more s c.args.out.now out₀ done (omega (arith, long)) e 4 in
     elim c.if-done-last.branch [
       | then-done-last w ↦ over (done + 4) (omega arith) (omega arith) (w.out-is ∙ more _ (rw (add-zero done) at w.move_4.ensures))
